@@ -1,0 +1,7 @@
+pub mod Last
+pub mod Every
+pub mod Within
+pub mod Totals
+pub mod Accessed
+pub mod Steps
+mod WorkedRun
