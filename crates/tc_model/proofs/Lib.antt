@@ -1,3 +1,14 @@
+mod Numbered
+mod Logins
+mod Binding
+mod Endpoints
+mod Apart
+mod Alikeness
+mod Ahead
+pub mod Isolation
+pub mod Untouched
+pub mod Replayed
+pub mod Ordered
 pub mod Last
 pub mod Every
 pub mod Within

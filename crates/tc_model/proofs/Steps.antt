@@ -1,11 +1,10 @@
 -- What settles one item at a time.
-use Rattle.std.specs.Prelude.{nat_lt, reverse, sum_by, filter, map, not, ◌==◌, ◌&&◌}
+use Rattle.std.specs.Prelude.{nat_lt, reverse, sum_by, ◌&&◌}
 use Rattle.std.specs.List.{list_all}
 use mathlib.Core.List.{reverse_aux}
 use Rattle.std.proofs.Common.{◌≡◌, ℕ, zero, suc, ◌+◌, ◌-◌, ◌<◌, ◌≤◌, Bool, true, false, cond, List, [], ◌∷◌, ◌++◌, length, take, refl, sym, ◌∙◌, ap, arith, append_assoc, length-append}
-use Rattle.std.proofs.lemmas.Bool.Decides.{nat_tests}
 use Rattle.std.proofs.lemmas.Bool.{le-ltb}
-use Rattle.std.proofs.lemmas.List.Sums.{sum_by-cons, sum_by-append, sum_by_push}
+use Rattle.std.proofs.lemmas.List.Sums.{sum_by-cons, sum_by_push}
 use Rattle.tc_model.specs.Areas.{Areas, Limits, Settled, fitting, beyond, shortest, demoted, trimmed, victims, admitted, all_admitted, and_then, entered, narrowed, without_last, from_tail, main_weight, settle}
 use Rattle.tc_model.proofs.Last.{fitting_last, beyond_last, shortest_more, fitting_all}
 
@@ -20,11 +19,11 @@ module _ {A : Type 0} where
   -- rule 1: the last of protected goes to the front of probation
   pub settle_demotes : (weigh freq : A → ℕ) (l : Limits) (w p q : List A) (y : A) → l.protected < sum_by weigh (q ++ y ∷ []) → settle weigh freq l (areas_by w p (q ++ y ∷ [])) ≡ settle weigh freq l (areas_by w (y ∷ p) q)
   settle_demotes weigh freq l w p q y h =
-    let same : demoted weigh l (areas_by w p (q ++ y ∷ [])) ≡ demoted weigh l (areas_by w (y ∷ p) q) =
+      let same : demoted weigh l (areas_by w p (q ++ y ∷ [])) ≡ demoted weigh l (areas_by w (y ∷ p) q) =
       ap (λ t. areas_by w (t ++ p) (fitting weigh l.protected (q ++ y ∷ []))) (beyond_last weigh l.protected q y h)
-        ∙ ap (λ t. areas_by w t (fitting weigh l.protected (q ++ y ∷ []))) (append_assoc (beyond weigh l.protected q) (y ∷ []) p)
-        ∙ ap (λ t. areas_by w (beyond weigh l.protected q ++ y ∷ p) t) (fitting_last weigh l.protected q y h) in
-    ap (λ z. let s = trimmed weigh l z in and_then s.dropped (all_admitted weigh freq l (narrowed (fitting weigh l.window w) s.areas) (reverse (beyond weigh l.window w)))) same
+      ∙ ap (λ t. areas_by w t (fitting weigh l.protected (q ++ y ∷ []))) (append_assoc (beyond weigh l.protected q) (y ∷ []) p)
+      ∙ ap (λ t. areas_by w (beyond weigh l.protected q ++ y ∷ p) t) (fitting_last weigh l.protected q y h) in
+      ap (λ z. let s = trimmed weigh l z in and_then s.dropped (all_admitted weigh freq l (narrowed (fitting weigh l.window w) s.areas) (reverse (beyond weigh l.window w)))) same
 
   pub beyond_none : (w : A → ℕ) (room : ℕ) (xs : List A) → sum_by w xs ≤ room → beyond w room xs ≡ []
   beyond_none w room [] h = refl
@@ -66,8 +65,8 @@ module _ {A : Type 0} where
 
   trimmed_none : (weigh : A → ℕ) (l : Limits) (a : Areas A) → main_weight weigh a ≤ l.main → trimmed weigh l a ≡ settled_by a []
   trimmed_none weigh l a h =
-    let no : main_weight weigh a - l.main ≡ 0 = omega arith in
-    ap (λ n. settled_by (without_last (length (shortest weigh n (from_tail a))) a) (shortest weigh n (from_tail a))) no
+      let no : main_weight weigh a - l.main ≡ 0 = omega arith in
+      ap (λ n. settled_by (without_last (length (shortest weigh n (from_tail a))) a) (shortest weigh n (from_tail a))) no
       ∙ ap (λ g. settled_by (without_last (length g) a) g) (none_shortest weigh (from_tail a)) ∙ ap (λ z. settled_by z []) (without_none a)
 
   -- the candidates of areas, once main is as it is
@@ -103,6 +102,7 @@ module _ {A : Type 0} where
     where
       less : (p : List A) (n : ℕ) → length (p ++ v ∷ []) - suc n ≡ length p - n
       less p n = omega (arith, length-append p (v ∷ []))
+
       rest : (p : List A) (n : ℕ) → suc n - length (p ++ v ∷ []) ≡ n - length p
       rest p n = omega (arith, length-append p (v ∷ []))
 
@@ -123,17 +123,17 @@ module _ {A : Type 0} where
 
   trimmed_popped : (weigh : A → ℕ) (l : Limits) (a b : Areas A) (v : A) → Popped weigh a v b → l.main < main_weight weigh a → trimmed weigh l a ≡ and_then (v ∷ []) (trimmed weigh l b)
   trimmed_popped weigh l a b v pop h =
-    let need : 0 < main_weight weigh a - l.main = omega arith in
-    let less : main_weight weigh a - l.main - weigh v ≡ main_weight weigh b - l.main = omega (arith, pop.main) in
-    let gone : shortest weigh (main_weight weigh a - l.main) (from_tail a) ≡ v ∷ shortest weigh (main_weight weigh b - l.main) (from_tail b)
+      let need : 0 < main_weight weigh a - l.main = omega arith in
+      let less : main_weight weigh a - l.main - weigh v ≡ main_weight weigh b - l.main = omega (arith, pop.main) in
+      let gone : shortest weigh (main_weight weigh a - l.main) (from_tail a) ≡ v ∷ shortest weigh (main_weight weigh b - l.main) (from_tail b)
       = shortest_popped weigh (main_weight weigh a - l.main) a b v pop need ∙ ap (λ k. v ∷ shortest weigh k (from_tail b)) less in
-    ap (λ g. settled_by (without_last (length g) a) g) gone ∙ ap (λ z. settled_by z (v ∷ shortest weigh (main_weight weigh b - l.main) (from_tail b))) (pop.last (length (shortest weigh (main_weight weigh b - l.main) (from_tail b))))
+      ap (λ g. settled_by (without_last (length g) a) g) gone ∙ ap (λ z. settled_by z (v ∷ shortest weigh (main_weight weigh b - l.main) (from_tail b))) (pop.last (length (shortest weigh (main_weight weigh b - l.main) (from_tail b))))
 
   -- rule 2: the last of main is dropped
   pub settle_trims : (weigh freq : A → ℕ) (l : Limits) (a b : Areas A) (v : A) → Popped weigh a v b → sum_by weigh a.protected ≤ l.protected → l.main < main_weight weigh a
-    → settle weigh freq l a ≡ and_then (v ∷ []) (settle weigh freq l b)
+      → settle weigh freq l a ≡ and_then (v ∷ []) (settle weigh freq l b)
   settle_trims weigh freq l a b v pop h m =
-    settle_trimmed weigh freq l a h ∙ ap (λ s. candidates_of weigh freq l a.window s) (trimmed_popped weigh l a b v pop m)
+      settle_trimmed weigh freq l a h ∙ ap (λ s. candidates_of weigh freq l a.window s) (trimmed_popped weigh l a b v pop m)
       ∙ ap (λ w. candidates_of weigh freq l w (and_then (v ∷ []) (trimmed weigh l b))) pop.window
       ∙ sym (ap (λ s. and_then (v ∷ []) s) (settle_trimmed weigh freq l b (omega (arith, pop.protected))))
 
@@ -142,51 +142,51 @@ module _ {A : Type 0} where
   first_of weigh freq l w c s = and_then s.dropped (all_admitted weigh freq l s.areas (reverse (beyond weigh l.window w)))
 
   candidate : (weigh freq : A → ℕ) (l : Limits) (w p q : List A) (c : A) → l.window < sum_by weigh (w ++ c ∷ [])
-    → candidates_of weigh freq l (w ++ c ∷ []) (settled_by (areas_by (w ++ c ∷ []) p q) []) ≡ first_of weigh freq l w c (admitted freq c (areas_by (fitting weigh l.window w) p q) (victims weigh l (areas_by (fitting weigh l.window w) p q) c))
+      → candidates_of weigh freq l (w ++ c ∷ []) (settled_by (areas_by (w ++ c ∷ []) p q) []) ≡ first_of weigh freq l w c (admitted freq c (areas_by (fitting weigh l.window w) p q) (victims weigh l (areas_by (fitting weigh l.window w) p q) c))
   candidate weigh freq l w p q c x =
-    ap (λ t. all_admitted weigh freq l (areas_by t p q) (reverse (beyond weigh l.window (w ++ c ∷ [])))) (fitting_last weigh l.window w c x)
+      ap (λ t. all_admitted weigh freq l (areas_by t p q) (reverse (beyond weigh l.window (w ++ c ∷ [])))) (fitting_last weigh l.window w c x)
       ∙ ap (λ t. all_admitted weigh freq l (areas_by (fitting weigh l.window w) p q) (reverse t)) (beyond_last weigh l.window w c x)
       ∙ ap (λ t. all_admitted weigh freq l (areas_by (fitting weigh l.window w) p q) t) (reverse_last (beyond weigh l.window w) [] c)
 
   -- rule 3, where main has room: the last of the window enters
   pub settle_enters : (weigh freq : A → ℕ) (l : Limits) (w p q : List A) (c : A) → sum_by weigh q ≤ l.protected → main_weight weigh (areas_by w p q) + weigh c ≤ l.main → l.window < sum_by weigh (w ++ c ∷ [])
-    → settle weigh freq l (areas_by (w ++ c ∷ []) p q) ≡ settle weigh freq l (areas_by w (c ∷ p) q)
+      → settle weigh freq l (areas_by (w ++ c ∷ []) p q) ≡ settle weigh freq l (areas_by w (c ∷ p) q)
   settle_enters weigh freq l w p q c h m x =
-    let window : List A = fitting weigh l.window w in
-    let none : main_weight weigh (areas_by window p q) + weigh c - l.main ≡ 0 = omega arith in
-    let no : victims weigh l (areas_by window p q) c ≡ [] = ap (λ n. shortest weigh n (from_tail (areas_by window p q))) none ∙ none_shortest weigh (from_tail (areas_by window p q)) in
-    settle_main weigh freq l (areas_by (w ++ c ∷ []) p q) h (omega arith) ∙ candidate weigh freq l w p q c x
+      let window : List A = fitting weigh l.window w in
+      let none : main_weight weigh (areas_by window p q) + weigh c - l.main ≡ 0 = omega arith in
+      let no : victims weigh l (areas_by window p q) c ≡ [] = ap (λ n. shortest weigh n (from_tail (areas_by window p q))) none ∙ none_shortest weigh (from_tail (areas_by window p q)) in
+      settle_main weigh freq l (areas_by (w ++ c ∷ []) p q) h (omega arith) ∙ candidate weigh freq l w p q c x
       ∙ ap (λ vs. first_of weigh freq l w c (admitted freq c (areas_by window p q) vs)) no
       ∙ ap (λ z. all_admitted weigh freq l (entered c z) (reverse (beyond weigh l.window w))) (without_none (areas_by window p q))
       ∙ sym (settle_main weigh freq l (areas_by w (c ∷ p) q) h (omega (arith, sum_by-cons weigh c p)))
 
   -- rule 3, where it is refused
   pub settle_refuses : (weigh freq : A → ℕ) (l : Limits) (w p q : List A) (c : A) → sum_by weigh q ≤ l.protected → main_weight weigh (areas_by w p q) ≤ l.main → l.window < sum_by weigh (w ++ c ∷ [])
-    → list_all (λ v. nat_lt (freq v) (freq c)) (victims weigh l (areas_by w p q) c) ≡ false
-    → settle weigh freq l (areas_by (w ++ c ∷ []) p q) ≡ and_then (c ∷ []) (settle weigh freq l (areas_by w p q))
+      → list_all (λ v. nat_lt (freq v) (freq c)) (victims weigh l (areas_by w p q) c) ≡ false
+      → settle weigh freq l (areas_by (w ++ c ∷ []) p q) ≡ and_then (c ∷ []) (settle weigh freq l (areas_by w p q))
   settle_refuses weigh freq l w p q c h m x lost =
-    let window : List A = fitting weigh l.window w in
-    settle_main weigh freq l (areas_by (w ++ c ∷ []) p q) h m ∙ candidate weigh freq l w p q c x
+      let window : List A = fitting weigh l.window w in
+      settle_main weigh freq l (areas_by (w ++ c ∷ []) p q) h m ∙ candidate weigh freq l w p q c x
       ∙ ap (λ b. first_of weigh freq l w c (cond b (settled_by (entered c (without_last (length (victims weigh l (areas_by window p q) c)) (areas_by window p q))) (victims weigh l (areas_by window p q) c)) (settled_by (areas_by window p q) (c ∷ [])))) lost
       ∙ sym (ap (λ s. and_then (c ∷ []) s) (settle_main weigh freq l (areas_by w p q) h m))
 
   -- rule 3, where it enters over victims: the first of them is dropped
   pub settle_yields : (weigh freq : A → ℕ) (l : Limits) (w p q p' q' : List A) (c v : A) → Popped weigh (areas_by w p q) v (areas_by w p' q') → Popped weigh (areas_by (fitting weigh l.window w) p q) v (areas_by (fitting weigh l.window w) p' q')
-    → sum_by weigh q ≤ l.protected → main_weight weigh (areas_by w p q) ≤ l.main → l.main < main_weight weigh (areas_by w p q) + weigh c → l.window < sum_by weigh (w ++ c ∷ [])
-    → list_all (λ v. nat_lt (freq v) (freq c)) (victims weigh l (areas_by w p q) c) ≡ true
-    → settle weigh freq l (areas_by (w ++ c ∷ []) p q) ≡ and_then (v ∷ []) (settle weigh freq l (areas_by (w ++ c ∷ []) p' q'))
+      → sum_by weigh q ≤ l.protected → main_weight weigh (areas_by w p q) ≤ l.main → l.main < main_weight weigh (areas_by w p q) + weigh c → l.window < sum_by weigh (w ++ c ∷ [])
+      → list_all (λ v. nat_lt (freq v) (freq c)) (victims weigh l (areas_by w p q) c) ≡ true
+      → settle weigh freq l (areas_by (w ++ c ∷ []) p q) ≡ and_then (v ∷ []) (settle weigh freq l (areas_by (w ++ c ∷ []) p' q'))
   settle_yields weigh freq l w p q p' q' c v out pop h m big x won =
-    let window : List A = fitting weigh l.window w in
-    let a : Areas A = areas_by window p q in
-    let b : Areas A = areas_by window p' q' in
-    let vs : List A = victims weigh l b c in
-    let less : main_weight weigh a + weigh c - l.main - weigh v ≡ main_weight weigh b + weigh c - l.main = omega (arith, pop.main) in
-    let all : victims weigh l a c ≡ v ∷ vs = shortest_popped weigh (main_weight weigh a + weigh c - l.main) a b v pop (omega arith) ∙ ap (λ k. v ∷ shortest weigh k (from_tail b)) less in
-    let both = and_parts (nat_lt (freq v) (freq c)) (list_all (λ v. nat_lt (freq v) (freq c)) vs) (sym (ap (λ vs. list_all (λ v. nat_lt (freq v) (freq c)) vs) all) ∙ won) in
-    let one : admitted freq c a (v ∷ vs) ≡ and_then (v ∷ []) (admitted freq c b vs) =
+      let window : List A = fitting weigh l.window w in
+      let a : Areas A = areas_by window p q in
+      let b : Areas A = areas_by window p' q' in
+      let vs : List A = victims weigh l b c in
+      let less : main_weight weigh a + weigh c - l.main - weigh v ≡ main_weight weigh b + weigh c - l.main = omega (arith, pop.main) in
+      let all : victims weigh l a c ≡ v ∷ vs = shortest_popped weigh (main_weight weigh a + weigh c - l.main) a b v pop (omega arith) ∙ ap (λ k. v ∷ shortest weigh k (from_tail b)) less in
+      let both = and_parts (nat_lt (freq v) (freq c)) (list_all (λ v. nat_lt (freq v) (freq c)) vs) (sym (ap (λ vs. list_all (λ v. nat_lt (freq v) (freq c)) vs) all) ∙ won) in
+      let one : admitted freq c a (v ∷ vs) ≡ and_then (v ∷ []) (admitted freq c b vs) =
       ap (λ b. cond b (settled_by (entered c (without_last (suc (length vs)) a)) (v ∷ vs)) (settled_by a (c ∷ []))) (ap (λ b. b && list_all (λ v. nat_lt (freq v) (freq c)) vs) both.0 ∙ both.1)
-        ∙ ap (λ z. settled_by (entered c z) (v ∷ vs)) (pop.last (length vs))
-        ∙ sym (ap (λ t. and_then (v ∷ []) (cond t (settled_by (entered c (without_last (length vs) b)) vs) (settled_by b (c ∷ [])))) both.1) in
-    settle_main weigh freq l (areas_by (w ++ c ∷ []) p q) h m ∙ candidate weigh freq l w p q c x
+      ∙ ap (λ z. settled_by (entered c z) (v ∷ vs)) (pop.last (length vs))
+      ∙ sym (ap (λ t. and_then (v ∷ []) (cond t (settled_by (entered c (without_last (length vs) b)) vs) (settled_by b (c ∷ [])))) both.1) in
+      settle_main weigh freq l (areas_by (w ++ c ∷ []) p q) h m ∙ candidate weigh freq l w p q c x
       ∙ ap (λ vs. first_of weigh freq l w c (admitted freq c a vs)) all ∙ ap (λ s. first_of weigh freq l w c s) one
       ∙ sym (ap (λ s. and_then (v ∷ []) s) (settle_main weigh freq l (areas_by (w ++ c ∷ []) p' q') (omega (arith, out.protected)) (omega (arith, out.main)) ∙ candidate weigh freq l w p' q' c x))
