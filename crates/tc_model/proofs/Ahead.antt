@@ -7,9 +7,9 @@ use Rattle.tc_model.specs.Server.{Machine, Step, On, Tick, Maintain, is_bound_to
 use Rattle.tc_model.proofs.Binding.{StaysBound, stays_bound-step, bound, over}
 use Rattle.tc_model.proofs.Alikeness.{is_shut, IsAhead}
 
-pub binds_from-now : (M : Machine) (rows : List M.protocol.Row) (u c : ℕ) (f : Option (Endpoint M.protocol)) (xs : List Step) → is_users M.protocol u f ≡ true → binds_from M.protocol rows u c f xs ≡ true
-binds_from-now M rows u c f [] e = e
-binds_from-now M rows u c f (x ∷ xs) e = rw e
+pub binds_from-at_once : (M : Machine) (rows : List M.protocol.Row) (u c : ℕ) (f : Option (Endpoint M.protocol)) (xs : List Step) → is_users M.protocol u f ≡ true → binds_from M.protocol rows u c f xs ≡ true
+binds_from-at_once M rows u c f [] e = e
+binds_from-at_once M rows u c f (x ∷ xs) e = rw e
 
 pub stays_bound-of_user : (M : Machine) (u : ℕ) (f : Option (Endpoint M.protocol)) → is_users M.protocol u f ≡ true → StaysBound M u f
 stays_bound-of_user M u None e = absurd (false≢true e)
@@ -22,7 +22,7 @@ stays_bound-of_user M u (Some f) e = go f.phase f.reader e
 
 pub ahead-stays_bound : (M : Machine) (rows : List M.protocol.Row) (u c : ℕ) (f : Option (Endpoint M.protocol)) (xs : List Step) → StaysBound M u f → IsAhead M rows u c f xs
 unfolding is_shut
-ahead-stays_bound M rows u c f xs (bound r) = inr (binds_from-now M rows u c _ xs (eq-eqb u u refl))
+ahead-stays_bound M rows u c f xs (bound r) = inr (binds_from-at_once M rows u c _ xs (eq-eqb u u refl))
 ahead-stays_bound M rows u c f xs (over r) = inl refl
 
 pub shut-after : (M : Machine) (rows : List M.protocol.Row) (x : Happening) (f : Option (Endpoint M.protocol)) → is_shut f ≡ true → is_shut (endpoint_after M.protocol rows x f) ≡ true

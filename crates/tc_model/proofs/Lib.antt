@@ -15,4 +15,5 @@ pub mod Within
 pub mod Totals
 pub mod Accessed
 pub mod Steps
+pub mod FirstPlace
 mod WorkedRun

@@ -20,7 +20,8 @@ IsUntouched M =
 -- users with one row, and the same steps, are sent the same, whoever else there is
 abbrev pub IsIndifferent : Machine → Type 0
 IsIndifferent M =
-    (rows others : List M.protocol.Row) (xs ys : List Step) (user other : ℕ) (row : M.protocol.Row) → user_at rows user ≡ Some row → user_at others other ≡ Some row
+    (rows others : List M.protocol.Row) (xs ys : List Step) (user other : ℕ) (row : M.protocol.Row)
+    → user_at rows user ≡ Some row → user_at others other ≡ Some row
     → kept_steps M.protocol rows xs user ≡ kept_steps M.protocol others ys other
     → (c : ℕ) → binds M.protocol rows xs user c ≡ true → binds M.protocol others ys other c ≡ true
     → sent M (run M rows xs) c ≡ sent M (run M others ys) c

@@ -54,11 +54,13 @@ abbrev pub said_effect : (M : Machine) → List M.cache.State → Endpoint M.pro
 said_effect M caches e out = record { caches = caches; connection = Some (record { endpoint = e; out = out }) }
 
 -- the user's cache after a command, and its outcome written behind these bytes
-abbrev pub answer_effect : (M : Machine) → List M.cache.State → ℕ → M.Command → Endpoint M.protocol → List ℕ → M.Outcome × M.cache.State → Effect M
+abbrev pub answer_effect :
+    (M : Machine) → List M.cache.State → ℕ → M.Command → Endpoint M.protocol → List ℕ → M.Outcome × M.cache.State → Effect M
 answer_effect M caches user command e out r = said_effect M (with_user caches user r.1) e (out ++ M.protocol.render command r.0)
 
 -- a call of a user's cache at the clock; nothing where there is no such user
-abbrev pub call_effect : (M : Machine) → ℕ → List M.cache.State → ℕ → M.Command → Endpoint M.protocol → List ℕ → Option M.cache.State → Effect M
+abbrev pub call_effect :
+    (M : Machine) → ℕ → List M.cache.State → ℕ → M.Command → Endpoint M.protocol → List ℕ → Option M.cache.State → Effect M
 call_effect M clock caches user command e out None = said_effect M caches e out
 call_effect M clock caches user command e out (Some k) = answer_effect M caches user command e out (M.cache.act k clock command)
 
@@ -66,7 +68,8 @@ call_effect M clock caches user command e out (Some k) = answer_effect M caches 
 abbrev pub want_effect : (M : Machine) → ℕ → List M.cache.State → List ℕ → Endpoint M.protocol → List ℕ → Want M.Command → Effect M
 want_effect M clock caches out e said Nothing = said_effect M caches e (out ++ said)
 want_effect M clock caches out e said Said = said_effect M caches e (out ++ said)
-want_effect M clock caches out e said (Call user command) = call_effect M clock caches user command e (out ++ said) (user_at caches user)
+want_effect M clock caches out e said (Call user command) =
+    call_effect M clock caches user command e (out ++ said) (user_at caches user)
 want_effect M clock caches out e said Close = said_effect M caches e (out ++ said)
 
 -- a request, done
@@ -146,7 +149,8 @@ is_users P user None = false
 is_users P user (Some e) = is_bound_to user e.phase
 
 -- what a connection is after any step, of which its own alone count
-abbrev pub endpoint_after_step : {C O : Type 0} (P : Protocol C O) → List P.Row → ℕ → Option (Endpoint P) → Step → Option (Endpoint P)
+abbrev pub endpoint_after_step :
+    {C O : Type 0} (P : Protocol C O) → List P.Row → ℕ → Option (Endpoint P) → Step → Option (Endpoint P)
 endpoint_after_step P rows c e (On d x) = cond (d == c) (endpoint_after P rows x e) e
 endpoint_after_step P rows c e (Tick m) = e
 endpoint_after_step P rows c e (Maintain user limit) = e
@@ -189,7 +193,8 @@ want_event M clock caches (Call user command) = call_event M clock command (user
 want_event M clock caches Close = []
 
 -- by what comes to the connection
-abbrev pub happening_event : (M : Machine) → List M.protocol.Row → ℕ → List M.cache.State → Happening → Option (Connection M) → List (Event M.Command M.Outcome)
+abbrev pub happening_event :
+    (M : Machine) → List M.protocol.Row → ℕ → List M.cache.State → Happening → Option (Connection M) → List (Event M.Command M.Outcome)
 happening_event M rows clock caches x None = []
 happening_event M rows clock caches Open (Some q) = []
 happening_event M rows clock caches (Piece bytes) (Some q) = []

@@ -10,11 +10,15 @@ pub record IsWithin {A : Type 0} (weigh : A → ℕ) (limits : Limits) (a : Area
 
 -- settle brings each area within its limit, where no candidate is heavier than main may be
 abbrev pub SettlesWithin : Type 1
-SettlesWithin = (A : Type 0) (weigh freq : A → ℕ) (limits : Limits) (a : Areas A) → All (λ x. weigh x ≤ limits.main) a.window → IsWithin weigh limits (settle weigh freq limits a).areas
+SettlesWithin =
+    (A : Type 0) (weigh freq : A → ℕ) (limits : Limits) (a : Areas A)
+    → All (λ x. weigh x ≤ limits.main) a.window → IsWithin weigh limits (settle weigh freq limits a).areas
 
 -- within their limits, areas stay as they are and nothing is dropped
 abbrev pub SettlesOnce : Type 1
-SettlesOnce = (A : Type 0) (weigh freq : A → ℕ) (limits : Limits) (a : Areas A) → IsWithin weigh limits a → settle weigh freq limits a ≡ record { areas = a; dropped = [] }
+SettlesOnce =
+    (A : Type 0) (weigh freq : A → ℕ) (limits : Limits) (a : Areas A)
+    → IsWithin weigh limits a → settle weigh freq limits a ≡ record { areas = a; dropped = [] }
 
 -- what is accessed and held already leaves areas within their limits, so that settling then drops nothing
 abbrev pub AccessDropsNothing : Type 1
