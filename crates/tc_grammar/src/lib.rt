@@ -1,0 +1,26 @@
+//! What a command line spells: the whole table of lines.
+//!
+//! `parse_line` meets `reading` (`specs/Reading.antt`), a function of the line's tokens: so each
+//! line spells exactly one thing, a command, a head that needs a block, or a fault. Tokens are
+//! parted by spaces; a line is handed in without its end. Callers see commands and heads as plain
+//! data over keys, lists of keys and blobs. All faults of the server, their numbers and their
+//! texts stand in `fault.rt` alone. No clause speaks of time.
+#![tactic(auto)]
+
+mod command;
+mod ending;
+mod fault;
+mod keyed;
+mod line;
+mod number;
+mod parse;
+mod retrieval;
+mod storage_line;
+mod tokens;
+mod unkeyed;
+mod verb;
+
+pub use command::{Command, Form, Head, StoreKind, Way};
+pub use fault::Fault;
+pub use line::Line;
+pub use parse::parse_line;
