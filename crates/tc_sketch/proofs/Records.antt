@@ -1,27 +1,43 @@
 -- A record on the four rows, and the counting law.
 use Rattle.std.specs.Prelude.{◌==◌, All, count_by}
-use Rattle.std.proofs.Common.{◌≡◌, ◌≢◌, ℕ, ◌+◌, ◌*◌, ◌/◌, ◌^◌, ◌<◌, ◌≤◌, min, Bool, true, false, cond, List, [], ◌∷◌, length, get_or, refl, ap, ◌∙◌, arith, inl, inr, get_or-set_same, get_or-set_other}
+use Rattle.std.proofs.Common.{◌≡◌, ◌≢◌, ℕ, ◌+◌, ◌*◌, ◌/◌, ◌^◌, ◌<◌, ◌≤◌, min, Bool, true, false, cond, List, [], ◌∷◌, length, get_or, replicate, refl, ap, ◌∙◌, arith, inl, inr, get_or-set_same, get_or-set_other}
 use Rattle.std.proofs.lemmas.Bool.{cases_eq, cases_lt}
 use Rattle.std.proofs.lemmas.Bool.Decides.{nat_tests}
-use Rattle.std.proofs.lemmas.List.{get_or_past}
+use Rattle.std.proofs.lemmas.List.{get_or_past, get_or_default, length-map, length-replicate}
+use Rattle.std.proofs.lemmas.List.Elements.{All-map, All-replicate}
 use Rattle.std.proofs.lemmas.List.Sums.{sum_by-cons}
-use Rattle.tc_sketch.specs.Sketch.{Sketch, place0, place1, place2, place3, raised, halved, aged, recorded}
-use Rattle.tc_sketch.specs.Counting.{recorded_all, CountsFrom, CountsRecords}
+use Rattle.tc_sketch.specs.Sketch.{Sketch, empty_sketch, place0, place1, place2, place3, raised, halved, aged, recorded}
+use Rattle.tc_sketch.specs.Counting.{IsSketch, recorded_all, CountsFrom, CountsRecords}
 use Rattle.tc_sketch.proofs.Packed.{raised-below, raised-full, length-raised}
 
--- a record that brings the count to less than the limit, row by row
-pub recorded-young : (s : Sketch) (h : ℕ) (row0 row1 row2 row3 : List ℕ) → row0 ≡ raised s.row0 (place0 s h) → row1 ≡ raised s.row1 (place1 s h) → row2 ≡ raised s.row2 (place2 s h) → row3 ≡ raised s.row3 (place3 s h) → s.count + 1 ≢ 10 * 2 ^ s.width → recorded s h ≡ record s { row0 = row0; row1 = row1; row2 = row2; row3 = row3; count = s.count + 1 }
-unfolding recorded aged
-recorded-young s h row0 row1 row2 row3 e0 e1 e2 e3 young =
-    let t : (s.count + 1 == 10 * 2 ^ s.width) ≡ false = grind (arith, nat_tests) in
-    rw (e0, e1, e2, e3, t) refl
+-- the rows in which the four places of a hash are raised
+pub record RaisedRows (s : Sketch) (h : ℕ) (row0 row1 row2 row3 : List ℕ) : Type 0 where
+  pub first : row0 ≡ raised s.row0 (place0 s h)
+  pub second : row1 ≡ raised s.row1 (place1 s h)
+  pub third : row2 ≡ raised s.row2 (place2 s h)
+  pub fourth : row3 ≡ raised s.row3 (place3 s h)
 
--- a record that brings the count to the limit
-pub recorded-old : (s : Sketch) (h : ℕ) (row0 row1 row2 row3 : List ℕ) → row0 ≡ raised s.row0 (place0 s h) → row1 ≡ raised s.row1 (place1 s h) → row2 ≡ raised s.row2 (place2 s h) → row3 ≡ raised s.row3 (place3 s h) → s.count + 1 ≡ 10 * 2 ^ s.width → recorded s h ≡ record s { row0 = halved row0; row1 = halved row1; row2 = halved row2; row3 = halved row3; count = (s.count + 1) / 2 }
+pub raised_rows : (s : Sketch) (h : ℕ) {row0 row1 row2 row3 : List ℕ} {p0 p1 p2 p3 : ℕ} → row0 ≡ raised s.row0 p0 → p0 ≡ place0 s h → row1 ≡ raised s.row1 p1 → p1 ≡ place1 s h → row2 ≡ raised s.row2 p2 → p2 ≡ place2 s h → row3 ≡ raised s.row3 p3 → p3 ≡ place3 s h → RaisedRows s h row0 row1 row2 row3
+raised_rows s h e0 f0 e1 f1 e2 f2 e3 f3 = record {
+  first = e0 ∙ ap (raised s.row0) f0;
+  second = e1 ∙ ap (raised s.row1) f1;
+  third = e2 ∙ ap (raised s.row2) f2;
+  fourth = e3 ∙ ap (raised s.row3) f3;
+}
+
+-- a record that brings the count to less than the limit, row by row
+pub recorded-young : (s : Sketch) (h : ℕ) {row0 row1 row2 row3 : List ℕ} → RaisedRows s h row0 row1 row2 row3 → s.count + 1 ≢ 10 * 2 ^ s.width → record s { row0 = row0; row1 = row1; row2 = row2; row3 = row3; count = s.count + 1 } ≡ recorded s h
 unfolding recorded aged
-recorded-old s h row0 row1 row2 row3 e0 e1 e2 e3 old =
+recorded-young s h rows young =
+    let t : (s.count + 1 == 10 * 2 ^ s.width) ≡ false = grind (arith, nat_tests) in
+    rw (rows.first, rows.second, rows.third, rows.fourth, t) refl
+
+-- a record that brings the count to the limit, and halves each row
+pub recorded-old : (s : Sketch) (h : ℕ) {row0 row1 row2 row3 half0 half1 half2 half3 : List ℕ} → RaisedRows s h row0 row1 row2 row3 → half0 ≡ halved row0 → half1 ≡ halved row1 → half2 ≡ halved row2 → half3 ≡ halved row3 → s.count + 1 ≡ 10 * 2 ^ s.width → record s { row0 = half0; row1 = half1; row2 = half2; row3 = half3; count = (s.count + 1) / 2 } ≡ recorded s h
+unfolding recorded aged
+recorded-old s h rows h0 h1 h2 h3 old =
     let t : (s.count + 1 == 10 * 2 ^ s.width) ≡ true = grind (arith, nat_tests) in
-    rw (e0, e1, e2, e3, t) refl
+    rw (h0, h1, h2, h3, rows.first, rows.second, rows.third, rows.fourth, t) refl
 
 -- no counter of a row is above 15
 abbrev IsSmall : List ℕ → Type 0
@@ -63,6 +79,70 @@ small-raised row at small p = elim (cases_lt p (length row)) [
 count_more : (place : ℕ → ℕ) (p h : ℕ) (since : List ℕ) (b : Bool) → (place h == p) ≡ b → count_by (λ x. place x == p) (h ∷ since) ≡ cond b 1 0 + count_by (λ x. place x == p) since
 count_more place p h since b e = sum_by-cons (λ (x : ℕ). cond (place x == p) 1 0) h since ∙ ap (λ (t : Bool). cond t 1 0 + count_by (λ x. place x == p) since) e
 
+All_from_small : (row : List ℕ) → IsSmall row → All (λ x. x ≤ 15) row
+All_from_small row small k d h = omega (arith, small k, get_or_default row k d 0 h)
+
+All-raised : (row : List ℕ) (at : ℕ) → All (λ x. x ≤ 15) row → All (λ x. x ≤ 15) (raised row at)
+All-raised row at all = All_from_small (raised row at) (small-raised row at (small_from_All row all))
+
+All-halved : (row : List ℕ) → All (λ x. x ≤ 15) row → All (λ x. x ≤ 15) (halved row)
+All-halved row all = All-map (λ (x : ℕ). x ≤ 15) (λ (x : ℕ). x / 2) row (λ k d h. half_small _ (all k d h))
+  where
+    half_small : (x : ℕ) → x ≤ 15 → x / 2 ≤ 15
+    half_small x h = omega arith
+
+All-replicate_zero : (n : ℕ) → All (λ x. x ≤ 15) (replicate n 0)
+All-replicate_zero n = All-replicate (λ (x : ℕ). x ≤ 15) n 0 (omega arith)
+
+pub IsSketch-empty_sketch : (width : ℕ) → IsSketch (empty_sketch width)
+unfolding empty_sketch
+IsSketch-empty_sketch width = record {
+  row0_len = length-replicate (2 ^ width) 0;
+  row1_len = length-replicate (2 ^ width) 0;
+  row2_len = length-replicate (2 ^ width) 0;
+  row3_len = length-replicate (2 ^ width) 0;
+  row0_small = All-replicate_zero (2 ^ width);
+  row1_small = All-replicate_zero (2 ^ width);
+  row2_small = All-replicate_zero (2 ^ width);
+  row3_small = All-replicate_zero (2 ^ width);
+}
+
+-- four rows of zeros and no record
+pub empty_by_rows : (width : ℕ) {row0 row1 row2 row3 : List ℕ} → row0 ≡ replicate (2 ^ width) 0 → row1 ≡ replicate (2 ^ width) 0 → row2 ≡ replicate (2 ^ width) 0 → row3 ≡ replicate (2 ^ width) 0 → record { width = width; row0 = row0; row1 = row1; row2 = row2; row3 = row3; count = 0 } ≡ empty_sketch width
+unfolding empty_sketch
+empty_by_rows width e0 e1 e2 e3 = rw (e0, e1, e2, e3) refl
+
+IsSketch-aged : (s : Sketch) → IsSketch s → IsSketch (aged s)
+unfolding aged
+IsSketch-aged s legal = go (s.count == 10 * 2 ^ s.width)
+  where
+    go : (b : Bool) → IsSketch (cond b (record s { row0 = halved s.row0; row1 = halved s.row1; row2 = halved s.row2; row3 = halved s.row3; count = s.count / 2 }) s)
+    go true = record {
+      row0_len = length-map s.row0 (λ (x : ℕ). x / 2) ∙ legal.row0_len;
+      row1_len = length-map s.row1 (λ (x : ℕ). x / 2) ∙ legal.row1_len;
+      row2_len = length-map s.row2 (λ (x : ℕ). x / 2) ∙ legal.row2_len;
+      row3_len = length-map s.row3 (λ (x : ℕ). x / 2) ∙ legal.row3_len;
+      row0_small = All-halved s.row0 legal.row0_small;
+      row1_small = All-halved s.row1 legal.row1_small;
+      row2_small = All-halved s.row2 legal.row2_small;
+      row3_small = All-halved s.row3 legal.row3_small;
+    }
+    go false = legal
+
+-- a record keeps the rows' length, and no counter exceeds 15
+pub IsSketch-recorded : (s : Sketch) (h : ℕ) → IsSketch s → IsSketch (recorded s h)
+unfolding recorded
+IsSketch-recorded s h legal = IsSketch-aged _ (record {
+  row0_len = length-raised s.row0 (place0 s h) ∙ legal.row0_len;
+  row1_len = length-raised s.row1 (place1 s h) ∙ legal.row1_len;
+  row2_len = length-raised s.row2 (place2 s h) ∙ legal.row2_len;
+  row3_len = length-raised s.row3 (place3 s h) ∙ legal.row3_len;
+  row0_small = All-raised s.row0 (place0 s h) legal.row0_small;
+  row1_small = All-raised s.row1 (place1 s h) legal.row1_small;
+  row2_small = All-raised s.row2 (place2 s h) legal.row2_small;
+  row3_small = All-raised s.row3 (place3 s h) legal.row3_small;
+})
+
 -- the counting law, for one row
 counts_row : (row : List ℕ) (place : ℕ → ℕ) (since : List ℕ) → IsSmall row → CountsFrom row place since (raised_all row place since)
 unfolding raised_all
@@ -94,9 +174,9 @@ made_by_records left (x ∷ since) h =
     let row1 = raised left.row1 (place1 left x) in
     let row2 = raised left.row2 (place2 left x) in
     let row3 = raised left.row3 (place3 left x) in
-    let young = recorded-young left x row0 row1 row2 row3 refl refl refl refl (λ f. omega arith) in
+    let young = recorded-young left x {row0 = row0} {row1 = row1} {row2 = row2} {row3 = row3} (record { first = refl; second = refl; third = refl; fourth = refl }) (λ f. omega arith) in
     let rest = made_by_records (record left { row0 = row0; row1 = row1; row2 = row2; row3 = row3; count = left.count + 1 }) since (omega arith) in
-    rw young (record { row0 = rest.row0; row1 = rest.row1; row2 = rest.row2; row3 = rest.row3 })
+    rw (← young) (record { row0 = rest.row0; row1 = rest.row1; row2 = rest.row2; row3 = rest.row3 })
 
 -- the counting law
 pub counts_records : (now : Sketch) → CountsRecords now

@@ -2,7 +2,7 @@
 
 ghost use Rattle.std.specs.Prelude.{◌≡◌, ◌+◌, ◌*◌, ◌^◌, ◌<◌, ◌≤◌, IfOk};
 ghost use Rattle.tc_sketch.specs.Sketch.{empty_sketch, place_of, recorded, aged, freq};
-ghost use Rattle.tc_sketch.specs.Counting.{CountsRecords};
+ghost use Rattle.tc_sketch.specs.Counting.{IsSketch, CountsRecords};
 
 use crate::row::Row;
 use std::alloc::Global;
@@ -34,8 +34,9 @@ pub struct Sketch {
 }
 
 impl Model for Sketch {
-    ghost use Rattle.std.specs.Prelude.{◌≡◌, ◌*◌, ◌^◌, ◌<◌, ◌≤◌, length};
+    ghost use Rattle.std.specs.Prelude.{◌*◌, ◌^◌, ◌<◌, ◌≤◌};
     ghost use Rattle.tc_sketch.specs.Sketch.{Sketch};
+    ghost use Rattle.tc_sketch.specs.Counting.{IsSketch};
 
     ghost Value = { Sketch };
 
@@ -51,11 +52,15 @@ impl Model for Sketch {
     ghost invariant = { λ s. record {
       at_least : 8 ≤ s.width;
       at_most : s.width ≤ 22;
-      row0_len : length s.row0 ≡ 2 ^ s.width;
-      row1_len : length s.row1 ≡ 2 ^ s.width;
-      row2_len : length s.row2 ≡ 2 ^ s.width;
-      row3_len : length s.row3 ≡ 2 ^ s.width;
       young : s.count < 10 * 2 ^ s.width;
+      legal : IsSketch (record {
+        width = s.width;
+        row0 = s.row0;
+        row1 = s.row1;
+        row2 = s.row2;
+        row3 = s.row3;
+        count = s.count;
+      });
     } };
 }
 
@@ -100,6 +105,7 @@ impl Sketch {
     pub fn freq(&self, hash: u64) -> u8
         ensures value { result ≡ freq self.now hash }
         ensures at_most { result ≤ 15 }
+        ensures legal { IsSketch self.now }
     {
         let counter0 = self.row0.counter(place(self.width, MULTIPLIER_0, hash));
         let counter1 = self.row1.counter(place(self.width, MULTIPLIER_1, hash));
