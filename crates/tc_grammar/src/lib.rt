@@ -8,6 +8,7 @@
 #![tactic(auto)]
 
 mod command;
+mod counting;
 mod ending;
 mod fault;
 mod keyed;
@@ -16,6 +17,8 @@ mod number;
 mod parse;
 mod retrieval;
 mod storage_line;
+#[cfg(test)]
+mod tests;
 mod tokens;
 mod unkeyed;
 mod verb;

@@ -4,7 +4,8 @@ ghost use Rattle.tc_grammar.specs.Lines.{IsBounded};
 ghost use Rattle.tc_grammar.specs.Reading.{reading, said_by};
 
 use crate::command::Command;
-use crate::keyed::{read_count_line, read_delete, read_touch};
+use crate::counting::read_count_line;
+use crate::keyed::{read_delete, read_touch};
 use crate::line::{Line, ready, refuse_unknown};
 use crate::retrieval::{read_gat, read_get};
 use crate::storage_line::read_storage_line;

@@ -39,7 +39,7 @@ fn read_head(
     exptime: &[u8],
     rest: Tokens,
 ) -> Result<Option<Head>, NoMemory>
-    ensures { IfOk result (λ head. head ≡ head_of kind key.now flags.now exptime.now rest.entry) }
+    ensures { IfOk result (λ h. h ≡ head_of kind key.now flags.now exptime.now rest.entry) }
 {
     if !is_key(key) {
         return Ok(None);
