@@ -4,10 +4,11 @@
 mod table;
 
 use super::*;
-use std::alloc::Global;
+use std::alloc::{AllocError, Global};
+use std::process::Abort;
 use std::test::Fail;
-use table::LINES;
-use tc_item::{Blob, Key, Keys, NoMemory};
+use table::{COUNTERS, KEYED, NAMES, REFUSED_STORAGE, RETRIEVAL, STORAGE, UNKEYED};
+use tc_item::{Blob, NoMemory};
 
 /// What a line spells, read once more where memory was refused.
 fn said(alloc: Global, line: &str, block_limit: u32) -> Result<Line, NoMemory> {
@@ -17,13 +18,62 @@ fn said(alloc: Global, line: &str, block_limit: u32) -> Result<Line, NoMemory> {
     }
 }
 
-#[test]
-fn each_line_of_the_table_is_read(rt: HostRuntime) -> Result<(), Fail> {
-    for (line, want) in LINES {
-        let said = said(rt.alloc(), line, 256)?;
-        let text = format!(in rt.alloc(); "{said:?}")?;
-        assert_eq!(rt; text.as_str(), want, "at {line}");
+/// Whether each line of a table is read as the table says, at a limit of 256 bytes for a block.
+fn assert_rows(rt: &(impl AllocGlobal + Abort), rows: &[(&str, &str)]) -> Result<(), AllocError> {
+    for (line, want) in rows {
+        let text = shown(rt.alloc(), line)?;
+        assert_eq!(rt; text.as_str(), *want, "at {line}");
     }
+    Ok(())
+}
+
+/// What a line spells, as text.
+fn shown(alloc: Global, line: &str) -> Result<String, AllocError> {
+    match said(alloc, line, 256) {
+        Ok(said) => format!(in alloc; "{said:?}"),
+        Err(NoMemory) => format!(in alloc; "out of memory"),
+    }
+}
+
+#[test]
+fn each_name_of_the_table_is_read(rt: HostRuntime) -> Result<(), Fail> {
+    assert_rows(&rt, &NAMES)?;
+    Ok(())
+}
+
+#[test]
+fn each_retrieval_line_of_the_table_is_read(rt: HostRuntime) -> Result<(), Fail> {
+    assert_rows(&rt, &RETRIEVAL)?;
+    Ok(())
+}
+
+#[test]
+fn each_storage_line_of_the_table_is_read(rt: HostRuntime) -> Result<(), Fail> {
+    assert_rows(&rt, &STORAGE)?;
+    Ok(())
+}
+
+#[test]
+fn each_refused_storage_line_of_the_table_is_read(rt: HostRuntime) -> Result<(), Fail> {
+    assert_rows(&rt, &REFUSED_STORAGE)?;
+    Ok(())
+}
+
+#[test]
+fn each_counter_line_of_the_table_is_read(rt: HostRuntime) -> Result<(), Fail> {
+    assert_rows(&rt, &COUNTERS)?;
+    Ok(())
+}
+
+#[test]
+fn each_delete_and_touch_of_the_table_is_read(rt: HostRuntime) -> Result<(), Fail> {
+    assert_rows(&rt, &KEYED)?;
+    Ok(())
+}
+
+#[test]
+fn each_line_without_a_key_of_the_table_is_read(rt: HostRuntime) -> Result<(), Fail> {
+    assert_rows(&rt, &UNKEYED)?;
     Ok(())
 }
 
@@ -32,35 +82,33 @@ fn a_key_of_251_bytes_is_of_no_form(rt: HostRuntime) -> Result<(), Fail> {
     let long = vec![in rt.alloc(); b'k'; 251]?;
     let text = str::from_utf8(&long).ok().ok_or("ascii")?;
     let line = format!(in rt.alloc(); "set {text} 0 0 1")?;
-    let refused = Line::Refused {
-        fault: Fault::BadFormat,
-        quiet: false,
-        skip: 3,
-    };
-    assert!(rt; said(rt.alloc(), line.as_str(), 256)? == refused);
+    let shown = shown(rt.alloc(), line.as_str())?;
+    assert_eq!(rt;
+        shown.as_str(),
+        "Refused { fault: BadFormat, quiet: false, skip: 3 }"
+    );
     Ok(())
 }
 
 #[test]
 fn the_limit_of_a_block_is_the_one_handed_in(rt: HostRuntime) -> Result<(), Fail> {
-    let head = Head {
-        kind: StoreKind::Set,
-        key: Key::new(rt.alloc(), b"k")?,
-        flags: 0,
-        exptime: 0,
-        cas_unique: 0,
-        quiet: false,
-    };
     let line = said(rt.alloc(), "set k 0 0 1048576", 1_048_576)?;
-    assert!(rt; line == Line::NeedsBlock(head.copy(rt.alloc())?, 1_048_576));
+    assert!(rt; matches!(line, Line::NeedsBlock(_, 1_048_576)));
     let line = said(rt.alloc(), "set k 0 0 1048577", 1_048_576)?;
-    let refused = Line::Refused {
-        fault: Fault::TooLarge,
-        quiet: false,
-        skip: 1_048_579,
-    };
-    assert!(rt; line == refused);
+    let text = format!(in rt.alloc(); "{line:?}")?;
+    assert_eq!(rt;
+        text.as_str(),
+        "Refused { fault: TooLarge, quiet: false, skip: 1048579 }"
+    );
     Ok(())
+}
+
+/// Whether a line is a command, and equals its copy.
+fn equals_its_copy(alloc: Global, line: &str) -> Result<bool, NoMemory> {
+    match said(alloc, line, 256)? {
+        Line::Ready(command) => Ok(command.copy(alloc)? == command),
+        _ => Ok(false),
+    }
 }
 
 #[test]
@@ -69,25 +117,38 @@ fn a_copy_of_a_command_equals_it(rt: HostRuntime) -> Result<(), Fail> {
         "gets a b c",
         "gat 5 a_key_of_more_than_thirty_two_bytes",
         "delete k",
+    ] {
+        assert!(rt; equals_its_copy(rt.alloc(), line)?, "{line}");
+    }
+    for line in [
         "incr k 5 noreply",
         "touch k -1",
         "flush_all 9",
-        "stats",
-        "version",
         "verbosity 3",
-        "quit",
     ] {
-        let Line::Ready(command) = said(rt.alloc(), line, 256)? else {
-            return Err("no command".into());
-        };
-        assert!(rt; command.copy(rt.alloc())? == command, "{line}");
+        assert!(rt; equals_its_copy(rt.alloc(), line)?, "{line}");
     }
-    let Line::NeedsBlock(head, _) = said(rt.alloc(), "cas k 1 2 3 4", 256)? else {
-        return Err("no head".into());
-    };
-    let blob = Blob::new(rt.alloc(), b"abc".to_vec(rt.alloc())?)?;
-    let command = Command::Store(head, blob);
-    assert!(rt; command.copy(rt.alloc())? == command);
+    for line in ["stats", "version", "quit"] {
+        assert!(rt; equals_its_copy(rt.alloc(), line)?, "{line}");
+    }
+    Ok(())
+}
+
+/// Whether a storage line, with a block, equals its copy.
+fn storage_equals_its_copy(alloc: Global, line: &str) -> Result<bool, NoMemory> {
+    let blob = Blob::new(alloc, b"abc".to_vec(alloc)?)?;
+    match said(alloc, line, 256)? {
+        Line::NeedsBlock(head, _) => {
+            let command = Command::Store(head, blob);
+            Ok(command.copy(alloc)? == command)
+        }
+        _ => Ok(false),
+    }
+}
+
+#[test]
+fn a_copy_of_a_storage_command_equals_it(rt: HostRuntime) -> Result<(), Fail> {
+    assert!(rt; storage_equals_its_copy(rt.alloc(), "cas k 1 2 3 4")?);
     Ok(())
 }
 

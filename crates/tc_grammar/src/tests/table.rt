@@ -8,9 +8,8 @@ const BAD_FORMAT_SKIPS_7: &str = "Refused { fault: BadFormat, quiet: false, skip
 
 const BAD_DELTA: &str = "Refused { fault: BadDelta, quiet: false, skip: 0 }";
 
-/// Lines, and what they spell.
-pub const LINES: [(&str, &str); 128] = [
-    // Names: lower case alone, and a tab is no space.
+/// Names: lower case alone, and a tab is no space.
+pub const NAMES: [(&str, &str); 9] = [
     ("", UNKNOWN),
     ("   ", UNKNOWN),
     ("GET k", UNKNOWN),
@@ -20,7 +19,10 @@ pub const LINES: [(&str, &str); 128] = [
     ("Get k", UNKNOWN),
     ("get\tk", UNKNOWN),
     ("noreply", UNKNOWN),
-    // Retrieval.
+];
+
+/// Retrieval.
+pub const RETRIEVAL: [(&str, &str); 17] = [
     ("get k", r#"Ready(Get { form: Bare, keys: ["k"] })"#),
     ("  get   k  ", r#"Ready(Get { form: Bare, keys: ["k"] })"#),
     (
@@ -50,7 +52,10 @@ pub const LINES: [(&str, &str); 128] = [
     ("gat x a", BAD_FORMAT),
     ("gat", BAD_FORMAT),
     ("get a\tb", BAD_FORMAT),
-    // Storage: a length is the fifth token, and a refused line skips it and two bytes more.
+];
+
+/// Storage lines of their form.
+pub const STORAGE: [(&str, &str); 16] = [
     (
         "set k 0 0 5",
         r#"NeedsBlock(Head { kind: Set, key: "k", flags: 0, exptime: 0, cas_unique: 0, quiet: false }, 5)"#,
@@ -59,13 +64,10 @@ pub const LINES: [(&str, &str); 128] = [
         "set k 4294967295 -2147483648 256 noreply",
         r#"NeedsBlock(Head { kind: Set, key: "k", flags: 4294967295, exptime: -2147483648, cas_unique: 0, quiet: true }, 256)"#,
     ),
-    ("set k 4294967296 0 5", BAD_FORMAT_SKIPS_7),
     (
         "set k 0 4294967295 0",
         r#"NeedsBlock(Head { kind: Set, key: "k", flags: 0, exptime: 4294967295, cas_unique: 0, quiet: false }, 0)"#,
     ),
-    ("set k 0 4294967296 5", BAD_FORMAT_SKIPS_7),
-    ("set k 0 -2147483649 5", BAD_FORMAT_SKIPS_7),
     (
         "set k 0 -0 5",
         r#"NeedsBlock(Head { kind: Set, key: "k", flags: 0, exptime: 0, cas_unique: 0, quiet: false }, 5)"#,
@@ -74,42 +76,14 @@ pub const LINES: [(&str, &str); 128] = [
         "set k 0 -00 5",
         r#"NeedsBlock(Head { kind: Set, key: "k", flags: 0, exptime: 0, cas_unique: 0, quiet: false }, 5)"#,
     ),
-    ("set k 0 --1 5", BAD_FORMAT_SKIPS_7),
-    ("set k +1 0 5", BAD_FORMAT_SKIPS_7),
-    ("set k 0 - 5", BAD_FORMAT_SKIPS_7),
     (
         "set k 00 007 05",
         r#"NeedsBlock(Head { kind: Set, key: "k", flags: 0, exptime: 7, cas_unique: 0, quiet: false }, 5)"#,
     ),
     (
-        "set k 0 0 257",
-        "Refused { fault: TooLarge, quiet: false, skip: 259 }",
-    ),
-    (
-        "set k 0 0 257 noreply",
-        "Refused { fault: TooLarge, quiet: true, skip: 259 }",
-    ),
-    (
-        "set k 0 0 2147483647",
-        "Refused { fault: TooLarge, quiet: false, skip: 2147483649 }",
-    ),
-    ("set k 0 0 2147483648", BAD_FORMAT),
-    ("set k 0 0 000000000000000000005", BAD_FORMAT),
-    (
         "set k 0 0 00000000000000000005",
         r#"NeedsBlock(Head { kind: Set, key: "k", flags: 0, exptime: 0, cas_unique: 0, quiet: false }, 5)"#,
     ),
-    ("set k 0 0 5 a b c", BAD_FORMAT_SKIPS_7),
-    ("set k 0 0 5 NOREPLY", BAD_FORMAT_SKIPS_7),
-    ("set k 0 0 5 noreply noreply", BAD_FORMAT_SKIPS_7),
-    (
-        "set k 0 0 257 a",
-        "Refused { fault: BadFormat, quiet: false, skip: 259 }",
-    ),
-    ("set k 0 0", BAD_FORMAT),
-    ("set", BAD_FORMAT),
-    ("set k 0 0 x", BAD_FORMAT),
-    ("set k 0 0 -5", BAD_FORMAT),
     (
         "add k 0 0 1",
         r#"NeedsBlock(Head { kind: Add, key: "k", flags: 0, exptime: 0, cas_unique: 0, quiet: false }, 1)"#,
@@ -135,6 +109,53 @@ pub const LINES: [(&str, &str); 128] = [
         r#"NeedsBlock(Head { kind: Cas, key: "k", flags: 0, exptime: 0, cas_unique: 18446744073709551615, quiet: true }, 3)"#,
     ),
     (
+        "cas k 0 0 3 4",
+        r#"NeedsBlock(Head { kind: Cas, key: "k", flags: 0, exptime: 0, cas_unique: 4, quiet: false }, 3)"#,
+    ),
+    (
+        "set k 0 -00000000002147483648 5",
+        r#"NeedsBlock(Head { kind: Set, key: "k", flags: 0, exptime: -2147483648, cas_unique: 0, quiet: false }, 5)"#,
+    ),
+    (
+        "set k 0 0 0 noreply",
+        r#"NeedsBlock(Head { kind: Set, key: "k", flags: 0, exptime: 0, cas_unique: 0, quiet: true }, 0)"#,
+    ),
+];
+
+/// Refused storage lines: a length is the fifth token, and a refused line skips it and two bytes more.
+pub const REFUSED_STORAGE: [(&str, &str); 28] = [
+    ("set k 4294967296 0 5", BAD_FORMAT_SKIPS_7),
+    ("set k 0 4294967296 5", BAD_FORMAT_SKIPS_7),
+    ("set k 0 -2147483649 5", BAD_FORMAT_SKIPS_7),
+    ("set k 0 --1 5", BAD_FORMAT_SKIPS_7),
+    ("set k +1 0 5", BAD_FORMAT_SKIPS_7),
+    ("set k 0 - 5", BAD_FORMAT_SKIPS_7),
+    (
+        "set k 0 0 257",
+        "Refused { fault: TooLarge, quiet: false, skip: 259 }",
+    ),
+    (
+        "set k 0 0 257 noreply",
+        "Refused { fault: TooLarge, quiet: true, skip: 259 }",
+    ),
+    (
+        "set k 0 0 2147483647",
+        "Refused { fault: TooLarge, quiet: false, skip: 2147483649 }",
+    ),
+    ("set k 0 0 2147483648", BAD_FORMAT),
+    ("set k 0 0 000000000000000000005", BAD_FORMAT),
+    ("set k 0 0 5 a b c", BAD_FORMAT_SKIPS_7),
+    ("set k 0 0 5 NOREPLY", BAD_FORMAT_SKIPS_7),
+    ("set k 0 0 5 noreply noreply", BAD_FORMAT_SKIPS_7),
+    (
+        "set k 0 0 257 a",
+        "Refused { fault: BadFormat, quiet: false, skip: 259 }",
+    ),
+    ("set k 0 0", BAD_FORMAT),
+    ("set", BAD_FORMAT),
+    ("set k 0 0 x", BAD_FORMAT),
+    ("set k 0 0 -5", BAD_FORMAT),
+    (
         "cas k 0 0 3 18446744073709551616",
         "Refused { fault: BadFormat, quiet: false, skip: 5 }",
     ),
@@ -149,22 +170,13 @@ pub const LINES: [(&str, &str); 128] = [
     ("append k 0 0 5 7", BAD_FORMAT_SKIPS_7),
     ("cas k 0 0 5 noreply noreply", BAD_FORMAT_SKIPS_7),
     (
-        "cas k 0 0 3 4",
-        r#"NeedsBlock(Head { kind: Cas, key: "k", flags: 0, exptime: 0, cas_unique: 4, quiet: false }, 3)"#,
-    ),
-    (
         "cas k 0 0 3 000000000000000000009",
         "Refused { fault: BadFormat, quiet: false, skip: 5 }",
     ),
-    (
-        "set k 0 -00000000002147483648 5",
-        r#"NeedsBlock(Head { kind: Set, key: "k", flags: 0, exptime: -2147483648, cas_unique: 0, quiet: false }, 5)"#,
-    ),
-    (
-        "set k 0 0 0 noreply",
-        r#"NeedsBlock(Head { kind: Set, key: "k", flags: 0, exptime: 0, cas_unique: 0, quiet: true }, 0)"#,
-    ),
-    // Counters: the delta has a fault of its own, behind a good key and a good ending alone.
+];
+
+/// Counters: the delta has a fault of its own, behind a good key and a good ending alone.
+pub const COUNTERS: [(&str, &str); 17] = [
     (
         "incr k 5",
         r#"Ready(Count { way: Incr, key: "k", value: 5, quiet: false })"#,
@@ -194,7 +206,10 @@ pub const LINES: [(&str, &str); 128] = [
         r#"Ready(Count { way: Decr, key: "k", value: 1, quiet: true })"#,
     ),
     ("incr k 1 noreply noreply", BAD_FORMAT),
-    // `delete`, with the 0 of old clients, and `touch`.
+];
+
+/// `delete`, with the 0 of old clients, and `touch`.
+pub const KEYED: [(&str, &str); 18] = [
     ("delete k", r#"Ready(Delete { key: "k", quiet: false })"#),
     ("delete k 0", r#"Ready(Delete { key: "k", quiet: false })"#),
     (
@@ -228,7 +243,10 @@ pub const LINES: [(&str, &str); 128] = [
         r#"Ready(Touch { key: "k", exptime: 4294967295, quiet: false })"#,
     ),
     ("touch k 4294967296", BAD_FORMAT),
-    // Lines without a key.
+];
+
+/// Lines without a key.
+pub const UNKEYED: [(&str, &str); 23] = [
     ("flush_all", "Ready(Flush { delay: 0, quiet: false })"),
     (
         "flush_all noreply",
