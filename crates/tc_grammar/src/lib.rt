@@ -1,7 +1,9 @@
 //! What a command line spells: the whole table of lines.
 //!
-//! `parse_line` meets `reading` (`specs/Reading.antt`), a function of the line's tokens: so each
-//! line spells exactly one thing, a command, a head that needs a block, or a fault. Tokens are
+//! `parse_line` meets `reading` (`specs/Reading.antt`), a function of the line's tokens. The same
+//! table stands row by row in `specs/Table.antt`, as a relation, and the contract of
+//! `each_line_spells_one_thing` says that a line spells its reading and nothing else: a command, a
+//! head that needs a block, or a fault. Tokens are
 //! parted by spaces; a line is handed in without its end. Callers see commands and heads as plain
 //! data over keys, lists of keys and blobs. All faults of the server, their numbers and their
 //! texts stand in `fault.rt` alone. No clause speaks of time.
@@ -16,6 +18,7 @@ mod line;
 mod number;
 mod parse;
 mod retrieval;
+mod spelling;
 mod storage_line;
 #[cfg(test)]
 mod tests;
@@ -27,3 +30,4 @@ pub use command::{Command, Form, Head, StoreKind, Way};
 pub use fault::Fault;
 pub use line::Line;
 pub use parse::parse_line;
+pub use spelling::each_line_spells_one_thing;
