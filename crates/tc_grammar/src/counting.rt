@@ -1,7 +1,7 @@
 //! `incr` and `decr`.
 ghost use Rattle.std.specs.Prelude.{◌≡◌, IfOk};
 ghost use Rattle.tc_grammar.specs.Counting.{count_line};
-ghost use Rattle.tc_grammar.specs.Lines.{IsBounded};
+ghost use Rattle.tc_grammar.specs.Lines.{IsAnswered, IsBounded};
 
 use crate::command::{Command, Way};
 use crate::ending::read_quiet;
@@ -17,6 +17,7 @@ use tc_item::{Key, NoMemory, is_key};
 pub fn read_count_line(alloc: Global, way: Way, mut tokens: Tokens) -> Result<Line, NoMemory>
     ensures reading { IfOk result (λ line. line ≡ count_line way tokens.entry) }
     ensures bounded { IfOk result (IsBounded 0) }
+    ensures answered { IfOk result IsAnswered }
 {
     let Some(key) = tokens.next() else {
         return Ok(refuse_format(0))
