@@ -1,17 +1,17 @@
 -- A line spells its reading and nothing else.
-use Rattle.std.specs.Prelude.{nat_le, bytes_eq, codes, option_and_then}
+use Rattle.std.specs.Prelude.{nat_le, bytes_eq, codes}
 use Rattle.std.specs.List.{list_all}
-use Rattle.std.proofs.Common.{◌≡◌, ℕ, ◌+◌, ◌-◌, ◌^◌, ◌<◌, ◌≤◌, ◌⊎◌, inl, inr, Bool, true, false, List, [], ◌∷◌, length, Option, Some, None, ℤ, refl, sym, subst, ◌∙◌, arith}
+use Rattle.std.proofs.Common.{◌≡◌, ℕ, ◌-◌, ◌^◌, ◌⊎◌, inl, inr, Bool, true, false, List, [], ◌∷◌, Option, Some, None, ℤ, refl, sym, subst, ◌∙◌, arith}
 use Rattle.std.proofs.lemmas.Bool.Decides.{nat_tests}
 use Rattle.tc_item.specs.KeyRule.{is_key}
 use Rattle.tc_grammar.specs.Counting.{count_line}
 use Rattle.tc_grammar.specs.Ending.{quiet_of, without_zero}
 use Rattle.tc_grammar.specs.Keyed.{delete_of, touch_of}
-use Rattle.tc_grammar.specs.Lines.{unknown, bad_format, ready}
+use Rattle.tc_grammar.specs.Lines.{unknown, bad_format}
 use Rattle.tc_grammar.specs.Names.{verb_of}
 use Rattle.tc_grammar.specs.Numbers.{number_of, exptime_of}
-use Rattle.tc_grammar.specs.Reading.{said_by, said_of, reading}
-use Rattle.tc_grammar.specs.Retrieval.{keys_of, get_of, gat_of}
+use Rattle.tc_grammar.specs.Reading.{said_by, said_of}
+use Rattle.tc_grammar.specs.Retrieval.{get_of, gat_of}
 use Rattle.tc_grammar.specs.Storage.{ending_of, head_of, storage_line}
 use Rattle.tc_grammar.specs.Table.{IsHead, IsRow, block, too_large, get, gat, delete, count, bad_delta, touch, flush, flush_quietly, flush_later, stats, version, verbosity, quit, skip_of, Spells, empty, unknown_name, row, no_row, EachLineSpellsOneThing}
 use Rattle.tc_grammar.specs.Tokens.{tokens}
