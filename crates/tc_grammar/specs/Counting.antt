@@ -1,5 +1,5 @@
 -- Counter lines. Source: memcached's doc/protocol.txt, 'Increment/Decrement'.
-use Rattle.std.specs.Prelude.{ℕ, ◌-◌, ◌^◌, Bool, false, if◌then◌else◌, List, [], ◌∷◌, Option, Some, None}
+use Rattle.std.specs.Prelude.{ℕ, ◌-◌, ◌^◌, Bool, false, if◌then◌else◌, List, ◌∷◌, Option, Some, None}
 use Rattle.tc_item.specs.KeyRule.{is_key}
 use Rattle.tc_grammar.specs.Ending.{quiet_of}
 use Rattle.tc_grammar.specs.Lines.{bad_format}

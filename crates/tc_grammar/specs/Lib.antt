@@ -8,6 +8,7 @@ pub mod Numbers
 pub mod Reading
 pub mod Retrieval
 pub mod Storage
+pub mod Table
 pub mod Tokens
 pub mod Unkeyed
 pub mod Words

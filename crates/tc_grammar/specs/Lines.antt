@@ -1,8 +1,7 @@
 -- What a line can come to, and the bounds that each keeps. Source: memcached's doc/protocol.txt, 'Error strings'; skipping is this project's own.
-use Rattle.std.specs.Prelude.{◌≡◌, ℕ, ◌+◌, ◌^◌, ◌≤◌, Bool, true, false, Option, Some, None, List, [], ◌∷◌, option_and_then}
+use Rattle.std.specs.Prelude.{◌≡◌, ℕ, ◌+◌, ◌^◌, ◌≤◌, true, false, Option, Some, None, option_and_then}
 use Rattle.tc_grammar.specs.declared.command.Command.{Command}
-use Rattle.tc_grammar.specs.declared.fault.Fault.{Fault}
-use Rattle.tc_grammar.specs.declared.fault.Fault.TheVariants.{UnknownCommand, BadFormat}
+use Rattle.tc_grammar.specs.declared.fault.Fault.TheVariants.{UnknownCommand, BadFormat, TooLarge}
 use Rattle.tc_grammar.specs.declared.line.Line.{Line}
 use Rattle.tc_grammar.specs.declared.line.Line.TheVariants.{Ready, NeedsBlock, Refused}
 
@@ -29,3 +28,9 @@ abbrev pub IsBounded : ℕ → Line → Type 0
 IsBounded limit (Ready command) = Unit {0}
 IsBounded limit (NeedsBlock head n) = n ≤ limit
 IsBounded limit (Refused fault quiet skip) = skip ≤ 2 ^ 31 + 1
+
+-- a line is answered where it is refused, but for a block over the limit, which `noreply` keeps quiet
+abbrev pub IsAnswered : Line → Type 0
+IsAnswered (Ready command) = Unit {0}
+IsAnswered (NeedsBlock head n) = Unit {0}
+IsAnswered (Refused fault quiet skip) = quiet ≡ true → fault ≡ TooLarge

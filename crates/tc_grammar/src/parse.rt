@@ -1,10 +1,11 @@
 //! What a line spells, by its name.
 ghost use Rattle.std.specs.Prelude.{◌≡◌, IfOk, Some};
-ghost use Rattle.tc_grammar.specs.Lines.{IsBounded};
+ghost use Rattle.tc_grammar.specs.Lines.{IsAnswered, IsBounded};
 ghost use Rattle.tc_grammar.specs.Reading.{reading, said_by};
 
 use crate::command::Command;
-use crate::keyed::{read_count_line, read_delete, read_touch};
+use crate::counting::read_count_line;
+use crate::keyed::{read_delete, read_touch};
 use crate::line::{Line, ready, refuse_unknown};
 use crate::retrieval::{read_gat, read_get};
 use crate::storage_line::read_storage_line;
@@ -18,6 +19,7 @@ use tc_item::NoMemory;
 fn read_args(alloc: Global, verb: Verb, tokens: Tokens, block_limit: u32) -> Result<Line, NoMemory>
     ensures reading { IfOk result (λ line. line ≡ said_by block_limit (Some verb) tokens.entry) }
     ensures bounded { IfOk result (IsBounded block_limit) }
+    ensures answered { IfOk result IsAnswered }
 {
     match verb {
         Verb::Store(kind) => read_storage_line(alloc, kind, tokens, block_limit),
@@ -38,6 +40,7 @@ fn read_args(alloc: Global, verb: Verb, tokens: Tokens, block_limit: u32) -> Res
 pub fn parse_line(alloc: Global, line: &[u8], block_limit: u32) -> Result<Line, NoMemory>
     ensures reading { IfOk result (λ said. said ≡ reading block_limit line.now) }
     ensures bounded { IfOk result (IsBounded block_limit) }
+    ensures answered { IfOk result IsAnswered }
 {
     let mut tokens = Tokens::new(line);
     let Some(name) = tokens.next() else {

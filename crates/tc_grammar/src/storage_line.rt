@@ -1,6 +1,6 @@
 //! Storage lines.
 ghost use Rattle.std.specs.Prelude.{◌≡◌, IfOk};
-ghost use Rattle.tc_grammar.specs.Lines.{IsBounded};
+ghost use Rattle.tc_grammar.specs.Lines.{IsAnswered, IsBounded};
 ghost use Rattle.tc_grammar.specs.Storage.{ending_of, head_of, storage_line};
 
 use crate::command::{Head, StoreKind};
@@ -39,7 +39,7 @@ fn read_head(
     exptime: &[u8],
     rest: Tokens,
 ) -> Result<Option<Head>, NoMemory>
-    ensures { IfOk result (λ head. head ≡ head_of kind key.now flags.now exptime.now rest.entry) }
+    ensures { IfOk result (λ h. h ≡ head_of kind key.now flags.now exptime.now rest.entry) }
 {
     if !is_key(key) {
         return Ok(None);
@@ -74,6 +74,7 @@ pub fn read_storage_line(
 ) -> Result<Line, NoMemory>
     ensures reading { IfOk result (λ line. line ≡ storage_line block_limit kind tokens.entry) }
     ensures bounded { IfOk result (IsBounded block_limit) }
+    ensures answered { IfOk result IsAnswered }
 {
     let Some(key) = tokens.next() else {
         return Ok(refuse_format(0))

@@ -57,7 +57,8 @@ impl<'a> Tokens<'a> {
 
     /// Takes the next token.
     pub fn next(&mut self) -> Option<&'a [u8]>
-        ensures { MatchOption result ((self.old ≡ []) × (self.new ≡ [])) (λ token. self.old ≡ token.now ∷ self.new) }
+        ensures { MatchOption result ((self.old ≡ []) × (self.new ≡ []))
+            (λ token. self.old ≡ token.now ∷ self.new) }
     {
         let bytes = &self.rest[space_length(self.rest)..];
         let length = word_length(bytes);
