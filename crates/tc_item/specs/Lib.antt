@@ -1,0 +1,5 @@
+pub mod Expiry
+pub mod KeyFaults
+pub mod KeyLists
+pub mod KeyRule
+pub mod Weight

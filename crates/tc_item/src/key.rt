@@ -1,0 +1,169 @@
+//! Keys: 1 to 250 bytes, any but 0 to 32 and 127.
+ghost use Rattle.std.specs.Prelude.{◌≡◌, ◌<◌, ◌≤◌, ◌∷◌, [], length, IfOk, IfSome, IsNone, IsOkUnless, IsTrue, Err};
+ghost use Rattle.std.specs.List.{list_all};
+ghost use Rattle.std.specs.Str.{bytes_eq};
+ghost use Rattle.std.specs.Cmp.Rules.{comparing, hashing};
+ghost use Rattle.std.proofs.Common.{rules};
+ghost use Rattle.tc_item.specs.KeyRule.{is_key, is_key_byte};
+ghost use Rattle.tc_item.specs.KeyFaults.{key_fault};
+ghost use Rattle.tc_item.specs.declared.key.KeyFault.TheVariants.{NoMemory as OutOfMemory};
+
+use crate::NoMemory;
+use smallvec::SmallVec;
+use std::alloc::{AllocError, Global};
+use std::error::Error;
+use std::fmt;
+use std::hash::{Hash, Hasher};
+use std::marker::Model;
+
+/// The most bytes of a key.
+pub const LONGEST_KEY: usize = 250;
+
+/// Why bytes are no key, in the order in which the reasons are looked for; or memory was refused.
+#[derive(Clone, Copy, Debug, PartialEq, Eq)]
+pub enum KeyFault {
+    Empty,
+    TooLong,
+    BadByte,
+    NoMemory,
+}
+
+impl fmt::Display for KeyFault {
+    fn fmt<W: fmt::Write>(&self, f: &mut fmt::Formatter<W>) -> fmt::Result {
+        match self {
+            KeyFault::Empty => write!(f, "the key is empty"),
+            KeyFault::TooLong => write!(f, "the key has more than 250 bytes"),
+            KeyFault::BadByte => write!(f, "the key has a control byte or a space"),
+            KeyFault::NoMemory => write!(f, "out of memory"),
+        }
+    }
+}
+
+impl Error for KeyFault {}
+
+impl From<AllocError> for KeyFault {
+    ghost from_gives = { λ _ e. e ≡ OutOfMemory };
+
+    fn from(_refused: AllocError) -> KeyFault {
+        KeyFault::NoMemory
+    }
+}
+
+/// What an item is stored under. Most keys are short, so up to 32 bytes are kept in place.
+#[derive(Drop)]
+pub struct Key {
+    bytes: SmallVec<u8, 32>,
+}
+
+impl Model for Key {
+    ghost use Rattle.std.specs.Prelude.{ℕ, List, IsTrue};
+    ghost use Rattle.tc_item.specs.KeyRule.{is_key};
+
+    ghost Value = { List ℕ };
+
+    ghost view = { λ k. k.bytes.items };
+
+    ghost invariant = { λ k. IsTrue (is_key k.bytes.items) };
+}
+
+fn is_key_byte(byte: u8) -> bool
+    ensures { result ≡ is_key_byte byte }
+{
+    byte > b' ' && byte != 127
+}
+
+fn are_key_bytes(bytes: &[u8]) -> bool
+    ensures { result ≡ list_all is_key_byte bytes.now }
+{
+    bytes.iter().all(|b| is_key_byte(*b))
+}
+
+/// Whether bytes are a key.
+pub fn is_key(bytes: &[u8]) -> bool
+    ensures { result ≡ is_key bytes.now }
+{
+    !bytes.is_empty() && bytes.len() <= LONGEST_KEY && are_key_bytes(bytes)
+}
+
+impl Key {
+    /// The key of these bytes, or the first reason why they are none.
+    pub fn new(alloc: Global, bytes: &[u8]) -> Result<Key, KeyFault>
+        ensures key { IfOk result (λ k. k ≡ bytes.now) }
+        ensures refused { IfSome (key_fault bytes.now) (λ fault. result ≡ Err fault) }
+        ensures taken { IsNone (key_fault bytes.now) → IsOkUnless result KeyFault.NoMemory }
+    {
+        if bytes.is_empty() {
+            return Err(KeyFault::Empty);
+        }
+        if bytes.len() > LONGEST_KEY {
+            return Err(KeyFault::TooLong);
+        }
+        if !are_key_bytes(bytes) {
+            return Err(KeyFault::BadByte);
+        }
+        let bytes = SmallVec::from_slice(alloc, bytes)?;
+        Ok(Key { bytes })
+    }
+
+    /// The key of bytes that are known to be one.
+    pub fn from_key_bytes(alloc: Global, bytes: &[u8]) -> Result<Key, NoMemory>
+        requires { IsTrue (is_key bytes.now) }
+        ensures { IfOk result (λ k. k ≡ bytes.now) }
+    {
+        let bytes = SmallVec::from_slice(alloc, bytes)?;
+        Ok(Key { bytes })
+    }
+
+    /// The key's bytes.
+    pub fn as_bytes(&self) -> &[u8]
+        ensures bytes { result.now ≡ self.now }
+        ensures good { IsTrue (is_key self.now) }
+        ensures not_empty { 0 < length self.now }
+        ensures short { length self.now ≤ 250 }
+    {
+        self.bytes.as_slice()
+    }
+
+    /// An equal key.
+    pub fn copy(&self, alloc: Global) -> Result<Key, NoMemory>
+        ensures { IfOk result (λ k. k ≡ self.now) }
+    {
+        let bytes = SmallVec::from_slice(alloc, self.bytes.as_slice())?;
+        Ok(Key { bytes })
+    }
+}
+
+impl PartialEq for Key {
+    ghost eq = { bytes_eq };
+
+    ghost laws = { Prim.search (comparing, rules) };
+
+    fn eq(&self, other: &Key) -> bool {
+        self.as_bytes() == other.as_bytes()
+    }
+}
+
+impl Eq for Key {
+    ghost laws = { Prim.search (comparing, rules) };
+}
+
+/// A hasher is fed all bytes of a key in one write.
+impl Hash for Key {
+    ghost hash_input = { λ k. k ∷ [] };
+
+    ghost respects_eq = { Prim.search (hashing, rules) };
+
+    fn hash<H: Hasher>(&self, state: &mut H) {
+        state.write(self.bytes.as_slice());
+    }
+}
+
+/// The key as text, or its bytes where they are none.
+impl fmt::Debug for Key {
+    fn fmt<W: fmt::Write>(&self, f: &mut fmt::Formatter<W>) -> fmt::Result {
+        match str::from_utf8(self.as_bytes()) {
+            Ok(text) => write!(f, "{text:?}"),
+            Err(_) => write!(f, "{:?}", self.as_bytes()),
+        }
+    }
+}

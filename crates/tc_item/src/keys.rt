@@ -1,0 +1,124 @@
+//! Lists of keys, which take no memory for none or one.
+ghost use Rattle.std.specs.Prelude.{◌≡◌, ◌∷◌, ◌++◌, [], length, IfOk, OnOk, OnErr, IsTrue, ◌↔◌};
+ghost use Rattle.std.specs.Str.{bytes_eq};
+ghost use Rattle.std.specs.Cmp.Lexicographic.{pointwise};
+ghost use Rattle.std.specs.Cmp.Rules.{comparing};
+ghost use Rattle.std.proofs.Common.{rules};
+
+use crate::{Key, NoMemory};
+use std::alloc::Global;
+use std::marker::Model;
+use std::{mem, slice};
+
+/// Keys in order; a key may stand twice.
+#[derive(Debug, Drop)]
+pub struct Keys {
+    held: Held,
+}
+
+/// Most requests name one key, so one alone is kept in place.
+#[derive(Debug, Drop)]
+enum Held {
+    Nothing,
+    One(Key),
+    Many(Vec<Key>),
+}
+
+impl Model for Keys {
+    ghost use Rattle.std.specs.Prelude.{ℕ, List};
+    ghost use Rattle.tc_item.specs.KeyLists.{keys_held};
+
+    ghost Value = { List (List ℕ) };
+
+    ghost view = { λ k. keys_held k.held };
+}
+
+impl Keys {
+    /// No keys.
+    pub fn new() -> Keys
+        ensures { result ≡ [] }
+    {
+        Keys {
+            held: Held::Nothing,
+        }
+    }
+
+    /// One key.
+    pub fn one(key: Key) -> Keys
+        ensures { result ≡ key ∷ [] }
+    {
+        Keys {
+            held: Held::One(key),
+        }
+    }
+
+    /// Puts a key at the end. Where memory is refused the keys are as they were.
+    pub fn push(&mut self, alloc: Global, key: Key) -> Result<(), NoMemory>
+        ensures pushed { OnOk result (self.new ≡ self.old ++ key ∷ []) }
+        ensures unchanged_on_err { OnErr result (self.new ≡ self.old) }
+    {
+        match &mut self.held {
+            Held::Nothing => self.held = Held::One(key),
+            Held::Many(keys) => keys.push(key)?,
+            Held::One(_) => {
+                let mut keys = Vec::with_capacity(alloc, 8)?;
+                if let Held::One(first) = mem::replace(&mut self.held, Held::Nothing) {
+                    keys.push(first)?;
+                }
+                keys.push(key)?;
+                self.held = Held::Many(keys);
+            }
+        }
+        Ok(())
+    }
+
+    /// How many keys.
+    pub fn len(&self) -> usize
+        ensures { result ≡ length self.now }
+    {
+        self.as_slice().len()
+    }
+
+    /// Whether there is no key.
+    pub fn is_empty(&self) -> bool
+        ensures { IsTrue result ↔ (self.now ≡ []) }
+    {
+        self.len() == 0
+    }
+
+    /// The keys, in order.
+    pub fn as_slice(&self) -> &[Key]
+        ensures { result.now ≡ self.now }
+    {
+        match &self.held {
+            Held::Nothing => &[],
+            Held::One(key) => slice::from_ref(key),
+            Held::Many(keys) => keys.as_slice(),
+        }
+    }
+
+    /// Equal keys in the same order.
+    pub fn copy(&self, alloc: Global) -> Result<Keys, NoMemory>
+        ensures { IfOk result (λ keys. keys ≡ self.now) }
+    {
+        let mut copied = Keys::new();
+        for key in self.as_slice() {
+            copied.push(alloc, key.copy(alloc)?)?;
+        }
+        Ok(copied)
+    }
+}
+
+impl PartialEq for Keys {
+    ghost eq = { pointwise bytes_eq };
+
+    ghost laws = { Prim.search (comparing, rules) };
+
+    fn eq(&self, other: &Keys) -> bool {
+        self.as_slice() == other.as_slice()
+    }
+}
+
+impl Eq for Keys {
+    ghost laws = { Prim.search (comparing, rules) };
+}

@@ -1,0 +1,90 @@
+//! Moments, and until when an item is alive.
+ghost use Rattle.std.specs.Prelude.{◌≡◌, ◌<◌, ◌≤◌, ◌^◌, max, MatchOption};
+ghost use Rattle.tc_item.specs.Expiry.{is_before};
+
+use std::marker::Model;
+
+/// A moment: whole seconds since 1970 (Unix time), below 2^40.
+#[derive(Clone, Copy, Debug, PartialEq, Eq, PartialOrd, Ord, Hash)]
+pub struct Moment {
+    seconds: u64,
+}
+
+impl Model for Moment {
+    ghost use Rattle.std.specs.Prelude.{ℕ, ◌<◌, ◌^◌};
+
+    ghost Value = { ℕ };
+
+    ghost view = { λ m. m.seconds };
+
+    ghost invariant = { λ m. m.seconds < 2 ^ 40 };
+
+    ghost inverse = { λ n. record { seconds = n } };
+}
+
+impl Moment {
+    /// The moment 0, at which a clock starts.
+    pub const FIRST: Moment = Moment { seconds: 0 };
+
+    /// The greatest moment, 2^40 - 1.
+    pub const LAST: Moment = Moment {
+        seconds: (1 << 40) - 1,
+    };
+
+    /// The moment of so many seconds.
+    pub fn new(seconds: u64) -> Moment
+        requires { seconds < 2 ^ 40 }
+        ensures { result ≡ seconds }
+    {
+        Moment { seconds }
+    }
+
+    /// The moment of so many seconds, where they are below 2^40.
+    pub fn try_new(seconds: u64) -> Option<Moment>
+        ensures { MatchOption result (2 ^ 40 ≤ seconds) (λ m. m ≡ seconds) }
+    {
+        if seconds < 1 << 40 {
+            Some(Moment { seconds })
+        } else {
+            None
+        }
+    }
+
+    /// The seconds since 1970.
+    pub fn seconds(self) -> u64
+        ensures seconds { result ≡ self }
+        ensures bounded { result < 2 ^ 40 }
+    {
+        self.seconds
+    }
+
+    /// The later of two moments.
+    pub fn later(self, other: Moment) -> Moment
+        ensures { result ≡ max self other }
+    {
+        if self.seconds < other.seconds {
+            other
+        } else {
+            self
+        }
+    }
+}
+
+/// Until when an item is alive: for ever, or before a second since 1970.
+#[derive(Clone, Copy, Debug, PartialEq, Eq)]
+pub enum Due {
+    Never,
+    At(u64),
+}
+
+impl Due {
+    /// Whether a moment is before this due.
+    pub fn is_after(self, moment: Moment) -> bool
+        ensures { result ≡ is_before moment self }
+    {
+        match self {
+            Due::Never => true,
+            Due::At(second) => moment.seconds() < second,
+        }
+    }
+}
