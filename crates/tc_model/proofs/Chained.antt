@@ -3,9 +3,9 @@ use Rattle.std.specs.Prelude.{slice_index, not, ◌==◌, ◌||◌, map}
 use Rattle.std.proofs.Common.{◌≡◌, ℕ, zero, suc, ◌+◌, ◌<◌, ◌≤◌, Bool, true, false, cond, List, [], ◌∷◌, ◌++◌, length, refl, sym, ◌∙◌, ap, subst, arith, append_assoc}
 use Rattle.std.proofs.lemmas.Bool.{eqb-true, eqb-false, ne_eqb}
 use Rattle.std.proofs.lemmas.List.Elements.{filter-append}
-use Rattle.tc_model.specs.Ring.{Linked, IsAway, AreDistinct, IsRing, put_next, put_prev, cut_next, cut_prev}
+use Rattle.tc_model.specs.Ring.{Linked, IsAway, AreDistinct, AreBelow, IsRing, HasPlace, put_next, put_prev, cut_next, cut_prev}
 use Rattle.tc_model.specs.Chains.{is_node, marked, IsLoop, AreChained, AreLinked, EachDistinct, fronted, without_node, is_among}
-use Rattle.tc_model.proofs.Rings.{linked_split, ring_cut, ring_put, ring_put_first, away_append, split, IsSplit}
+use Rattle.tc_model.proofs.Rings.{linked_split, ring_cut, ring_put, ring_put_first, away_append, below_append, split, IsSplit}
 
 append_nil : (xs : List ℕ) → xs ++ [] ≡ xs
 append_nil [] = refl
@@ -152,3 +152,39 @@ linked_last next prev a b (x ∷ y ∷ ys) l h =
 -- without its last, a list is linked up to that
 pub linked_init : (next prev : List ℕ) (a b x : ℕ) (us : List ℕ) → Linked next prev a (us ++ x ∷ []) b → Linked next prev a us x × (slice_index prev b ≡ x)
 linked_init next prev a b x us h = let both = linked_split next prev a b x us [] h in (both.0, both.1.1)
+
+-- a node's neighbours have places too
+
+next_below : (next prev : List ℕ) (m a b : ℕ) (xs : List ℕ) → AreBelow m xs → b < m → Linked next prev a xs b → slice_index next a < m
+next_below next prev m a b [] h l k = omega (arith, k.0)
+next_below next prev m a b (x ∷ xs) h l k = omega (arith, k.0, h.0)
+
+prev_below : (next prev : List ℕ) (m a b : ℕ) (xs : List ℕ) → a < m → AreBelow m xs → Linked next prev a xs b → slice_index prev b < m
+prev_below next prev m a b [] l h k = omega (arith, k.1)
+prev_below next prev m a b (x ∷ xs) l h k = prev_below next prev m x b xs h.0 h.1 k.2
+
+has_place : (next prev us : List ℕ) (n : ℕ) (vs : List ℕ) → IsLoop next prev (us ++ n ∷ vs) → HasPlace next prev n
+has_place next prev [] n vs ring = record {
+  own = ring.below.0;
+  behind = next_below next prev (length next) n n vs ring.below.1 ring.below.0 ring.linked;
+  before = prev_below next prev (length next) n n vs ring.below.0 ring.below.1 ring.linked;
+}
+has_place next prev (u ∷ us) n vs ring =
+    let both = linked_split next prev u u n us vs ring.linked in
+    let below = below_append (length next) us (n ∷ vs) ring.below.1 in
+    record {
+      own = below.1.0;
+      behind = next_below next prev (length next) n u vs below.1.1 ring.below.0 both.1;
+      before = prev_below next prev (length next) u n us ring.below.0 below.0 both.0;
+    }
+
+pub mark_place : (next prev : List ℕ) (i : ℕ) (lists : List (List ℕ)) → i < length lists → AreChained next prev lists → HasPlace next prev i
+mark_place next prev i lists inside ring =
+    let s : MarkAt 0 i 0 lists = mark_at 0 i 0 lists inside in
+    let own : s.mark ≡ i = omega (arith, s.is_mark) in
+    subst (λ j. HasPlace next prev j) own (has_place next prev s.before s.mark s.behind (subst (λ r. IsLoop next prev r) s.is ring))
+
+pub node_place : (next prev : List ℕ) (n : ℕ) (xs : List ℕ) (xss : List (List ℕ)) → is_among n (xs ++ marked 1 xss) ≡ true → AreChained next prev (xs ∷ xss) → HasPlace next prev n
+node_place next prev n xs xss held ring =
+    let f : Found n (xs ++ marked 1 xss) = find n (xs ++ marked 1 xss) held in
+    has_place next prev (0 ∷ f.before) n f.behind (subst (λ r. IsLoop next prev (0 ∷ r)) f.is ring)

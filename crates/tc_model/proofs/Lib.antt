@@ -1,4 +1,5 @@
 pub mod Chained
+pub mod Counted
 pub mod Rings
 mod Numbered
 mod Logins

@@ -33,6 +33,12 @@ abbrev pub walk : ℕ → List ℕ → ℕ → List ℕ
 walk zero next a = []
 walk (suc n) next a = slice_index next a ∷ walk n next (slice_index next a)
 
+-- a node and its neighbours have places
+pub record HasPlace (next prev : List ℕ) (n : ℕ) : Type 0 where
+  pub own : n < length next
+  pub behind : slice_index next n < length next
+  pub before : slice_index prev n < length next
+
 -- the links forward once a node is put in behind another
 abbrev pub put_next : List ℕ → ℕ → ℕ → List ℕ
 put_next next before at = slice_set (slice_set next before at) at (slice_index next before)

@@ -1,1 +1,4 @@
+pub mod Members
+pub mod Put
+pub mod Taken
 pub mod Writes

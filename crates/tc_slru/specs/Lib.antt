@@ -1,3 +1,7 @@
+pub mod InAreas
+pub mod Kept
+pub mod Linked
 pub mod Links
 pub mod Nodes
 pub mod Sizes
+pub mod Slots

@@ -2,6 +2,7 @@
 #![tactic(auto)]
 
 mod area;
+mod linked_areas;
 mod nodes;
 mod slot;
 

@@ -1,5 +1,5 @@
 //! The nodes of the ring, by number. The first three are the marks before window, probation and protected; slot n is node n + 3.
-ghost use Rattle.std.specs.Prelude.{◌≡◌, ◌+◌, ◌<◌, ◌≤◌, length, slice_index, slice_set, is_ok, OnErr, if◌then◌else◌};
+ghost use Rattle.std.specs.Prelude.{◌≡◌, ◌+◌, ◌<◌, ◌≤◌, ◌^◌, length, slice_index, slice_set, is_ok, OnErr, if◌then◌else◌};
 ghost use Rattle.tc_slru.specs.Links.{area_at, marks_alone, grown};
 
 use crate::area::Area;
@@ -79,7 +79,8 @@ impl Nodes {
     /// The node of a slot.
     pub fn place(&self, slot: Slot) -> usize
         requires { slot.0 + 3 < length self.now.next }
-        ensures { result ≡ slot.0 + 3 }
+        ensures node { result ≡ slot.0 + 3 }
+        ensures few { length self.now.next < 2 ^ 64 }
     {
         let places: &[Node] = self.rest.as_slice();
         let _all = places.len() + MARKS;

@@ -1,0 +1,118 @@
+//! Three lists of slots in one ring of nodes.
+//!
+//! The ring is: mark 0, the window's nodes, mark 1, probation's nodes, mark 2, protected's nodes, and back to mark 0.
+//! A list's front is behind its mark, and its last before the next mark, so no list is ever empty in the ring and
+//! no call has a case for one.
+ghost use Rattle.std.specs.Prelude.{◌≡◌, ◌+◌, ◌-◌, ◌<◌, ◌≤◌, ◌^◌, true, false, length, max, slice_index, is_ok, OnErr, sum_by, if◌then◌else◌};
+ghost use Rattle.tc_model.specs.Areas.{total};
+ghost use Rattle.tc_model.specs.Ring.{HasPlace, put_next, put_prev, cut_next, cut_prev};
+ghost use Rattle.tc_slru.specs.Slots.{weigh, holds, without_slot};
+ghost use Rattle.tc_slru.specs.InAreas.{list_in, fronted_in, area_of, IsLast, mark_of, end_of};
+
+use crate::area::{Area, Sizes};
+use crate::nodes::{MARKS, Nodes};
+use crate::slot::Slot;
+use std::alloc::Global;
+use std::marker::Model;
+use tc_item::NoMemory;
+
+/// A slot of a list, and what it weighs.
+#[derive(Clone, Copy)]
+pub struct Held {
+    pub slot: Slot,
+    pub weight: u64,
+}
+
+/// The node before a list.
+fn mark_of(area: Area) -> usize
+    ensures { result ≡ mark_of area }
+{
+    match area {
+        Area::Window => 0,
+        Area::Probation => 1,
+        Area::Protected => 2,
+    }
+}
+
+/// The node behind a list.
+fn end_of(area: Area) -> usize
+    ensures { result ≡ end_of area }
+{
+    match area {
+        Area::Window => 1,
+        Area::Probation => 2,
+        Area::Protected => 0,
+    }
+}
+
+/// Takes a node out of the ring.
+fn unlink(nodes: &mut Nodes, at: usize)
+    requires { HasPlace nodes.old.next nodes.old.prev at }
+    ensures { nodes.new ≡ record nodes.old { next = cut_next nodes.old.next nodes.old.prev at; prev = cut_prev nodes.old.next nodes.old.prev at } }
+{
+    let node = nodes.node(at);
+    nodes.set_next(node.prev, node.next);
+    nodes.set_prev(node.next, node.prev);
+}
+
+/// Puts a node into the ring, behind another.
+fn link_behind(nodes: &mut Nodes, before: usize, at: usize)
+    requires before { before < length nodes.old.next }
+    requires within { at < length nodes.old.next }
+    requires after { slice_index nodes.old.next before < length nodes.old.next }
+    ensures { nodes.new ≡ record nodes.old { next = put_next nodes.old.next before at; prev = put_prev nodes.old.next nodes.old.prev before at } }
+{
+    let after = nodes.node(before).next;
+    nodes.set_next(before, at);
+    nodes.set_prev(at, before);
+    nodes.set_next(at, after);
+    nodes.set_prev(after, at);
+}
+
+/// Window, probation and protected. What each holds and weighs is kept, not added up.
+#[derive(Drop)]
+pub struct LinkedAreas {
+    nodes: Nodes,
+    sizes: Sizes,
+}
+
+impl Model for LinkedAreas {
+    ghost use Rattle.tc_slru.specs.Slots.{Shown};
+
+    ghost Value = { Shown };
+
+    ghost use Rattle.tc_slru.specs.Linked.{shown, IsLinked};
+
+    ghost view = { shown };
+
+    ghost invariant = { IsLinked };
+}
+
+impl LinkedAreas {
+    /// Puts a slot at the front of a list.
+    pub fn put(&mut self, area: Area, slot: Slot, weight: u64)
+        requires reserved { slot.0 < self.old.slots }
+        requires free { holds slot.0 self.old.areas ≡ false }
+        requires fits { total weigh self.old.areas + weight < 2 ^ 64 }
+        ensures { self.new ≡ record self.old { areas = fronted_in area (record { slot = slot.0; weight = weight }) self.old.areas } }
+    {
+        let at = self.nodes.place(slot);
+        self.nodes.note(at, weight, area);
+        link_behind(&mut self.nodes, mark_of(area), at);
+        self.sizes.enter(area, weight);
+    }
+
+    /// Takes a slot out of its list, which it gives.
+    pub fn take(&mut self, slot: Slot) -> Area
+        requires { holds slot.0 self.old.areas ≡ true }
+        ensures taken { self.new ≡ record self.old { areas = without_slot slot.0 self.old.areas } }
+        ensures from { result ≡ area_of slot.0 self.old.areas }
+        ensures reserved { slot.0 < self.old.slots }
+    {
+        let at = self.nodes.place(slot);
+        let node = self.nodes.node(at);
+        unlink(&mut self.nodes, at);
+        self.sizes.leave(node.area, node.weight);
+        node.area
+    }
+}
