@@ -1,13 +1,14 @@
 -- What lists in one ring become where a node is taken out or put at a list's front.
-use Rattle.std.specs.Prelude.{slice_index, not, ◌==◌, ◌||◌, map}
-use Rattle.std.proofs.Common.{◌≡◌, ℕ, zero, suc, ◌+◌, ◌<◌, ◌≤◌, Bool, true, false, cond, List, [], ◌∷◌, ◌++◌, length, refl, sym, ◌∙◌, ap, subst, arith, append_assoc}
+use Rattle.std.specs.Prelude.{slice_index, reverse, not, ◌==◌, ◌||◌, map}
+use Rattle.std.proofs.Common.{◌≡◌, ℕ, zero, suc, ◌+◌, ◌<◌, ◌≤◌, Bool, true, false, cond, List, [], ◌∷◌, ◌++◌, length, refl, sym, ◌∙◌, ap, subst, arith, append_assoc, length-append}
 use Rattle.std.proofs.lemmas.Bool.{eqb-true, eqb-false, ne_eqb}
+use Rattle.std.proofs.lemmas.List.{reverse-append}
 use Rattle.std.proofs.lemmas.List.Elements.{filter-append}
-use Rattle.tc_model.specs.Ring.{Linked, IsAway, AreDistinct, AreBelow, IsRing, HasPlace, put_next, put_prev, cut_next, cut_prev}
+use Rattle.tc_model.specs.Ring.{Linked, IsAway, AreDistinct, AreBelow, IsRing, HasPlace, walk, put_next, put_prev, cut_next, cut_prev}
 use Rattle.tc_model.specs.Chains.{is_node, marked, IsLoop, AreChained, AreLinked, EachDistinct, fronted, without_node, is_among}
 use Rattle.tc_model.proofs.Rings.{linked_split, ring_cut, ring_put, ring_put_first, away_append, below_append, split, IsSplit}
 
-append_nil : (xs : List ℕ) → xs ++ [] ≡ xs
+pub append_nil : (xs : List ℕ) → xs ++ [] ≡ xs
 append_nil [] = refl
 append_nil (x ∷ xs) = ap (λ t. x ∷ t) (append_nil xs)
 
@@ -89,7 +90,7 @@ pub without-away : (n : ℕ) (xs : List ℕ) → IsAway n xs → without_node n 
 without-away n [] h = refl
 without-away n (x ∷ xs) h = let no : (x == n) ≡ false = ne_eqb x n (λ e. h.0 (sym e)) in rw no (ap (λ ys. x ∷ ys) (without-away n xs h.1))
 
-without-found : (n : ℕ) (us vs : List ℕ) → IsAway n us → IsAway n vs → without_node n (us ++ n ∷ vs) ≡ us ++ vs
+pub without-found : (n : ℕ) (us vs : List ℕ) → IsAway n us → IsAway n vs → without_node n (us ++ n ∷ vs) ≡ us ++ vs
 without-found n us vs a b =
     filter-append (λ x. not (is_node n x)) us (n ∷ vs) ∙ ap (λ ys. ys ++ without_node n (n ∷ vs)) (without-away n us a) ∙ ap (λ ys. us ++ ys) (here (n == n) refl)
   where
@@ -149,9 +150,30 @@ linked_last next prev a b (x ∷ y ∷ ys) l h =
     let s : Last prev b (y ∷ ys) = linked_last next prev x b (y ∷ ys) (omega arith) h.2 in
     record { others = x ∷ s.others; is = ap (λ t. x ∷ t) s.is }
 
--- without its last, a list is linked up to that
-pub linked_init : (next prev : List ℕ) (a b x : ℕ) (us : List ℕ) → Linked next prev a (us ++ x ∷ []) b → Linked next prev a us x × (slice_index prev b ≡ x)
-linked_init next prev a b x us h = let both = linked_split next prev a b x us [] h in (both.0, both.1.1)
+-- a list from its last to its first
+
+-- the node n steps back from b
+abbrev reached : ℕ → List ℕ → ℕ → ℕ
+reached zero prev b = b
+reached (suc n) prev b = slice_index prev (reached n prev b)
+
+reached_first : (n : ℕ) (prev : List ℕ) (b : ℕ) → reached n prev (slice_index prev b) ≡ slice_index prev (reached n prev b)
+reached_first zero prev b = refl
+reached_first (suc n) prev b = ap (λ x. slice_index prev x) (reached_first n prev b)
+
+walk_push : (n : ℕ) (prev : List ℕ) (b : ℕ) → walk (suc n) prev b ≡ walk n prev b ++ slice_index prev (reached n prev b) ∷ []
+walk_push zero prev b = refl
+walk_push (suc n) prev b = ap (λ t. slice_index prev b ∷ t) (walk_push n prev (slice_index prev b) ∙ ap (λ x. walk n prev (slice_index prev b) ++ slice_index prev x ∷ []) (reached_first n prev b))
+
+before_first : (next prev : List ℕ) (a b : ℕ) (xs : List ℕ) → Linked next prev a xs b → slice_index prev (reached (length xs) prev b) ≡ a
+before_first next prev a b [] h = h.1
+before_first next prev a b (x ∷ xs) h = ap (λ y. slice_index prev y) (before_first next prev x b xs h.2) ∙ h.1
+
+pub walk_back : (next prev : List ℕ) (a b : ℕ) (xs : List ℕ) → Linked next prev a xs b → walk (length xs) prev b ≡ reverse xs
+walk_back next prev a b [] h = refl
+walk_back next prev a b (x ∷ xs) h =
+    walk_push (length xs) prev b ∙ ap (λ t. t ++ slice_index prev (reached (length xs) prev b) ∷ []) (walk_back next prev x b xs h.2)
+      ∙ ap (λ y. reverse xs ++ y ∷ []) (before_first next prev x b xs h.2) ∙ sym (reverse-append (x ∷ []) xs)
 
 -- a node's neighbours have places too
 
@@ -188,3 +210,27 @@ pub node_place : (next prev : List ℕ) (n : ℕ) (xs : List ℕ) (xss : List (L
 node_place next prev n xs xss held ring =
     let f : Found n (xs ++ marked 1 xss) = find n (xs ++ marked 1 xss) held in
     has_place next prev (0 ∷ f.before) n f.behind (subst (λ r. IsLoop next prev (0 ∷ r)) f.is ring)
+
+-- more places change no ring
+
+pub index-grown : (xs zs : List ℕ) (i : ℕ) → i < length xs → slice_index (xs ++ zs) i ≡ slice_index xs i
+index-grown [] zs i h = absurd (omega arith)
+index-grown (x ∷ xs) zs zero h = refl
+index-grown (x ∷ xs) zs (suc i) h = index-grown xs zs i (omega arith)
+
+linked-grown : (next prev ys zs : List ℕ) (a b : ℕ) (xs : List ℕ) → a < length next → b < length prev → AreBelow (length next) xs → length prev ≡ length next → Linked next prev a xs b → Linked (next ++ ys) (prev ++ zs) a xs b
+linked-grown next prev ys zs a b [] l m h e k = (index-grown next ys a l ∙ k.0, index-grown prev zs b m ∙ k.1)
+linked-grown next prev ys zs a b (x ∷ xs) l m h e k =
+    (index-grown next ys a l ∙ k.0, index-grown prev zs x (omega (arith, h.0)) ∙ k.1, linked-grown next prev ys zs x b xs h.0 m h.1 e k.2)
+
+below_more : (m n : ℕ) (xs : List ℕ) → m ≤ n → AreBelow m xs → AreBelow n xs
+below_more m n [] l h = tt
+below_more m n (x ∷ xs) l h = (omega (arith, h.0), below_more m n xs l h.1)
+
+pub ring_grown : (next prev ys zs : List ℕ) (x : ℕ) (xs : List ℕ) → length ys ≡ length zs → IsRing next prev x xs → IsRing (next ++ ys) (prev ++ zs) x xs
+ring_grown next prev ys zs x xs e ring = record {
+  linked = linked-grown next prev ys zs x x xs ring.below.0 (omega (arith, ring.below.0, ring.long)) ring.below.1 ring.long ring.linked;
+  distinct = ring.distinct;
+  below = below_more (length next) (length (next ++ ys)) (x ∷ xs) (omega (arith, length-append next ys)) ring.below;
+  long = omega (arith, ring.long, length-append next ys, length-append prev zs);
+}

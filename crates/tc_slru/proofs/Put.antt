@@ -1,9 +1,9 @@
 -- A slot comes to the front of a list.
 use Rattle.std.specs.Prelude.{slice_index, slice_set, ◌||◌, map}
-use Rattle.std.proofs.Common.{◌≡◌, ◌≢◌, ℕ, zero, suc, ◌+◌, ◌-◌, ◌<◌, ◌≤◌, ◌^◌, Bool, true, false, List, [], ◌∷◌, ◌++◌, length, refl, sym, ◌∙◌, ap, subst, arith, length-append}
+use Rattle.std.proofs.Common.{◌≡◌, ℕ, zero, suc, ◌+◌, ◌-◌, ◌<◌, false, List, [], ◌∷◌, ◌++◌, length, refl, sym, ◌∙◌, ap, subst, arith, length-append}
 use Rattle.tc_model.specs.Areas.{Areas, is_in}
 use Rattle.tc_model.specs.Ring.{IsAway, walk, put_next, put_prev}
-use Rattle.tc_model.specs.Chains.{marked, is_among}
+use Rattle.tc_model.specs.Chains.{marked}
 use Rattle.tc_model.proofs.Rings.{length-slice_set, linked_walk, away_both}
 use Rattle.tc_model.proofs.Chained.{chained_put, are_linked, away_out, mark_place}
 use Rattle.tc_model.proofs.Counted.{ring_length}
@@ -11,7 +11,7 @@ use Rattle.tc_slru.specs.Links.{Links}
 use Rattle.tc_slru.specs.Sizes.{size_in, sizes_with}
 use Rattle.tc_slru.specs.Slots.{Placed, Shown, is_slot, holds}
 use Rattle.tc_slru.specs.InAreas.{fronted_in, mark_of}
-use Rattle.tc_slru.specs.Kept.{placed_of, placed_areas, lists_of, nodes_by, shown_by, AreAt, AreKept, AreNodes}
+use Rattle.tc_slru.specs.Kept.{placed_of, placed_areas, lists_of, nodes_by, shown_by, AreNodes}
 use Rattle.tc_slru.specs.declared.area.Area.{Area}
 use Rattle.tc_slru.specs.declared.area.Area.TheVariants.{Window, Probation, Protected}
 use Rattle.tc_slru.specs.declared.area.Sizes.{Sizes}

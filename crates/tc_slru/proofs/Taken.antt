@@ -1,20 +1,19 @@
 -- A slot leaves its list.
-use Rattle.std.specs.Prelude.{slice_index, slice_set, ◌==◌, ◌||◌, map, sum_by}
-use Rattle.std.proofs.Common.{◌≡◌, ◌≢◌, ℕ, ◌+◌, ◌-◌, ◌<◌, ◌≤◌, Bool, true, false, cond, List, [], ◌∷◌, ◌++◌, length, refl, sym, ◌∙◌, ap, subst, arith}
+use Rattle.std.specs.Prelude.{slice_index, ◌==◌, ◌||◌}
+use Rattle.std.proofs.Common.{◌≡◌, ℕ, ◌+◌, ◌-◌, ◌<◌, ◌≤◌, Bool, true, false, List, [], ◌∷◌, ◌++◌, length, refl, sym, ◌∙◌, ap, subst, arith}
 use Rattle.std.proofs.lemmas.Bool.{ne_eqb}
-use Rattle.tc_model.specs.Areas.{Areas, is_in}
-use Rattle.tc_model.specs.Ring.{AreDistinct, HasPlace, cut_next, cut_prev}
+use Rattle.tc_model.specs.Areas.{Areas}
+use Rattle.tc_model.specs.Ring.{HasPlace, cut_next, cut_prev}
 use Rattle.tc_model.specs.Chains.{marked, is_among, without_node}
 use Rattle.tc_model.proofs.Rings.{length-slice_set}
 use Rattle.tc_model.proofs.Chained.{chained_cut, among-append, each_distinct, node_place}
 use Rattle.tc_slru.specs.Links.{Links, area_at}
 use Rattle.tc_slru.specs.Sizes.{size_in, sizes_without}
-use Rattle.tc_slru.specs.Slots.{Shown, is_slot, weigh, holds, without_slot}
+use Rattle.tc_slru.specs.Slots.{Shown, holds, without_slot}
 use Rattle.tc_slru.specs.InAreas.{area_of}
-use Rattle.tc_slru.specs.Kept.{placed_of, placed_areas, lists_of, nodes_by, shown_by, AreAt, AreKept, AreNodes}
+use Rattle.tc_slru.specs.Kept.{placed_areas, lists_of, nodes_by, shown_by, AreNodes}
 use Rattle.tc_slru.specs.declared.area.Area.{Area}
 use Rattle.tc_slru.specs.declared.area.Area.TheVariants.{Window, Probation, Protected}
-use Rattle.tc_slru.specs.declared.area.Size.{Size}
 use Rattle.tc_slru.specs.declared.area.Sizes.{Sizes}
 use Rattle.tc_slru.proofs.Members.{in-placed, placed-without, one_less, OneLess, kept_left, kept_others, not_among}
 use Rattle.tc_slru.proofs.Put.{areas_by, same_areas, same_shown, nodes_again}
@@ -23,7 +22,7 @@ use Rattle.tc_slru.proofs.Put.{areas_by, same_areas, same_shown, nodes_again}
 abbrev is_held : ℕ → Areas ℕ → Bool
 is_held n a = is_among n a.window || (is_among n a.probation || is_among n a.protected)
 
-abbrev without_in : ℕ → Areas ℕ → Areas ℕ
+abbrev pub without_in : ℕ → Areas ℕ → Areas ℕ
 without_in n a = areas_by (without_node n a.window) (without_node n a.probation) (without_node n a.protected)
 
 -- the links once a node went
@@ -114,7 +113,7 @@ kept_cut Protected l s a n big at held k =
       areas_long = k.areas_long ∙ sym (length-cut l.next l.prev n);
     }
 
-placed-without_in : (l : Links) (s : Sizes) (a : Areas ℕ) (slot : ℕ) → AreNodes l s a → placed_areas l.weights (without_in (slot + 3) a) ≡ without_slot slot (placed_areas l.weights a)
+pub placed-without_in : (l : Links) (s : Sizes) (a : Areas ℕ) (slot : ℕ) → AreNodes l s a → placed_areas l.weights (without_in (slot + 3) a) ≡ without_slot slot (placed_areas l.weights a)
 placed-without_in l s a slot k = same_areas _ _ _ _ _ _
     (placed-without Window l.areas l.weights slot a.window k.window.members)
     (placed-without Probation l.areas l.weights slot a.probation k.probation.members)

@@ -1,9 +1,10 @@
 -- The lists by the area that they are.
-use Rattle.std.specs.Prelude.{◌≡◌, ℕ, cond, List, [], ◌∷◌, ◌++◌}
+use Rattle.std.specs.Prelude.{◌≡◌, ℕ, cond, List, [], ◌∷◌, ◌++◌, length, sum_by}
 use Rattle.tc_model.specs.Areas.{Areas, is_in}
-use Rattle.tc_slru.specs.Slots.{Placed, is_slot, without_slot}
+use Rattle.tc_slru.specs.Slots.{Placed, is_slot, weigh, without_slot}
 use Rattle.tc_slru.specs.declared.area.Area.{Area}
 use Rattle.tc_slru.specs.declared.area.Area.TheVariants.{Window, Probation, Protected}
+use Rattle.tc_slru.specs.declared.area.Size.{Size}
 
 -- the list of an area
 abbrev pub list_in : {A : Type 0} → Area → Areas A → List A
@@ -42,3 +43,12 @@ abbrev pub end_of : Area → ℕ
 end_of Window = 1
 end_of Probation = 2
 end_of Protected = 0
+
+-- a kept size is that of the list
+pub record IsSize (size : Size) (xs : List Placed) : Type 0 where
+  pub count : size.count ≡ length xs
+  pub weight : size.weight ≡ sum_by weigh xs
+
+-- no lists yet
+abbrev pub no_areas : Areas Placed
+no_areas = record { window = []; probation = []; protected = [] }

@@ -5,3 +5,4 @@ pub mod Links
 pub mod Nodes
 pub mod Sizes
 pub mod Slots
+pub mod Victims

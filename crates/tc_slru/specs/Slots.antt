@@ -1,5 +1,5 @@
 -- What callers see of the lists: three areas of slots, front to back, and what each slot weighs.
-use Rattle.std.specs.Prelude.{ℕ, ◌==◌, Bool, ◌||◌, ◌∷◌}
+use Rattle.std.specs.Prelude.{ℕ, ◌==◌, Bool, ◌||◌}
 use Rattle.tc_model.specs.Areas.{Areas, is_in, without}
 
 -- a slot, and what it weighs

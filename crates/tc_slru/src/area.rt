@@ -26,6 +26,12 @@ pub struct Sizes {
 }
 
 impl Size {
+    /// The size of an empty list.
+    pub const NONE: Size = Size {
+        count: 0,
+        weight: 0,
+    };
+
     fn grow(&mut self, weight: u64)
         requires count { self.old.count + 1 < 2 ^ 64 }
         requires weight { self.old.weight + weight < 2 ^ 64 }

@@ -3,13 +3,14 @@
 //! The ring is: mark 0, the window's nodes, mark 1, probation's nodes, mark 2, protected's nodes, and back to mark 0.
 //! A list's front is behind its mark, and its last before the next mark, so no list is ever empty in the ring and
 //! no call has a case for one.
-ghost use Rattle.std.specs.Prelude.{◌≡◌, ◌+◌, ◌-◌, ◌<◌, ◌≤◌, ◌^◌, true, false, length, max, slice_index, is_ok, OnErr, sum_by, if◌then◌else◌};
+ghost use Rattle.std.specs.Prelude.{◌≡◌, ℕ, reverse, ◌+◌, ◌-◌, ◌<◌, ◌≤◌, ◌^◌, true, false, length, max, slice_index, is_ok, OnErr, sum_by, if◌then◌else◌};
 ghost use Rattle.tc_model.specs.Areas.{total};
 ghost use Rattle.tc_model.specs.Ring.{HasPlace, put_next, put_prev, cut_next, cut_prev};
 ghost use Rattle.tc_slru.specs.Slots.{weigh, holds, without_slot};
-ghost use Rattle.tc_slru.specs.InAreas.{list_in, fronted_in, area_of, IsLast, mark_of, end_of};
+ghost use Rattle.tc_slru.specs.InAreas.{list_in, fronted_in, area_of, IsLast, IsSize, no_areas, mark_of, end_of};
+ghost use Rattle.tc_slru.specs.Victims.{Counts, left_over};
 
-use crate::area::{Area, Sizes};
+use crate::area::{Area, Size, Sizes};
 use crate::nodes::{MARKS, Nodes};
 use crate::slot::Slot;
 use std::alloc::Global;
@@ -89,6 +90,37 @@ impl Model for LinkedAreas {
 }
 
 impl LinkedAreas {
+    /// Empty lists, with room for no slot.
+    pub fn new(alloc: Global) -> LinkedAreas
+        ensures { result ≡ record { slots = 0; areas = no_areas } }
+    {
+        LinkedAreas {
+            nodes: Nodes::new(alloc),
+            sizes: Sizes {
+                window: Size::NONE,
+                probation: Size::NONE,
+                protected: Size::NONE,
+            },
+        }
+    }
+
+    /// Room for all slots below this. A refusal changes nothing.
+    pub fn reserve(&mut self, slots: usize) -> Result<(), NoMemory>
+        ensures reserved { self.new ≡ (if is_ok result then record self.old { slots = max self.old.slots slots } else self.old) }
+        ensures refused { OnErr result (self.old.slots < slots) }
+    {
+        self.nodes.reserve(slots)
+    }
+
+    /// How many each list holds and what they weigh.
+    pub fn sizes(&self) -> Sizes
+        ensures window { IsSize result.window self.now.areas.window }
+        ensures probation { IsSize result.probation self.now.areas.probation }
+        ensures protected { IsSize result.protected self.now.areas.protected }
+    {
+        self.sizes
+    }
+
     /// Puts a slot at the front of a list.
     pub fn put(&mut self, area: Area, slot: Slot, weight: u64)
         requires reserved { slot.0 < self.old.slots }
@@ -114,5 +146,39 @@ impl LinkedAreas {
         unlink(&mut self.nodes, at);
         self.sizes.leave(node.area, node.weight);
         node.area
+    }
+
+    /// The last of a list.
+    pub fn last(&self, area: Area) -> Held
+        requires { 0 < length (list_in area self.now.areas) }
+        ensures { IsLast (record { slot = result.slot.0; weight = result.weight }) area self.now.areas }
+    {
+        let at = self.nodes.node(end_of(area)).prev;
+        let node = self.nodes.node(at);
+        Held {
+            slot: Slot(at - MARKS),
+            weight: node.weight,
+        }
+    }
+
+    /// What is left of a need once the last of a list are counted, as few as there must be; `None` where one of them
+    /// was not seen less often than `level`.
+    pub fn shortfall<F: Fn(Slot) -> u8>(&self, area: Area, freq: &F, level: u8, mut need: u64) -> Option<u64>
+        requires { F.IsAlwaysCallable freq.now }
+        ensures { (seen : ℕ → ℕ) → Counts (F.post freq.now) seen → result ≡ left_over seen level need (reverse (list_in area self.now.areas)) }
+    {
+        let mut at = end_of(area);
+        for _victim in 0..self.sizes.of(area).count {
+            if need == 0 {
+                return Some(0);
+            }
+            at = self.nodes.node(at).prev;
+            let node = self.nodes.node(at);
+            if freq(Slot(at - MARKS)) >= level {
+                return None;
+            }
+            need = need.saturating_sub(node.weight);
+        }
+        Some(need)
     }
 }

@@ -1,7 +1,6 @@
-use Rattle.std.proofs.Common.{◌≡◌, ◌<◌, length, arith, ◌∙◌, ap, sym, subst}
-use Rattle.tc_slru.specs.Slots.{Placed, Shown}
+use Rattle.std.proofs.Common.{arith, ◌∙◌, ap}
+use Rattle.tc_slru.specs.Slots.{Shown}
 use Rattle.tc_slru.specs.InAreas.{fronted_in}
-use Rattle.tc_slru.specs.Links.{Links}
 use Rattle.tc_slru.proofs.Put.{put_by, mark_within, count_fits}
 use Rattle.tc_slru.proofs.linked_areas.LinkedAreas.put.Goals as goal
 

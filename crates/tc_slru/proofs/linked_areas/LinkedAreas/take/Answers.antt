@@ -1,4 +1,4 @@
-use Rattle.std.proofs.Common.{◌≡◌, ◌<◌, arith, ◌∙◌, ap, sym, subst, rules}
+use Rattle.std.proofs.Common.{arith, ◌∙◌, ap}
 use Rattle.tc_slru.specs.Slots.{Shown, without_slot}
 use Rattle.tc_slru.specs.InAreas.{area_of}
 use Rattle.tc_slru.proofs.Taken.{held_shown, taken_by}
