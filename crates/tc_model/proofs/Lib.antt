@@ -18,5 +18,6 @@ pub mod Within
 pub mod Totals
 pub mod Accessed
 pub mod Steps
+pub mod Overtaking
 pub mod FirstPlace
 mod WorkedRun

@@ -1,5 +1,5 @@
 -- A slot comes to the front of a list.
-use Rattle.std.specs.Prelude.{slice_index, slice_set, ◌||◌, map}
+use Rattle.std.specs.Prelude.{Option, Some, slice_index, slice_set, ◌||◌, map}
 use Rattle.std.proofs.Common.{◌≡◌, ℕ, zero, suc, ◌+◌, ◌-◌, ◌<◌, false, List, [], ◌∷◌, ◌++◌, length, refl, sym, ◌∙◌, ap, subst, arith, length-append}
 use Rattle.tc_model.specs.Areas.{Areas, is_in}
 use Rattle.tc_model.specs.Ring.{IsAway, walk, put_next, put_prev}
@@ -15,7 +15,7 @@ use Rattle.tc_slru.specs.Kept.{placed_of, placed_areas, lists_of, nodes_by, show
 use Rattle.tc_slru.specs.declared.area.Area.{Area}
 use Rattle.tc_slru.specs.declared.area.Area.TheVariants.{Window, Probation, Protected}
 use Rattle.tc_slru.specs.declared.area.Sizes.{Sizes}
-use Rattle.tc_slru.proofs.Members.{or_false, in-placed, kept_fronted, kept_elsewhere, placed-fronted, placed-away}
+use Rattle.tc_slru.proofs.Members.{or_false, in-placed, kept_fronted, kept_elsewhere, placed-fronted, placed-away, free_fronted}
 
 abbrev pub areas_by : {A : Type 0} → List A → List A → List A → Areas A
 areas_by w p q = record { window = w; probation = p; protected = q }
@@ -62,13 +62,13 @@ links_put area n w l = record {
   next = put_next l.next (mark_of area) n;
   prev = put_prev l.next l.prev (mark_of area) n;
   weights = slice_set l.weights n w;
-  areas = slice_set l.areas n area;
+  areas = slice_set l.areas n (Some area);
 }
 
 long_next : (l : Links) (m n : ℕ) → length (put_next l.next m n) ≡ length l.next
 long_next l m n = length-slice_set (slice_set l.next m n) n (slice_index l.next m) ∙ length-slice_set l.next m n
 
-length-set_area : (hs : List Area) (i : ℕ) (h : Area) → length (slice_set hs i h) ≡ length hs
+pub length-set_area : (hs : List (Option Area)) (i : ℕ) (h : Option Area) → length (slice_set hs i h) ≡ length hs
 length-set_area [] i h = refl
 length-set_area (x ∷ xs) zero h = refl
 length-set_area (x ∷ xs) (suc i) h = ap suc (length-set_area xs i h)
@@ -78,26 +78,29 @@ nodes_put : (area : Area) (l : Links) (s : Sizes) (a : Areas ℕ) (slot w : ℕ)
 nodes_put Window l s a slot w within out k = record {
   ring = chained_put l.next l.prev 0 (slot + 3) (lists_of a) (omega arith) within (out_of_ring (slot + 3) a (omega arith) out) k.ring;
   window = kept_fronted Window l.weights l.areas s.window slot w a.window (omega (arith, k.weights_long)) (omega (arith, k.areas_long)) out.window k.window;
-  probation = kept_elsewhere Probation Window l.weights l.areas s.probation (slot + 3) w a.probation out.probation k.probation;
-  protected = kept_elsewhere Protected Window l.weights l.areas s.protected (slot + 3) w a.protected out.protected k.protected;
+  probation = kept_elsewhere Probation (Some Window) l.weights l.areas s.probation (slot + 3) w a.probation out.probation k.probation;
+  protected = kept_elsewhere Protected (Some Window) l.weights l.areas s.protected (slot + 3) w a.protected out.protected k.protected;
   weights_long = length-slice_set l.weights (slot + 3) w ∙ k.weights_long ∙ sym (long_next l 0 (slot + 3));
-  areas_long = length-set_area l.areas (slot + 3) Window ∙ k.areas_long ∙ sym (long_next l 0 (slot + 3));
+  free = λ m big. free_fronted Window l.areas (slot + 3) m a (k.free m big);
+  areas_long = length-set_area l.areas (slot + 3) (Some Window) ∙ k.areas_long ∙ sym (long_next l 0 (slot + 3));
 }
 nodes_put Probation l s a slot w within out k = record {
   ring = chained_put l.next l.prev 1 (slot + 3) (lists_of a) (omega arith) within (out_of_ring (slot + 3) a (omega arith) out) k.ring;
-  window = kept_elsewhere Window Probation l.weights l.areas s.window (slot + 3) w a.window out.window k.window;
+  window = kept_elsewhere Window (Some Probation) l.weights l.areas s.window (slot + 3) w a.window out.window k.window;
   probation = kept_fronted Probation l.weights l.areas s.probation slot w a.probation (omega (arith, k.weights_long)) (omega (arith, k.areas_long)) out.probation k.probation;
-  protected = kept_elsewhere Protected Probation l.weights l.areas s.protected (slot + 3) w a.protected out.protected k.protected;
+  protected = kept_elsewhere Protected (Some Probation) l.weights l.areas s.protected (slot + 3) w a.protected out.protected k.protected;
   weights_long = length-slice_set l.weights (slot + 3) w ∙ k.weights_long ∙ sym (long_next l 1 (slot + 3));
-  areas_long = length-set_area l.areas (slot + 3) Probation ∙ k.areas_long ∙ sym (long_next l 1 (slot + 3));
+  free = λ m big. free_fronted Probation l.areas (slot + 3) m a (k.free m big);
+  areas_long = length-set_area l.areas (slot + 3) (Some Probation) ∙ k.areas_long ∙ sym (long_next l 1 (slot + 3));
 }
 nodes_put Protected l s a slot w within out k = record {
   ring = chained_put l.next l.prev 2 (slot + 3) (lists_of a) (omega arith) within (out_of_ring (slot + 3) a (omega arith) out) k.ring;
-  window = kept_elsewhere Window Protected l.weights l.areas s.window (slot + 3) w a.window out.window k.window;
-  probation = kept_elsewhere Probation Protected l.weights l.areas s.probation (slot + 3) w a.probation out.probation k.probation;
+  window = kept_elsewhere Window (Some Protected) l.weights l.areas s.window (slot + 3) w a.window out.window k.window;
+  probation = kept_elsewhere Probation (Some Protected) l.weights l.areas s.probation (slot + 3) w a.probation out.probation k.probation;
   protected = kept_fronted Protected l.weights l.areas s.protected slot w a.protected (omega (arith, k.weights_long)) (omega (arith, k.areas_long)) out.protected k.protected;
   weights_long = length-slice_set l.weights (slot + 3) w ∙ k.weights_long ∙ sym (long_next l 2 (slot + 3));
-  areas_long = length-set_area l.areas (slot + 3) Protected ∙ k.areas_long ∙ sym (long_next l 2 (slot + 3));
+  free = λ m big. free_fronted Protected l.areas (slot + 3) m a (k.free m big);
+  areas_long = length-set_area l.areas (slot + 3) (Some Protected) ∙ k.areas_long ∙ sym (long_next l 2 (slot + 3));
 }
 
 placed_put : (area : Area) (a : Areas ℕ) (ws : List ℕ) (slot w : ℕ) → slot + 3 < length ws → IsOut (slot + 3) a
@@ -127,12 +130,12 @@ put area l s slot w within free k =
 
 -- the same, by the steps of the code
 pub put_by : (area : Area) (l : Links) (s : Sizes) (slot w at mark : ℕ) (noted m : Links) (t : Sizes) → at ≡ slot + 3 → mark ≡ mark_of area
-  → noted ≡ record l { weights = slice_set l.weights at w; areas = slice_set l.areas at area }
+  → noted ≡ record l { weights = slice_set l.weights at w; areas = slice_set l.areas at (Some area) }
   → m ≡ record noted { next = put_next noted.next mark at; prev = put_prev noted.next noted.prev mark at } → t ≡ sizes_with area w s
   → slot < (shown_by l s).slots → holds slot (shown_by l s).areas ≡ false → AreNodes l s (nodes_by l.next s) → IsPut area slot w l s m t
 put_by area l s slot w at mark noted m t e_at e_mark e_noted e_m e_t within free k =
     let linked : Links → ℕ → ℕ → Links = λ (x : Links) (i j : ℕ). record x { next = put_next x.next i j; prev = put_prev x.next x.prev i j } in
-    let note : ℕ → Links = λ (j : ℕ). record l { weights = slice_set l.weights j w; areas = slice_set l.areas j area } in
+    let note : ℕ → Links = λ (j : ℕ). record l { weights = slice_set l.weights j w; areas = slice_set l.areas j (Some area) } in
     let is : m ≡ links_put area (slot + 3) w l
       = e_m ∙ ap (λ (x : Links). linked x mark at) e_noted ∙ ap (λ (i : ℕ). linked (note at) i at) e_mark ∙ ap (λ (j : ℕ). linked (note j) (mark_of area) j) e_at in
     subst (λ (x : Links). IsPut area slot w l s x t) (sym is)

@@ -1,5 +1,5 @@
 -- More room changes no list.
-use Rattle.std.specs.Prelude.{replicate, map, max, sum_by, if◌then◌else◌}
+use Rattle.std.specs.Prelude.{Option, None, replicate, map, max, sum_by, if◌then◌else◌}
 use Rattle.std.proofs.Common.{◌≡◌, ℕ, zero, suc, ◌+◌, ◌-◌, ◌<◌, Bool, true, false, List, [], ◌∷◌, ◌++◌, length, refl, sym, ◌∙◌, ap, subst, arith, length-append}
 use Rattle.tc_model.specs.Areas.{Areas}
 use Rattle.tc_model.specs.Ring.{AreBelow}
@@ -12,6 +12,7 @@ use Rattle.tc_slru.specs.declared.area.Area.{Area}
 use Rattle.tc_slru.specs.declared.area.Area.TheVariants.{Window, Probation, Protected}
 use Rattle.tc_slru.specs.declared.area.Size.{Size}
 use Rattle.tc_slru.specs.declared.area.Sizes.{Sizes}
+use Rattle.tc_slru.proofs.Members.{free_grown}
 use Rattle.tc_slru.proofs.Put.{same_areas, same_shown, nodes_again}
 use Rattle.tc_slru.proofs.Standing.{standing}
 
@@ -19,16 +20,16 @@ length-replicate_own : {A : Type 0} (n : ℕ) (x : A) → length (replicate n x)
 length-replicate_own zero x = refl
 length-replicate_own (suc n) x = ap suc (length-replicate_own n x)
 
-length-grown : (hs gs : List Area) → length (hs ++ gs) ≡ length hs + length gs
+length-grown : (hs gs : List (Option Area)) → length (hs ++ gs) ≡ length hs + length gs
 length-grown [] gs = omega arith
 length-grown (h ∷ hs) gs = omega (arith, length-grown hs gs)
 
-area_at-grown : (hs gs : List Area) (n : ℕ) → n < length hs → area_at (hs ++ gs) n ≡ area_at hs n
+area_at-grown : (hs gs : List (Option Area)) (n : ℕ) → n < length hs → area_at (hs ++ gs) n ≡ area_at hs n
 area_at-grown [] gs n h = absurd (omega arith)
 area_at-grown (x ∷ xs) gs zero h = refl
 area_at-grown (x ∷ xs) gs (suc n) h = area_at-grown xs gs n (omega arith)
 
-at-grown : (area : Area) (hs gs : List Area) (xs : List ℕ) → AreBelow (length hs) xs → AreAt area hs xs → AreAt area (hs ++ gs) xs
+at-grown : (area : Area) (hs gs : List (Option Area)) (xs : List ℕ) → AreBelow (length hs) xs → AreAt area hs xs → AreAt area (hs ++ gs) xs
 at-grown area hs gs [] b k = tt
 at-grown area hs gs (x ∷ xs) b k = (k.0, area_at-grown hs gs x b.0 ∙ k.1, at-grown area hs gs xs b.1 k.2)
 
@@ -36,7 +37,7 @@ placed-grown : (ws zs xs : List ℕ) → AreBelow (length ws) xs → map (placed
 placed-grown ws zs [] b = refl
 placed-grown ws zs (x ∷ xs) b = rw (index-grown ws zs x b.0, placed-grown ws zs xs b.1) refl
 
-kept-grown : (area : Area) (ws zs : List ℕ) (hs gs : List Area) (size : Size) (xs : List ℕ) → AreBelow (length ws) xs → AreBelow (length hs) xs → AreKept area ws hs size xs → AreKept area (ws ++ zs) (hs ++ gs) size xs
+kept-grown : (area : Area) (ws zs : List ℕ) (hs gs : List (Option Area)) (size : Size) (xs : List ℕ) → AreBelow (length ws) xs → AreBelow (length hs) xs → AreKept area ws hs size xs → AreKept area (ws ++ zs) (hs ++ gs) size xs
 kept-grown area ws zs hs gs size xs b d k = record {
   count = k.count;
   weight = k.weight ∙ sym (ap (λ (ps : List Placed). sum_by weigh ps) (placed-grown ws zs xs b));
@@ -46,7 +47,7 @@ kept-grown area ws zs hs gs size xs b d k = record {
 nodes_grown : (n : ℕ) (l : Links) (s : Sizes) (a : Areas ℕ) → AreNodes l s a → AreNodes (grown n l) s a
 nodes_grown n l s a k =
     let zs : List ℕ = replicate (n - length l.next) 0 in
-    let gs : List Area = replicate (n - length l.next) Window in
+    let gs : List (Option Area) = replicate (n - length l.next) None in
     let low : (area : Area) → AreBelow (length l.weights) (list_in area a) = λ area. subst (λ m. AreBelow m (list_in area a)) (sym k.weights_long) (standing l s a k area).below in
     let lower : (area : Area) → AreBelow (length l.areas) (list_in area a) = λ area. subst (λ m. AreBelow m (list_in area a)) (sym k.areas_long) (standing l s a k area).below in
     record {
@@ -55,7 +56,8 @@ nodes_grown n l s a k =
       probation = kept-grown Probation l.weights zs l.areas gs s.probation a.probation (low Probation) (lower Probation) k.probation;
       protected = kept-grown Protected l.weights zs l.areas gs s.protected a.protected (low Protected) (lower Protected) k.protected;
       weights_long = omega (arith, length-append l.weights zs, length-append l.next zs, k.weights_long);
-      areas_long = omega (arith, length-grown l.areas gs, length-append l.next zs, k.areas_long, length-replicate_own (n - length l.next) Window, length-replicate_own {A = ℕ} (n - length l.next) 0);
+      free = λ m big h. free_grown l.areas (n - length l.next) m (k.free m big h);
+      areas_long = omega (arith, length-grown l.areas gs, length-append l.next zs, k.areas_long, length-replicate_own {A = Option Area} (n - length l.next) None, length-replicate_own {A = ℕ} (n - length l.next) 0);
     }
 
 -- the kept lists and the shown ones

@@ -1,5 +1,5 @@
 -- What the ring says of the list of one area, and of its last.
-use Rattle.std.specs.Prelude.{slice_index, map}
+use Rattle.std.specs.Prelude.{Option, Some, slice_index, map}
 use Rattle.std.proofs.Common.{◌≡◌, ◌≢◌, ℕ, ◌+◌, ◌-◌, suc, ◌<◌, ◌≤◌, List, [], ◌∷◌, ◌++◌, length, refl, sym, ◌∙◌, ap, subst, arith}
 use Rattle.tc_model.specs.Areas.{Areas}
 use Rattle.tc_model.specs.Ring.{Linked, AreDistinct, AreBelow}
@@ -73,17 +73,17 @@ placed_in Protected ws a = refl
 
 -- the last
 
-last_at : (area : Area) (hs : List Area) (us : List ℕ) (x : ℕ) → AreAt area hs (us ++ x ∷ []) → (2 < x) × (area_at hs x ≡ area)
+last_at : (area : Area) (hs : List (Option Area)) (us : List ℕ) (x : ℕ) → AreAt area hs (us ++ x ∷ []) → (2 < x) × (area_at hs x ≡ Some area)
 last_at area hs [] x h = (h.0, h.1)
 last_at area hs (u ∷ us) x h = last_at area hs us x h.2
 
 without_last_node : (us : List ℕ) (x : ℕ) → AreDistinct (us ++ x ∷ []) → without_node x (us ++ x ∷ []) ≡ us
 without_last_node us x d = let p : IsSplit us x [] = split us x [] d in without-found x us [] p.before p.behind ∙ append_nil us
 
-elsewhere : (area other : Area) (hs : List Area) (n : ℕ) (xs : List ℕ) → AreAt area hs xs → area_at hs n ≡ other → other ≢ area → without_node n xs ≡ xs
+elsewhere : (area other : Area) (hs : List (Option Area)) (n : ℕ) (xs : List ℕ) → AreAt area hs xs → area_at hs n ≡ Some other → other ≢ area → without_node n xs ≡ xs
 elsewhere area other hs n xs k o ne = without-away n xs (away_out n xs (not_among area other hs n xs k o ne))
 
-left_behind : (area : Area) (l : Links) (s : Sizes) (a : Areas ℕ) (others : List ℕ) (at : ℕ) → list_in area a ≡ others ++ at ∷ [] → without_node at (list_in area a) ≡ others → area_at l.areas at ≡ area → AreNodes l s a
+left_behind : (area : Area) (l : Links) (s : Sizes) (a : Areas ℕ) (others : List ℕ) (at : ℕ) → list_in area a ≡ others ++ at ∷ [] → without_node at (list_in area a) ≡ others → area_at l.areas at ≡ Some area → AreNodes l s a
   → placed_areas l.weights (without_in at a) ≡ with_list area (map (placed_of l.weights) others) (placed_areas l.weights a)
 left_behind Window l s a others at is less home k = same_areas _ _ _ _ _ _
     (ap (λ xs. map (placed_of l.weights) xs) less)

@@ -1,5 +1,5 @@
 -- A slot leaves its list.
-use Rattle.std.specs.Prelude.{slice_index, ◌==◌, ◌||◌}
+use Rattle.std.specs.Prelude.{is_some, Some, None, slice_set, slice_index, ◌==◌, ◌||◌}
 use Rattle.std.proofs.Common.{◌≡◌, ℕ, ◌+◌, ◌-◌, ◌<◌, ◌≤◌, Bool, true, false, List, [], ◌∷◌, ◌++◌, length, refl, sym, ◌∙◌, ap, subst, arith}
 use Rattle.std.proofs.lemmas.Bool.{ne_eqb}
 use Rattle.tc_model.specs.Areas.{Areas}
@@ -11,23 +11,19 @@ use Rattle.tc_slru.specs.Links.{Links, area_at}
 use Rattle.tc_slru.specs.Sizes.{size_in, sizes_without}
 use Rattle.tc_slru.specs.Slots.{Shown, holds, without_slot}
 use Rattle.tc_slru.specs.InAreas.{area_of}
-use Rattle.tc_slru.specs.Kept.{placed_areas, lists_of, nodes_by, shown_by, AreNodes}
+use Rattle.tc_slru.specs.Kept.{is_held, placed_areas, lists_of, nodes_by, shown_by, AreNodes}
 use Rattle.tc_slru.specs.declared.area.Area.{Area}
 use Rattle.tc_slru.specs.declared.area.Area.TheVariants.{Window, Probation, Protected}
 use Rattle.tc_slru.specs.declared.area.Sizes.{Sizes}
-use Rattle.tc_slru.proofs.Members.{in-placed, placed-without, one_less, OneLess, kept_left, kept_others, not_among}
-use Rattle.tc_slru.proofs.Put.{areas_by, same_areas, same_shown, nodes_again}
-
--- the node stands in one of the lists
-abbrev is_held : ℕ → Areas ℕ → Bool
-is_held n a = is_among n a.window || (is_among n a.probation || is_among n a.protected)
+use Rattle.tc_slru.proofs.Members.{in-placed, placed-without, one_less, OneLess, kept_left, kept_others, area_among, not_among, free_without}
+use Rattle.tc_slru.proofs.Put.{areas_by, same_areas, same_shown, nodes_again, length-set_area}
 
 abbrev pub without_in : ℕ → Areas ℕ → Areas ℕ
 without_in n a = areas_by (without_node n a.window) (without_node n a.probation) (without_node n a.protected)
 
--- the links once a node went
+-- the links once a node went, and is noted as free
 abbrev pub links_cut : ℕ → Links → Links
-links_cut n l = record l { next = cut_next l.next l.prev n; prev = cut_prev l.next l.prev n }
+links_cut n l = record l { next = cut_next l.next l.prev n; prev = cut_prev l.next l.prev n; areas = slice_set l.areas n None }
 
 or_none : (b : Bool) → (b || false) ≡ b
 or_none true = refl
@@ -61,7 +57,7 @@ StandsIn Probation n a = Stands false true false n a
 StandsIn Protected n a = Stands false false true n a
 
 -- a held node stands in the list that is noted of it, and in no other
-stands_in : (area : Area) (l : Links) (s : Sizes) (a : Areas ℕ) (n : ℕ) → area_at l.areas n ≡ area → is_held n a ≡ true → AreNodes l s a → StandsIn area n a
+stands_in : (area : Area) (l : Links) (s : Sizes) (a : Areas ℕ) (n : ℕ) → area_at l.areas n ≡ Some area → is_held n a ≡ true → AreNodes l s a → StandsIn area n a
 stands_in Window l s a n home held k =
     let p : is_among n a.probation ≡ false = not_among Probation Window l.areas n a.probation k.probation.members home (λ e. cc) in
     let q : is_among n a.protected ≡ false = not_among Protected Window l.areas n a.protected k.protected.members home (λ e. cc) in
@@ -90,7 +86,8 @@ kept_cut Window l s a n big at held k =
       probation = kept_others Probation l.weights l.areas s.probation n a.probation at.probation k.probation;
       protected = kept_others Protected l.weights l.areas s.protected n a.protected at.protected k.protected;
       weights_long = k.weights_long ∙ sym (length-cut l.next l.prev n);
-      areas_long = k.areas_long ∙ sym (length-cut l.next l.prev n);
+      free = λ m above. free_without l.areas n m a (k.free m above);
+      areas_long = length-set_area l.areas n None ∙ k.areas_long ∙ sym (length-cut l.next l.prev n);
     }
 kept_cut Probation l s a n big at held k =
     let d = each_distinct 0 (lists_of a) k.ring.distinct in
@@ -100,7 +97,8 @@ kept_cut Probation l s a n big at held k =
       probation = kept_left Probation l.weights l.areas s.probation n a.probation d.1.0 at.probation k.probation;
       protected = kept_others Protected l.weights l.areas s.protected n a.protected at.protected k.protected;
       weights_long = k.weights_long ∙ sym (length-cut l.next l.prev n);
-      areas_long = k.areas_long ∙ sym (length-cut l.next l.prev n);
+      free = λ m above. free_without l.areas n m a (k.free m above);
+      areas_long = length-set_area l.areas n None ∙ k.areas_long ∙ sym (length-cut l.next l.prev n);
     }
 kept_cut Protected l s a n big at held k =
     let d = each_distinct 0 (lists_of a) k.ring.distinct in
@@ -110,7 +108,8 @@ kept_cut Protected l s a n big at held k =
       probation = kept_others Probation l.weights l.areas s.probation n a.probation at.probation k.probation;
       protected = kept_left Protected l.weights l.areas s.protected n a.protected d.1.1.0 at.protected k.protected;
       weights_long = k.weights_long ∙ sym (length-cut l.next l.prev n);
-      areas_long = k.areas_long ∙ sym (length-cut l.next l.prev n);
+      free = λ m above. free_without l.areas n m a (k.free m above);
+      areas_long = length-set_area l.areas n None ∙ k.areas_long ∙ sym (length-cut l.next l.prev n);
     }
 
 pub placed-without_in : (l : Links) (s : Sizes) (a : Areas ℕ) (slot : ℕ) → AreNodes l s a → placed_areas l.weights (without_in (slot + 3) a) ≡ without_slot slot (placed_areas l.weights a)
@@ -124,7 +123,7 @@ pub record IsTaken (slot : ℕ) (l : Links) (s : Sizes) (m : Links) (t : Sizes) 
   pub nodes : AreNodes m t (nodes_by m.next t)
   pub shows : shown_by m t ≡ record (shown_by l s) { areas = without_slot slot (shown_by l s).areas }
 
-taken : (area : Area) (l : Links) (s : Sizes) (slot : ℕ) → area_at l.areas (slot + 3) ≡ area → holds slot (shown_by l s).areas ≡ true → AreNodes l s (nodes_by l.next s)
+taken : (area : Area) (l : Links) (s : Sizes) (slot : ℕ) → area_at l.areas (slot + 3) ≡ Some area → holds slot (shown_by l s).areas ≡ true → AreNodes l s (nodes_by l.next s)
   → IsTaken slot l s (links_cut (slot + 3) l) (sizes_without area (slice_index l.weights (slot + 3)) s)
 taken area l s slot home held k =
     let a : Areas ℕ = nodes_by l.next s in
@@ -139,11 +138,12 @@ taken area l s slot home held k =
     }
 
 -- the same, by the steps of the code
-pub taken_by : (l : Links) (s : Sizes) (slot at weight : ℕ) (area : Area) (m : Links) (t : Sizes) → at ≡ slot + 3 → weight ≡ slice_index l.weights at → area ≡ area_at l.areas at
-  → m ≡ links_cut at l → t ≡ sizes_without area weight s → holds slot (shown_by l s).areas ≡ true → AreNodes l s (nodes_by l.next s) → IsTaken slot l s m t
-taken_by l s slot at weight area m t e_at e_weight e_area e_m e_t held k =
-    let home : area_at l.areas (slot + 3) ≡ area = sym (e_area ∙ ap (λ n. area_at l.areas n) e_at) in
-    let links_is : m ≡ links_cut (slot + 3) l = e_m ∙ ap (λ (n : ℕ). links_cut n l) e_at in
+pub taken_by : (l : Links) (s : Sizes) (slot at weight : ℕ) (area : Area) (cut m : Links) (t : Sizes) → at ≡ slot + 3 → weight ≡ slice_index l.weights at → Some area ≡ area_at l.areas at
+  → cut ≡ record l { next = cut_next l.next l.prev at; prev = cut_prev l.next l.prev at } → m ≡ record cut { areas = slice_set cut.areas at None } → t ≡ sizes_without area weight s
+  → holds slot (shown_by l s).areas ≡ true → AreNodes l s (nodes_by l.next s) → IsTaken slot l s m t
+taken_by l s slot at weight area cut m t e_at e_weight e_area e_cut e_m e_t held k =
+    let home : area_at l.areas (slot + 3) ≡ Some area = sym (e_area ∙ ap (λ n. area_at l.areas n) e_at) in
+    let links_is : m ≡ links_cut (slot + 3) l = e_m ∙ ap (λ (c : Links). record c { areas = slice_set c.areas at None }) e_cut ∙ ap (λ (n : ℕ). links_cut n l) e_at in
     let sizes_is : t ≡ sizes_without area (slice_index l.weights (slot + 3)) s = e_t ∙ ap (λ w. sizes_without area w s) (e_weight ∙ ap (λ n. slice_index l.weights n) e_at) in
     subst (λ (x : Links). IsTaken slot l s x t) (sym links_is)
       (subst (λ (y : Sizes). IsTaken slot l s (links_cut (slot + 3) l) y) (sym sizes_is) (taken area l s slot home held k))
@@ -172,25 +172,63 @@ area_shown Protected l s a slot at k =
     let p = in-placed Probation l.areas l.weights slot a.probation k.probation.members ∙ at.probation in
     sym (rw (w, p) refl)
 
-pub record HeldAt (slot : ℕ) (l : Links) (s : Sizes) : Type 0 where
+pub record HeldAt (slot : ℕ) (l : Links) (v : Shown) (s : Sizes) (area : Area) : Type 0 where
   pub place : HasPlace l.next l.prev (slot + 3)
-  pub count : 0 < (size_in (area_at l.areas (slot + 3)) s).count
-  pub weight : slice_index l.weights (slot + 3) ≤ (size_in (area_at l.areas (slot + 3)) s).weight
-  pub area : area_at l.areas (slot + 3) ≡ area_of slot (shown_by l s).areas
+  pub noted : area_at l.areas (slot + 3) ≡ Some area
+  pub count : 0 < (size_in area s).count
+  pub weight : slice_index l.weights (slot + 3) ≤ (size_in area s).weight
+  pub shown : area ≡ area_of slot v.areas
 
-pub held_at : (l : Links) (s : Sizes) (slot : ℕ) → holds slot (shown_by l s).areas ≡ true → AreNodes l s (nodes_by l.next s) → HeldAt slot l s
-held_at l s slot held k =
+held_in : (area : Area) (l : Links) (s : Sizes) (slot : ℕ) → area_at l.areas (slot + 3) ≡ Some area → holds slot (shown_by l s).areas ≡ true → AreNodes l s (nodes_by l.next s) → HeldAt slot l (shown_by l s) s area
+held_in area l s slot home held k =
     let a : Areas ℕ = nodes_by l.next s in
-    let n : ℕ = slot + 3 in
     let there : is_held (slot + 3) a ≡ true = sym (held_placed l s a slot k) ∙ held in
-    let at : StandsIn (area_at l.areas (slot + 3)) (slot + 3) a = stands_in (area_at l.areas (slot + 3)) l s a (slot + 3) refl there k in
-    let w = weighed (area_at l.areas (slot + 3)) l s a (slot + 3) at k in
+    let at : StandsIn area (slot + 3) a = stands_in area l s a (slot + 3) home there k in
+    let w = weighed area l s a (slot + 3) at k in
     record {
       place = node_place l.next l.prev (slot + 3) a.window (a.probation ∷ a.protected ∷ []) (ring_among (slot + 3) a (omega arith) ∙ there) k.ring;
+      noted = home;
       count = w.0;
       weight = w.1;
-      area = area_shown (area_at l.areas (slot + 3)) l s a slot at k;
+      shown = area_shown area l s a slot at k;
     }
 
-pub held_shown : (l : Links) (s : Sizes) (slot : ℕ) (v : Shown) → shown_by l s ≡ v → holds slot v.areas ≡ true → AreNodes l s (nodes_by l.next s) → HeldAt slot l s
-held_shown l s slot v e held k = held_at l s slot (subst (λ (z : Shown). holds slot z.areas ≡ true) (sym e) held) k
+-- a held node has a noted list
+noted_of : (l : Links) (s : Sizes) (a : Areas ℕ) (n : ℕ) → is_held n a ≡ true → AreNodes l s a → (area : Area) × (area_at l.areas n ≡ Some area)
+noted_of l s a n held k = go (is_among n a.window) (is_among n a.probation) (is_among n a.protected) refl refl refl held
+  where
+    go : (w p q : Bool) → is_among n a.window ≡ w → is_among n a.probation ≡ p → is_among n a.protected ≡ q → (w || (p || q)) ≡ true → (area : Area) × (area_at l.areas n ≡ Some area)
+    go true p q ew ep eq h = (Window, area_among Window l.areas n a.window k.window.members ew)
+    go false true q ew ep eq h = (Probation, area_among Probation l.areas n a.probation k.probation.members ep)
+    go false false true ew ep eq h = (Protected, area_among Protected l.areas n a.protected k.protected.members eq)
+    go false false false ew ep eq h = absurd (cc)
+
+pub held_shown : (l : Links) (s : Sizes) (slot : ℕ) (v : Shown) → shown_by l s ≡ v → holds slot v.areas ≡ true → AreNodes l s (nodes_by l.next s) → (area : Area) × HeldAt slot l v s area
+held_shown l s slot v e held k =
+    let here : holds slot (shown_by l s).areas ≡ true = subst (λ (z : Shown). holds slot z.areas ≡ true) (sym e) held in
+    let n = noted_of l s (nodes_by l.next s) (slot + 3) (sym (held_placed l s (nodes_by l.next s) slot k) ∙ here) k in
+    (n.0, subst (λ (z : Shown). HeldAt slot l z s n.0) e (held_in n.0 l s slot n.1 here k))
+
+-- the same, of what is noted
+pub held_by : (l : Links) (s : Sizes) (slot : ℕ) (v : Shown) (at : ℕ) (area : Area) → at ≡ slot + 3 → Some area ≡ area_at l.areas at → shown_by l s ≡ v → holds slot v.areas ≡ true → AreNodes l s (nodes_by l.next s) → HeldAt slot l v s area
+held_by l s slot v at area e_at e_area e held k =
+    let here : holds slot (shown_by l s).areas ≡ true = subst (λ (z : Shown). holds slot z.areas ≡ true) (sym e) held in
+    subst (λ (z : Shown). HeldAt slot l z s area) e (held_in area l s slot (sym (e_area ∙ ap (λ n. area_at l.areas n) e_at)) here k)
+
+-- what is noted of a slot says whether it is held
+
+pub some_held : (l : Links) (s : Sizes) (slot : ℕ) (v : Shown) (at : ℕ) → at ≡ slot + 3 → shown_by l s ≡ v → AreNodes l s (nodes_by l.next s) → is_some (area_at l.areas at) ≡ holds slot v.areas
+some_held l s slot v at e_at e k =
+    ap (λ n. is_some (area_at l.areas n)) e_at ∙ go (is_held (slot + 3) (nodes_by l.next s)) refl
+      ∙ sym (held_placed l s (nodes_by l.next s) slot k) ∙ ap (λ (z : Shown). holds slot z.areas) e
+  where
+    go : (b : Bool) → is_held (slot + 3) (nodes_by l.next s) ≡ b → is_some (area_at l.areas (slot + 3)) ≡ is_held (slot + 3) (nodes_by l.next s)
+    go true h = ap is_some (noted_of l s (nodes_by l.next s) (slot + 3) h k).1 ∙ sym h
+    go false h = ap is_some (k.free (slot + 3) (omega arith) h) ∙ sym h
+
+pub beyond_held : (l : Links) (s : Sizes) (slot : ℕ) (v : Shown) → shown_by l s ≡ v → length l.next ≤ slot + 3 → AreNodes l s (nodes_by l.next s) → false ≡ holds slot v.areas
+beyond_held l s slot v e far k = go (holds slot v.areas) refl
+  where
+    go : (b : Bool) → holds slot v.areas ≡ b → false ≡ b
+    go true h = let own = (held_shown l s slot v e h k).1.place.own in absurd (omega arith)
+    go false h = refl

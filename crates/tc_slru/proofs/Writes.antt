@@ -1,10 +1,9 @@
 -- What a write to one node does to the lists of links.
-use Rattle.std.specs.Prelude.{map, slice_set, slice_index_or, replicate}
+use Rattle.std.specs.Prelude.{Option, None, map, slice_set, slice_index_or, replicate}
 use Rattle.std.proofs.Common.{◌≡◌, ℕ, zero, suc, ◌+◌, ◌-◌, ◌<◌, ◌≤◌, List, [], ◌∷◌, ◌++◌, length, refl, sym, ◌∙◌, ap, arith, append_assoc, length-append}
 use Rattle.tc_slru.specs.Links.{Links, grown}
 use Rattle.tc_slru.specs.Nodes.{links}
 use Rattle.tc_slru.specs.declared.area.Area.{Area}
-use Rattle.tc_slru.specs.declared.area.Area.TheVariants.{Window}
 use Rattle.tc_slru.specs.declared.nodes.Node.{Node}
 
 map-set : {A B : Type 0} (f : A → B) (xs : List A) (i : ℕ) (x : A) → map f (slice_set xs i x) ≡ slice_set (map f xs) i (f x)
@@ -44,7 +43,7 @@ record IsWritten (ns : List Node) (at : ℕ) (n : Node) : Type 0 where
 kept_field : {B : Type 0} (f : Node → B) (ns : List Node) (at : ℕ) (n x : Node) → IsWritten ns at n → f x ≡ f n → map f (slice_set ns at x) ≡ map f ns
 kept_field f ns at n x w e = map-set_same f ns at x (e ∙ ap f (w.was ∙ index-default ns at n x w.within))
 
-same_links : (a b c d : List ℕ) (e f : List ℕ) (g h : List Area) → a ≡ b → c ≡ d → e ≡ f → g ≡ h
+same_links : (a b c d : List ℕ) (e f : List ℕ) (g h : List (Option Area)) → a ≡ b → c ≡ d → e ≡ f → g ≡ h
   → (let l : Links = record { next = a; prev = c; weights = e; areas = g } in l) ≡ record { next = b; prev = d; weights = f; areas = h }
 same_links a b c d e f g h p q r s = cc
 
@@ -58,10 +57,15 @@ prev_set ns at to n w =
     let x : Node = record n { prev = to } in
     same_links _ _ _ _ _ _ _ _ (kept_field (λ n. n.next) ns at n x w refl) (map-set (λ n. n.prev) ns at x) (kept_field (λ n. n.weight) ns at n x w refl) (kept_field (λ n. n.area) ns at n x w refl)
 
-note_set : (ns : List Node) (at weight : ℕ) (area : Area) (n : Node) → IsWritten ns at n → links (slice_set ns at (record n { weight = weight; area = area })) ≡ record (links ns) { weights = slice_set (links ns).weights at weight; areas = slice_set (links ns).areas at area }
+note_set : (ns : List Node) (at weight : ℕ) (area : Option Area) (n : Node) → IsWritten ns at n → links (slice_set ns at (record n { weight = weight; area = area })) ≡ record (links ns) { weights = slice_set (links ns).weights at weight; areas = slice_set (links ns).areas at area }
 note_set ns at weight area n w =
     let x : Node = record n { weight = weight; area = area } in
     same_links _ _ _ _ _ _ _ _ (kept_field (λ n. n.next) ns at n x w refl) (kept_field (λ n. n.prev) ns at n x w refl) (map-set (λ n. n.weight) ns at x) (map-set (λ n. n.area) ns at x)
+
+area_set : (ns : List Node) (at : ℕ) (area : Option Area) (n : Node) → IsWritten ns at n → links (slice_set ns at (record n { area = area })) ≡ record (links ns) { areas = slice_set (links ns).areas at area }
+area_set ns at area n w =
+    let x : Node = record n { area = area } in
+    same_links _ _ _ _ _ _ _ _ (kept_field (λ n. n.next) ns at n x w refl) (kept_field (λ n. n.prev) ns at n x w refl) (kept_field (λ n. n.weight) ns at n x w refl) (map-set (λ n. n.area) ns at x)
 
 -- behind the marks
 behind : (ms rest : List Node) (at : ℕ) (n : Node) → 3 ≤ at → length ms ≡ 3 → at < length (links (ms ++ rest)).next → n ≡ slice_index_or rest (at - 3) n → IsWritten (ms ++ rest) at n
@@ -80,9 +84,13 @@ pub prev_behind : (ms rest : List Node) (at to : ℕ) (n : Node) → 3 ≤ at �
   → links (ms ++ slice_set rest (at - 3) (record n { prev = to })) ≡ record (links (ms ++ rest)) { prev = slice_set (links (ms ++ rest)).prev at to }
 prev_behind ms rest at to n h m l e = ap links (behind_set ms rest at (record n { prev = to }) h m) ∙ prev_set (ms ++ rest) at to n (behind ms rest at n h m l e)
 
-pub note_behind : (ms rest : List Node) (at weight : ℕ) (area : Area) (n : Node) → 3 ≤ at → length ms ≡ 3 → at < length (links (ms ++ rest)).next → n ≡ slice_index_or rest (at - 3) n
+pub note_behind : (ms rest : List Node) (at weight : ℕ) (area : Option Area) (n : Node) → 3 ≤ at → length ms ≡ 3 → at < length (links (ms ++ rest)).next → n ≡ slice_index_or rest (at - 3) n
   → links (ms ++ slice_set rest (at - 3) (record n { weight = weight; area = area })) ≡ record (links (ms ++ rest)) { weights = slice_set (links (ms ++ rest)).weights at weight; areas = slice_set (links (ms ++ rest)).areas at area }
 note_behind ms rest at weight area n h m l e = ap links (behind_set ms rest at (record n { weight = weight; area = area }) h m) ∙ note_set (ms ++ rest) at weight area n (behind ms rest at n h m l e)
+
+pub area_behind : (ms rest : List Node) (at : ℕ) (area : Option Area) (n : Node) → 3 ≤ at → length ms ≡ 3 → at < length (links (ms ++ rest)).next → n ≡ slice_index_or rest (at - 3) n
+  → links (ms ++ slice_set rest (at - 3) (record n { area = area })) ≡ record (links (ms ++ rest)) { areas = slice_set (links (ms ++ rest)).areas at area }
+area_behind ms rest at area n h m l e = ap links (behind_set ms rest at (record n { area = area }) h m) ∙ area_set (ms ++ rest) at area n (behind ms rest at n h m l e)
 
 -- nodes that come
 
@@ -97,7 +105,7 @@ map-append f (x ∷ xs) ys = ap (λ t. f x ∷ t) (map-append f xs ys)
 grown_field : {B : Type 0} (f : Node → B) (ns : List Node) (k : ℕ) (x : Node) → map f (ns ++ replicate k x) ≡ map f ns ++ replicate k (f x)
 grown_field f ns k x = map-append f ns (replicate k x) ∙ ap (λ t. map f ns ++ t) (map-replicate f k x)
 
-pub links-grown : (ms rest : List Node) (slots : ℕ) (x : Node) → x.next ≡ 0 → x.prev ≡ 0 → x.weight ≡ 0 → x.area ≡ Window → length ms ≡ 3
+pub links-grown : (ms rest : List Node) (slots : ℕ) (x : Node) → x.next ≡ 0 → x.prev ≡ 0 → x.weight ≡ 0 → x.area ≡ None → length ms ≡ 3
   → links (ms ++ (rest ++ replicate (slots - length rest) x)) ≡ grown (slots + 3) (links (ms ++ rest))
 links-grown ms rest slots x en ep ew ea m =
     let more : slots - length rest ≡ slots + 3 - length (links (ms ++ rest)).next = omega (arith, length-map_own (λ (n : Node). n.next) (ms ++ rest), length-append ms rest) in

@@ -1,8 +1,8 @@
 -- The lists as they are kept: one ring of nodes, a mark before each list, and slot n in node n + 3.
-use Rattle.std.specs.Prelude.{◌≡◌, ℕ, ◌-◌, ◌<◌, List, [], ◌∷◌, length, map, sum_by, slice_index}
+use Rattle.std.specs.Prelude.{◌≡◌, Bool, false, ◌||◌, Option, Some, None, ℕ, ◌-◌, ◌<◌, List, [], ◌∷◌, length, map, sum_by, slice_index}
 use Rattle.tc_model.specs.Areas.{Areas}
 use Rattle.tc_model.specs.Ring.{walk}
-use Rattle.tc_model.specs.Chains.{AreChained}
+use Rattle.tc_model.specs.Chains.{AreChained, is_among}
 use Rattle.tc_slru.specs.Links.{Links, area_at}
 use Rattle.tc_slru.specs.Slots.{Placed, Shown, weigh}
 use Rattle.tc_slru.specs.declared.area.Area.{Area}
@@ -30,13 +30,17 @@ nodes_by next s = record { window = walk s.window.count next 0; probation = walk
 abbrev pub shown_by : Links → Sizes → Shown
 shown_by l s = record { slots = length l.next - 3; areas = placed_areas l.weights (nodes_by l.next s) }
 
+-- the node stands in one of the lists
+abbrev pub is_held : ℕ → Areas ℕ → Bool
+is_held n a = is_among n a.window || (is_among n a.probation || is_among n a.protected)
+
 -- these nodes are slots, and the area is noted at each
-abbrev pub AreAt : Area → List Area → List ℕ → Type 0
+abbrev pub AreAt : Area → List (Option Area) → List ℕ → Type 0
 AreAt area areas [] = Unit {0}
-AreAt area areas (x ∷ xs) = (2 < x) × (area_at areas x ≡ area) × AreAt area areas xs
+AreAt area areas (x ∷ xs) = (2 < x) × (area_at areas x ≡ Some area) × AreAt area areas xs
 
 -- what is noted of a list
-pub record AreKept (area : Area) (weights : List ℕ) (areas : List Area) (size : Size) (xs : List ℕ) : Type 0 where
+pub record AreKept (area : Area) (weights : List ℕ) (areas : List (Option Area)) (size : Size) (xs : List ℕ) : Type 0 where
   pub count : size.count ≡ length xs
   pub weight : size.weight ≡ sum_by weigh (map (placed_of weights) xs)
   pub members : AreAt area areas xs
@@ -47,5 +51,6 @@ pub record AreNodes (l : Links) (s : Sizes) (a : Areas ℕ) : Type 0 where
   pub window : AreKept Window l.weights l.areas s.window a.window
   pub probation : AreKept Probation l.weights l.areas s.probation a.probation
   pub protected : AreKept Protected l.weights l.areas s.protected a.protected
+  pub free : (n : ℕ) → 2 < n → is_held n a ≡ false → area_at l.areas n ≡ None
   pub weights_long : length l.weights ≡ length l.next
   pub areas_long : length l.areas ≡ length l.next

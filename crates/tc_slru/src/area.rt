@@ -1,6 +1,6 @@
 //! The three areas, and what each holds.
 ghost use Rattle.std.specs.Prelude.{◌≡◌, ◌+◌, ◌<◌, ◌≤◌, ◌^◌};
-ghost use Rattle.tc_slru.specs.Sizes.{size_in, sizes_with, sizes_without};
+ghost use Rattle.tc_slru.specs.Sizes.{raised_from, size_in, sizes_with, sizes_without};
 
 /// A list that an item stands in.
 #[derive(Clone, Copy, Debug, PartialEq, Eq)]
@@ -8,6 +8,18 @@ pub enum Area {
     Window,
     Probation,
     Protected,
+}
+
+impl Area {
+    /// Where an access puts a slot of this list.
+    pub fn raised(self) -> Area
+        ensures { result ≡ raised_from self }
+    {
+        match self {
+            Area::Window => Area::Window,
+            Area::Probation | Area::Protected => Area::Protected,
+        }
+    }
 }
 
 /// How many a list holds, and what they weigh together.

@@ -3,7 +3,10 @@
 
 mod area;
 mod linked_areas;
+mod lists;
 mod nodes;
+mod settle;
 mod slot;
 
+pub use lists::{Lists, Weights};
 pub use slot::Slot;

@@ -112,6 +112,24 @@ impl LinkedAreas {
         self.nodes.reserve(slots)
     }
 
+    /// How many slots have room.
+    pub fn slots(&self) -> usize
+        ensures { result ≡ self.now.slots }
+    {
+        self.nodes.slots()
+    }
+
+    /// Whether the slot stands in a list.
+    pub fn holds(&self, slot: Slot) -> bool
+        ensures { result ≡ holds slot.0 self.now.areas }
+    {
+        if slot.0 >= self.nodes.slots() {
+            return false;
+        }
+        let at = self.nodes.place(slot);
+        self.nodes.node(at).area.is_some()
+    }
+
     /// How many each list holds and what they weigh.
     pub fn sizes(&self) -> Sizes
         ensures window { IsSize result.window self.now.areas.window }
@@ -143,9 +161,21 @@ impl LinkedAreas {
     {
         let at = self.nodes.place(slot);
         let node = self.nodes.node(at);
+        let area = node.area.unwrap();
         unlink(&mut self.nodes, at);
-        self.sizes.leave(node.area, node.weight);
-        node.area
+        self.nodes.free(at);
+        self.sizes.leave(area, node.weight);
+        area
+    }
+
+    /// Moves a slot to the front of a list.
+    pub fn move_to(&mut self, area: Area, held: Held)
+        requires held { holds held.slot.0 self.old.areas ≡ true }
+        requires fits { total weigh (without_slot held.slot.0 self.old.areas) + held.weight < 2 ^ 64 }
+        ensures { self.new ≡ record self.old { areas = fronted_in area (record { slot = held.slot.0; weight = held.weight }) (without_slot held.slot.0 self.old.areas) } }
+    {
+        self.take(held.slot);
+        self.put(area, held.slot, held.weight);
     }
 
     /// The last of a list.

@@ -1,5 +1,5 @@
 //! The nodes of the ring, by number. The first three are the marks before window, probation and protected; slot n is node n + 3.
-ghost use Rattle.std.specs.Prelude.{◌≡◌, ◌+◌, ◌<◌, ◌≤◌, ◌^◌, length, slice_index, slice_set, is_ok, OnErr, if◌then◌else◌};
+ghost use Rattle.std.specs.Prelude.{◌≡◌, ◌+◌, ◌<◌, ◌≤◌, ◌^◌, length, Some, None, slice_index, slice_set, is_ok, OnErr, if◌then◌else◌};
 ghost use Rattle.tc_slru.specs.Links.{area_at, marks_alone, grown};
 
 use crate::area::Area;
@@ -17,20 +17,21 @@ pub struct Node {
     pub next: usize,
     pub prev: usize,
     pub weight: u64,
-    pub area: Area,
+    /// The list that it stands in.
+    pub area: Option<Area>,
 }
 
 const fn alone(next: usize, prev: usize) -> Node
     ensures next { result.next ≡ next }
     ensures prev { result.prev ≡ prev }
     ensures weight { result.weight ≡ 0 }
-    ensures area { result.area ≡ Area.Window }
+    ensures area { result.area ≡ None }
 {
     Node {
         next,
         prev,
         weight: 0,
-        area: Area::Window,
+        area: None,
     }
 }
 
@@ -74,6 +75,13 @@ impl Nodes {
             self.rest.resize(slots, free)?;
         }
         Ok(())
+    }
+
+    /// How many slots have a node.
+    pub fn slots(&self) -> usize
+        ensures { result + 3 ≡ length self.now.next }
+    {
+        self.rest.len()
     }
 
     /// The node of a slot.
@@ -130,10 +138,19 @@ impl Nodes {
     pub fn note(&mut self, at: usize, weight: u64, area: Area)
         requires slot { 3 ≤ at }
         requires within { at < length self.old.next }
-        ensures { self.new ≡ record self.old { weights = slice_set self.old.weights at weight; areas = slice_set self.old.areas at area } }
+        ensures { self.new ≡ record self.old { weights = slice_set self.old.weights at weight; areas = slice_set self.old.areas at (Some area) } }
     {
         let node = &mut self.rest[at - MARKS];
         node.weight = weight;
-        node.area = area;
+        node.area = Some(area);
+    }
+
+    /// Notes that a slot stands in no list.
+    pub fn free(&mut self, at: usize)
+        requires slot { 3 ≤ at }
+        requires within { at < length self.old.next }
+        ensures { self.new ≡ record self.old { areas = slice_set self.old.areas at None } }
+    {
+        self.rest[at - MARKS].area = None;
     }
 }
