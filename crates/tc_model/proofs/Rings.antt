@@ -34,13 +34,13 @@ linked_join next prev a b x (u ∷ us) vs h k = (h.0, h.1, linked_join next prev
 
 -- a write elsewhere changes no link
 
-pub linked-next : (next prev : List ℕ) (i v a b : ℕ) (xs : List ℕ) → i ≢ a → IsAway i xs → Linked next prev a xs b → Linked (slice_set next i v) prev a xs b
-linked-next next prev i v a b [] ne away h = (index_other next i a v ne ∙ h.0, h.1)
-linked-next next prev i v a b (x ∷ xs) ne away h = (index_other next i a v ne ∙ h.0, h.1, linked-next next prev i v x b xs away.0 away.1 h.2)
+pub linked-set_next : (next prev : List ℕ) (i v a b : ℕ) (xs : List ℕ) → i ≢ a → IsAway i xs → Linked next prev a xs b → Linked (slice_set next i v) prev a xs b
+linked-set_next next prev i v a b [] ne away h = (index_other next i a v ne ∙ h.0, h.1)
+linked-set_next next prev i v a b (x ∷ xs) ne away h = (index_other next i a v ne ∙ h.0, h.1, linked-set_next next prev i v x b xs away.0 away.1 h.2)
 
-pub linked-prev : (next prev : List ℕ) (i v a b : ℕ) (xs : List ℕ) → i ≢ b → IsAway i xs → Linked next prev a xs b → Linked next (slice_set prev i v) a xs b
-linked-prev next prev i v a b [] ne away h = (h.0, index_other prev i b v ne ∙ h.1)
-linked-prev next prev i v a b (x ∷ xs) ne away h = (h.0, index_other prev i x v away.0 ∙ h.1, linked-prev next prev i v x b xs ne away.1 h.2)
+pub linked-set_prev : (next prev : List ℕ) (i v a b : ℕ) (xs : List ℕ) → i ≢ b → IsAway i xs → Linked next prev a xs b → Linked next (slice_set prev i v) a xs b
+linked-set_prev next prev i v a b [] ne away h = (h.0, index_other prev i b v ne ∙ h.1)
+linked-set_prev next prev i v a b (x ∷ xs) ne away h = (h.0, index_other prev i x v away.0 ∙ h.1, linked-set_prev next prev i v x b xs ne away.1 h.2)
 
 -- membership
 
@@ -118,7 +118,7 @@ linked_cut next prev a x us (y ∷ ys) ring =
     let front : Linked (slice_set next l y) (slice_set prev y l) a us y = relink next prev a x y us (away.0, s.left) s2.before (ring.below.0, below.0) yl both.0 in
     let far : IsAway l (y ∷ ys) = prev_away_list next prev a x us (y ∷ ys) ring.distinct both.0 in
     let ya : y ≢ a = λ e. away.1.1.0 (sym e) in
-    let back : Linked (slice_set next l y) (slice_set prev y l) y ys a = linked-prev (slice_set next l y) prev y l y a ys ya s2.behind (linked-next next prev l y y a ys far.0 far.1 both.1.2) in
+    let back : Linked (slice_set next l y) (slice_set prev y l) y ys a = linked-set_prev (slice_set next l y) prev y l y a ys ya s2.behind (linked-set_next next prev l y y a ys far.0 far.1 both.1.2) in
     rw both.1.0 (linked_join (slice_set next l y) (slice_set prev y l) a a y us ys front back)
 
 pub ring_cut : (next prev : List ℕ) (a x : ℕ) (us vs : List ℕ) → IsRing next prev a (us ++ x ∷ vs)
@@ -164,10 +164,10 @@ linked_put_here next prev before at b (y ∷ ys) f h = subst (λ z. Linked (slic
   (
     index_same (slice_set next before at) at y (omega (arith, f.at_next, length-slice_set next before at)),
     index_same (slice_set prev at before) y at (omega (arith, f.below.0, length-slice_set prev at before)),
-    linked-prev (slice_set (slice_set next before at) at y) (slice_set prev at before) y at y b ys (λ e. f.end.0 (sym e)) f.distinct.0
-        (linked-prev (slice_set (slice_set next before at) at y) prev at before y b ys f.stop f.new.1
-        (linked-next (slice_set next before at) prev at y y b ys f.new.0 f.new.1
-        (linked-next next prev before at y b ys f.away.0 f.away.1 h.2))),
+    linked-set_prev (slice_set (slice_set next before at) at y) (slice_set prev at before) y at y b ys (λ e. f.end.0 (sym e)) f.distinct.0
+        (linked-set_prev (slice_set (slice_set next before at) at y) prev at before y b ys f.stop f.new.1
+        (linked-set_next (slice_set next before at) prev at y y b ys f.new.0 f.new.1
+        (linked-set_next next prev before at y b ys f.away.0 f.away.1 h.2))),
   ),
 )
 
@@ -248,10 +248,10 @@ ring_put next prev a before at us vs ring free =
     let after_us : IsAway after us = next_away next prev before a us vs away.0 ring.distinct.1 both.1 in
     let after_before : after ≢ before = next_ne next prev before before a vs ba s.behind both.1 in
     let front : Linked n2 p2 a us before =
-    linked-prev n2 p1 after at a before us after_before after_us
-    (linked-prev n2 prev at before a before us fresh.1.0 fresh.0
-    (linked-next n1 prev at after a before us free.first fresh.0
-    (linked-next next prev before at a before us ba s.before both.0))) in
+    linked-set_prev n2 p1 after at a before us after_before after_us
+    (linked-set_prev n2 prev at before a before us fresh.1.0 fresh.0
+    (linked-set_next n1 prev at after a before us free.first fresh.0
+    (linked-set_next next prev before at a before us ba s.before both.0))) in
     record {
       linked = linked_join n2 p2 a a before us (at ∷ vs) front back;
       distinct = (away_both a us (before ∷ at ∷ vs) away.0 (away.1.0, ((λ e. free.first (sym e)), away.1.1)), distinct_put us before at vs free.others ring.distinct.1);

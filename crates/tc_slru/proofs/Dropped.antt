@@ -8,9 +8,9 @@ use Rattle.tc_model.specs.Areas.{Areas, fitting, victims, and_then, main_weight,
 use Rattle.tc_model.proofs.Steps.{Popped, popped_probation, popped_protected, settle_trims, settle_refuses, settle_yields}
 use Rattle.tc_model.proofs.Overtaking.{settle_overtakes}
 use Rattle.tc_model.proofs.Within.{settles_once}
-use Rattle.tc_slru.specs.Slots.{Placed, Shown, weigh, without_slot}
+use Rattle.tc_slru.specs.Slots.{Placed, Shown, placed, weigh, without_slot}
 use Rattle.tc_slru.specs.InAreas.{fronted_in, IsLast}
-use Rattle.tc_slru.specs.SlotLists.{placed, settled, GivesNext, AreLight}
+use Rattle.tc_slru.specs.SlotLists.{SlotLists, settled, DropsNext, AreLight}
 use Rattle.tc_slru.specs.Dropping.{limits_of, with_limits, IsMainsLast, verdict_of}
 use Rattle.tc_slru.specs.Victims.{Counts}
 use Rattle.tc_slru.specs.Dropping.IsMainsLast.{of_probation, of_protected}
@@ -70,7 +70,7 @@ pub record IsStep (post : Slot → ℕ → Type 0) (limits : CodeLimits) (given 
   pub slots : after.slots ≡ before.slots
   pub light : AreLight limits.main after.areas.window
   pub sum : total weigh after.areas < 2 ^ 64
-  pub settled : (seen : ℕ → ℕ) → Counts post seen → GivesNext given (settled seen (with_limits limits before)) (with_limits limits after) (settled seen (with_limits limits after))
+  pub settled : (seen : ℕ → ℕ) → Counts post seen → DropsNext given seen (with_limits limits before) (with_limits limits after)
 
 -- verdicts
 
@@ -207,3 +207,8 @@ step_ends post limits before now main fits h = record {
   sum = h.ready.sum;
   settled = λ seen k. h.same seen k ∙ settles_once Placed weigh (λ (x : Placed). seen x.slot) (limits_of limits) now.areas (record { window = fits; main = main; protected = h.ready.protected });
 }
+
+-- the lists before may be others that settle to the same
+pub drops_from : (seen : ℕ → ℕ) (given : Option Slot) (before other after : SlotLists) → settled seen other ≡ settled seen before → DropsNext given seen before after → DropsNext given seen other after
+drops_from seen None before other after e h = e ∙ h
+drops_from seen (Some slot) before other after e h = (h.0, e ∙ h.1)

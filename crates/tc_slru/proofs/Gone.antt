@@ -17,8 +17,8 @@ in-without slot (p ∷ ps) = go (is_slot slot p) refl (in-without slot ps)
 pub holds-without_slot : (slot : ℕ) (a : Areas Placed) → holds slot (without_slot slot a) ≡ false
 holds-without_slot slot a = rw (in-without slot a.window, in-without slot a.probation, in-without slot a.protected) refl
 
-pub total-without_slot : (slot : ℕ) (a : Areas Placed) → total weigh (without_slot slot a) ≤ total weigh a
-total-without_slot slot a =
+pub without_slot_weighs_less : (slot : ℕ) (a : Areas Placed) → total weigh (without_slot slot a) ≤ total weigh a
+without_slot_weighs_less slot a =
     omega (arith, sum-filter-le weigh (λ p. not (is_slot slot p)) a.window, sum-filter-le weigh (λ p. not (is_slot slot p)) a.probation, sum-filter-le weigh (λ p. not (is_slot slot p)) a.protected)
 
 pub light-without : (most slot : ℕ) (ps : List Placed) → AreLight most ps → AreLight most (without (is_slot slot) ps)
@@ -30,4 +30,4 @@ light-without most slot (p ∷ ps) h = go (is_slot slot p) (light-without most s
     go false k = (h.0, k)
 
 pub fit-without_slot : (slot : ℕ) (l : SlotLists) → AreFit l → AreFit (record l { areas = without_slot slot l.areas })
-fit-without_slot slot l h = record { light = light-without l.limits.main slot l.areas.window h.light; sum = omega (arith, total-without_slot slot l.areas, h.sum) }
+fit-without_slot slot l h = record { light = light-without l.limits.main slot l.areas.window h.light; sum = omega (arith, without_slot_weighs_less slot l.areas, h.sum) }

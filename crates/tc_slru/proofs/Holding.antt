@@ -7,9 +7,9 @@ use Rattle.tc_model.proofs.Last.{fitting_last, beyond_last, fitting_all}
 use Rattle.tc_model.proofs.Steps.{beyond_none}
 use Rattle.tc_model.proofs.Totals.{parts}
 use Rattle.tc_model.proofs.Within.{sum-fitting}
-use Rattle.tc_slru.specs.Slots.{Placed, Shown, weigh, is_slot, without_slot}
+use Rattle.tc_slru.specs.Slots.{Placed, Shown, placed, weigh, is_slot, without_slot}
 use Rattle.tc_slru.specs.Sizes.{raised_from}
-use Rattle.tc_slru.specs.SlotLists.{SlotLists, placed, accessed_at, AreFit}
+use Rattle.tc_slru.specs.SlotLists.{SlotLists, accessed_at, AreFit}
 use Rattle.tc_slru.specs.InAreas.{fronted_in, area_of, IsLast}
 use Rattle.tc_slru.specs.Dropping.{protected_limit}
 use Rattle.tc_slru.specs.declared.area.Area.{Area}
@@ -96,7 +96,7 @@ fit-fronted Protected slot weight l h light sum = record {
 -- an access, by its steps
 pub record IsAccess (slot weight : ℕ) (l m : SlotLists) : Type 0 where
   pub fit : AreFit m
-  pub shows : m ≡ record l { areas = accessed_at slot weight l }
+  pub shows : m ≡ accessed_at slot weight l
 
 pub access_by : (limits : Limits) (slot weight : ℕ) (area to : Area) (v taken put held : Shown) → area ≡ area_of slot v.areas → to ≡ raised_from area → taken ≡ record v { areas = without_slot slot v.areas }
   → put ≡ record taken { areas = fronted_in to (placed slot weight) taken.areas } → held ≡ record put { areas = demoted weigh (protected_limit limits.protected) put.areas }

@@ -4,7 +4,11 @@ use Rattle.tc_slru.specs.declared.lists.Lists.TheInside.{Inside}
 
 -- the lists of the areas, with the limits
 abbrev pub lists_of : Inside → SlotLists
-lists_of l = record { limits = record { window = l.limits.window; main = l.limits.main; protected = l.limits.protected }; slots = l.areas.slots; areas = l.areas.areas }
+lists_of l = record {
+  limits = record { window = l.limits.window; main = l.limits.main; protected = l.limits.protected };
+  slots = l.areas.slots;
+  areas = l.areas.areas;
+}
 
 -- the weights are fit
 abbrev pub AreFitLists : Inside → Type 0

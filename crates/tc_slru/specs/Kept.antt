@@ -16,7 +16,11 @@ placed_of weights n = record { slot = n - 3; weight = slice_index weights n }
 
 -- the slots of nodes
 abbrev pub placed_areas : List ℕ → Areas ℕ → Areas Placed
-placed_areas weights a = record { window = map (placed_of weights) a.window; probation = map (placed_of weights) a.probation; protected = map (placed_of weights) a.protected }
+placed_areas weights a = record {
+  window = map (placed_of weights) a.window;
+  probation = map (placed_of weights) a.probation;
+  protected = map (placed_of weights) a.protected;
+}
 
 -- the three lists
 abbrev pub lists_of : {A : Type 0} → Areas A → List (List A)

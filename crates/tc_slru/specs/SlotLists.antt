@@ -1,35 +1,52 @@
--- What callers see of `Lists`, and what each call makes of it.
-use Rattle.std.specs.Prelude.{◌≡◌, ℕ, ◌<◌, ◌≤◌, ◌^◌, Option, Some, None, List, [], ◌∷◌}
+-- What callers see of `Lists`, and what each call makes of it: the areas, access and settle of `tc_model`, over slots.
+use Rattle.std.specs.Prelude.{◌≡◌, ℕ, ◌<◌, ◌≤◌, ◌^◌, max, Option, Some, None, List, [], ◌∷◌, sum_by}
 use Rattle.tc_model.specs.Areas.{Areas, Limits, Settled, total, accessed, settle, and_then}
-use Rattle.tc_slru.specs.Slots.{Placed, weigh, is_slot}
+use Rattle.tc_slru.specs.Slots.{Placed, placed, weigh, is_slot, without_slot}
 use Rattle.tc_slru.specs.declared.slot.Slot.{Slot}
+use Rattle.tc_slru.specs.declared.lists.Weights.{Weights}
 
--- the limits of the areas, the slots that have room, and the three lists
+-- the limits of the areas, how many slots have room, and the three lists, front to back
 pub record SlotLists : Type 0 where
   pub limits : Limits
   pub slots : ℕ
   pub areas : Areas Placed
 
--- a slot of this weight
-abbrev pub placed : ℕ → ℕ → Placed
-placed slot weight = record { slot = slot; weight = weight }
+-- empty lists, with room for no slot
+abbrev pub fresh : ℕ → ℕ → ℕ → SlotLists
+fresh window main protected = record {
+  limits = record { window = window; main = main; protected = protected };
+  slots = 0;
+  areas = record { window = []; probation = []; protected = [] };
+}
 
--- the lists with a slot at the window's front
-abbrev pub pushed : ℕ → ℕ → Areas Placed → Areas Placed
-pushed slot weight a = record { window = placed slot weight ∷ a.window; probation = a.probation; protected = a.protected }
+-- all slots below this number have room
+abbrev pub reserved : ℕ → SlotLists → SlotLists
+reserved slots l = record l { slots = max l.slots slots }
 
--- the lists after an access of a slot that weighs so much from now on
-abbrev pub accessed_at : ℕ → ℕ → SlotLists → Areas Placed
-accessed_at slot weight l = accessed weigh l.limits (is_slot slot) (placed slot weight) l.areas
+-- a slot came to the window's front
+abbrev pub pushed : ℕ → ℕ → SlotLists → SlotLists
+pushed slot weight l = record l { areas = record l.areas { window = placed slot weight ∷ l.areas.window } }
 
--- what settle makes of the lists, where slots were seen so often
+-- a slot left its list
+abbrev pub removed : ℕ → SlotLists → SlotLists
+removed slot l = record l { areas = without_slot slot l.areas }
+
+-- a slot was accessed, and weighs so much from now on
+abbrev pub accessed_at : ℕ → ℕ → SlotLists → SlotLists
+accessed_at slot weight l = record l { areas = accessed weigh l.limits (is_slot slot) (placed slot weight) l.areas }
+
+-- what the areas weigh
+abbrev pub weights_of : Areas Placed → Weights
+weights_of a = record { window = sum_by weigh a.window; probation = sum_by weigh a.probation; protected = sum_by weigh a.protected }
+
+-- what settle makes of the lists, where each slot was seen so often
 abbrev pub settled : (ℕ → ℕ) → SlotLists → Settled Placed
 settled seen l = settle weigh (λ p. seen p.slot) l.limits l.areas
 
--- the slot that is given is the next one that settle drops; where none is given, it has dropped all, and the lists are settled
-abbrev pub GivesNext : Option Slot → Settled Placed → SlotLists → Settled Placed → Type 0
-GivesNext None before l after = before ≡ record { areas = l.areas; dropped = [] }
-GivesNext (Some slot) before l after = (weight : ℕ) × (before ≡ and_then (placed slot.0 weight ∷ []) after)
+-- settle dropped this slot, and goes on from the lists after; or none, and the lists after are settled
+abbrev pub DropsNext : Option Slot → (ℕ → ℕ) → SlotLists → SlotLists → Type 0
+DropsNext None seen before after = settled seen before ≡ record { areas = after.areas; dropped = [] }
+DropsNext (Some slot) seen before after = (weight : ℕ) × (settled seen before ≡ and_then (placed slot.0 weight ∷ []) (settled seen after))
 
 -- no slot of this list weighs more
 abbrev pub AreLight : ℕ → List Placed → Type 0

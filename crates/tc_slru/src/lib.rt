@@ -7,6 +7,8 @@ mod lists;
 mod nodes;
 mod settle;
 mod slot;
+#[cfg(test)]
+mod tests;
 
 pub use lists::{Lists, Weights};
 pub use slot::Slot;

@@ -5,9 +5,10 @@
 //! no call has a case for one.
 ghost use Rattle.std.specs.Prelude.{◌≡◌, ℕ, reverse, ◌+◌, ◌-◌, ◌<◌, ◌≤◌, ◌^◌, true, false, length, max, slice_index, is_ok, OnErr, sum_by, if◌then◌else◌};
 ghost use Rattle.tc_model.specs.Areas.{total};
-ghost use Rattle.tc_model.specs.Ring.{HasPlace, put_next, put_prev, cut_next, cut_prev};
-ghost use Rattle.tc_slru.specs.Slots.{weigh, holds, without_slot};
-ghost use Rattle.tc_slru.specs.InAreas.{list_in, fronted_in, area_of, IsLast, IsSize, no_areas, mark_of, end_of};
+ghost use Rattle.tc_model.specs.Ring.{HasPlace};
+ghost use Rattle.tc_slru.specs.Links.{unlinked, linked_behind};
+ghost use Rattle.tc_slru.specs.Slots.{placed, weigh, holds, without_slot, taken_out, with_room};
+ghost use Rattle.tc_slru.specs.InAreas.{list_in, put_in, area_of, IsLast, IsSize, no_areas, mark_of, end_of};
 ghost use Rattle.tc_slru.specs.Victims.{Counts, left_over};
 
 use crate::area::{Area, Size, Sizes};
@@ -49,7 +50,7 @@ fn end_of(area: Area) -> usize
 /// Takes a node out of the ring.
 fn unlink(nodes: &mut Nodes, at: usize)
     requires { HasPlace nodes.old.next nodes.old.prev at }
-    ensures { nodes.new ≡ record nodes.old { next = cut_next nodes.old.next nodes.old.prev at; prev = cut_prev nodes.old.next nodes.old.prev at } }
+    ensures { nodes.new ≡ unlinked at nodes.old }
 {
     let node = nodes.node(at);
     nodes.set_next(node.prev, node.next);
@@ -61,7 +62,7 @@ fn link_behind(nodes: &mut Nodes, before: usize, at: usize)
     requires before { before < length nodes.old.next }
     requires within { at < length nodes.old.next }
     requires after { slice_index nodes.old.next before < length nodes.old.next }
-    ensures { nodes.new ≡ record nodes.old { next = put_next nodes.old.next before at; prev = put_prev nodes.old.next nodes.old.prev before at } }
+    ensures { nodes.new ≡ linked_behind before at nodes.old }
 {
     let after = nodes.node(before).next;
     nodes.set_next(before, at);
@@ -106,7 +107,7 @@ impl LinkedAreas {
 
     /// Room for all slots below this. A refusal changes nothing.
     pub fn reserve(&mut self, slots: usize) -> Result<(), NoMemory>
-        ensures reserved { self.new ≡ (if is_ok result then record self.old { slots = max self.old.slots slots } else self.old) }
+        ensures reserved { self.new ≡ (if is_ok result then with_room slots self.old else self.old) }
         ensures refused { OnErr result (self.old.slots < slots) }
     {
         self.nodes.reserve(slots)
@@ -144,7 +145,7 @@ impl LinkedAreas {
         requires reserved { slot.0 < self.old.slots }
         requires free { holds slot.0 self.old.areas ≡ false }
         requires fits { total weigh self.old.areas + weight < 2 ^ 64 }
-        ensures { self.new ≡ record self.old { areas = fronted_in area (record { slot = slot.0; weight = weight }) self.old.areas } }
+        ensures { self.new ≡ put_in area (placed slot.0 weight) self.old }
     {
         let at = self.nodes.place(slot);
         self.nodes.note(at, weight, area);
@@ -155,7 +156,7 @@ impl LinkedAreas {
     /// Takes a slot out of its list, which it gives.
     pub fn take(&mut self, slot: Slot) -> Area
         requires { holds slot.0 self.old.areas ≡ true }
-        ensures taken { self.new ≡ record self.old { areas = without_slot slot.0 self.old.areas } }
+        ensures taken { self.new ≡ taken_out slot.0 self.old }
         ensures from { result ≡ area_of slot.0 self.old.areas }
         ensures reserved { slot.0 < self.old.slots }
     {
@@ -172,7 +173,8 @@ impl LinkedAreas {
     pub fn move_to(&mut self, area: Area, held: Held)
         requires held { holds held.slot.0 self.old.areas ≡ true }
         requires fits { total weigh (without_slot held.slot.0 self.old.areas) + held.weight < 2 ^ 64 }
-        ensures { self.new ≡ record self.old { areas = fronted_in area (record { slot = held.slot.0; weight = held.weight }) (without_slot held.slot.0 self.old.areas) } }
+        ensures { self.new
+            ≡ put_in area (placed held.slot.0 held.weight) (taken_out held.slot.0 self.old) }
     {
         self.take(held.slot);
         self.put(area, held.slot, held.weight);
@@ -181,7 +183,7 @@ impl LinkedAreas {
     /// The last of a list.
     pub fn last(&self, area: Area) -> Held
         requires { 0 < length (list_in area self.now.areas) }
-        ensures { IsLast (record { slot = result.slot.0; weight = result.weight }) area self.now.areas }
+        ensures { IsLast (placed result.slot.0 result.weight) area self.now.areas }
     {
         let at = self.nodes.node(end_of(area)).prev;
         let node = self.nodes.node(at);
@@ -193,9 +195,12 @@ impl LinkedAreas {
 
     /// What is left of a need once the last of a list are counted, as few as there must be; `None` where one of them
     /// was not seen less often than `level`.
-    pub fn shortfall<F: Fn(Slot) -> u8>(&self, area: Area, freq: &F, level: u8, mut need: u64) -> Option<u64>
+    pub fn shortfall<F>(&self, area: Area, freq: &F, level: u8, mut need: u64) -> Option<u64>
+    where
+        F: Fn(Slot) -> u8,
         requires { F.IsAlwaysCallable freq.now }
-        ensures { (seen : ℕ → ℕ) → Counts (F.post freq.now) seen → result ≡ left_over seen level need (reverse (list_in area self.now.areas)) }
+        ensures { (seen : ℕ → ℕ) → Counts (F.post freq.now) seen
+            → result ≡ left_over seen level need (reverse (list_in area self.now.areas)) }
     {
         let mut at = end_of(area);
         for _victim in 0..self.sizes.of(area).count {

@@ -1,10 +1,9 @@
 //! The lists of slots under access and settle.
-ghost use Rattle.std.specs.Prelude.{◌≡◌, ℕ, ◌+◌, ◌<◌, ◌≤◌, ◌^◌, true, false, max, is_ok, OnErr, sum_by, option_map, if◌then◌else◌};
-ghost use Rattle.tc_model.specs.Areas.{total, demoted};
+ghost use Rattle.std.specs.Prelude.{◌≡◌, ℕ, ◌+◌, ◌<◌, ◌≤◌, ◌^◌, true, false, is_ok, OnErr, if◌then◌else◌};
+ghost use Rattle.tc_model.specs.Areas.{total};
 ghost use Rattle.tc_slru.specs.Slots.{weigh, holds, without_slot};
-ghost use Rattle.tc_slru.specs.InAreas.{no_areas};
 ghost use Rattle.tc_slru.specs.Victims.{Counts};
-ghost use Rattle.tc_slru.specs.SlotLists.{placed, pushed, accessed_at, settled, GivesNext};
+ghost use Rattle.tc_slru.specs.SlotLists.{fresh, reserved, pushed, removed, accessed_at, weights_of, DropsNext};
 
 use crate::area::Area;
 use crate::linked_areas::LinkedAreas;
@@ -45,7 +44,7 @@ impl Lists {
     /// Empty lists with room for no slot: the window may weigh `window`, probation and protected together `main`, and
     /// protected alone `protected`. Takes no memory.
     pub fn new(alloc: Global, window: u64, main: u64, protected: u64) -> Lists
-        ensures { result ≡ record { limits = record { window = window; main = main; protected = protected }; slots = 0; areas = no_areas } }
+        ensures { result ≡ fresh window main protected }
     {
         Lists {
             limits: Limits {
@@ -59,7 +58,7 @@ impl Lists {
 
     /// Room for all slots below `slots`; never less than there was. A refusal changes nothing.
     pub fn reserve(&mut self, slots: usize) -> Result<(), NoMemory>
-        ensures reserved { self.new ≡ (if is_ok result then record self.old { slots = max self.old.slots slots } else self.old) }
+        ensures reserved { self.new ≡ (if is_ok result then reserved slots self.old else self.old) }
         ensures refused { OnErr result (self.old.slots < slots) }
     {
         self.areas.reserve(slots)
@@ -72,6 +71,13 @@ impl Lists {
         self.areas.slots()
     }
 
+    /// The most that one item may weigh: what main may.
+    pub fn heaviest(&self) -> u64
+        ensures { result ≡ self.now.limits.main }
+    {
+        self.limits.main
+    }
+
     /// Whether the slot stands in one of the lists.
     pub fn holds(&self, slot: Slot) -> bool
         ensures { result ≡ holds slot.0 self.now.areas }
@@ -81,7 +87,7 @@ impl Lists {
 
     /// What each area weighs, kept and not added up.
     pub fn weights(&self) -> Weights
-        ensures { result ≡ record { window = sum_by weigh self.now.areas.window; probation = sum_by weigh self.now.areas.probation; protected = sum_by weigh self.now.areas.protected } }
+        ensures { result ≡ weights_of self.now.areas }
     {
         let sizes = self.areas.sizes();
         Weights {
@@ -97,7 +103,7 @@ impl Lists {
         requires free { holds slot.0 self.old.areas ≡ false }
         requires light { weight ≤ self.old.limits.main }
         requires fits { total weigh self.old.areas + weight < 2 ^ 64 }
-        ensures { self.new ≡ record self.old { areas = pushed slot.0 weight self.old.areas } }
+        ensures { self.new ≡ pushed slot.0 weight self.old }
     {
         self.areas.put(Area::Window, slot, weight);
     }
@@ -105,7 +111,7 @@ impl Lists {
     /// Takes a held slot out of its list.
     pub fn remove(&mut self, slot: Slot)
         requires { holds slot.0 self.old.areas ≡ true }
-        ensures { self.new ≡ record self.old { areas = without_slot slot.0 self.old.areas } }
+        ensures { self.new ≡ removed slot.0 self.old }
     {
         self.areas.take(slot);
     }
@@ -116,7 +122,7 @@ impl Lists {
         requires held { holds slot.0 self.old.areas ≡ true }
         requires light { weight ≤ self.old.limits.main }
         requires fits { total weigh (without_slot slot.0 self.old.areas) + weight < 2 ^ 64 }
-        ensures { self.new ≡ record self.old { areas = accessed_at slot.0 weight self.old } }
+        ensures { self.new ≡ accessed_at slot.0 weight self.old }
     {
         let from = self.areas.take(slot);
         self.areas.put(from.raised(), slot, weight);
@@ -128,7 +134,8 @@ impl Lists {
     pub fn settle_step<F: Fn(Slot) -> u8>(&mut self, freq: F) -> Option<Slot>
         requires { F.IsAlwaysCallable freq }
         ensures kept { self.new ≡ record self.old { areas = self.new.areas } }
-        ensures settled { (seen : ℕ → ℕ) → Counts (F.post freq) seen → GivesNext result (settled seen self.old) self.new (settled seen self.new) }
+        ensures settled { (seen : ℕ → ℕ) → Counts (F.post freq) seen
+            → DropsNext result seen self.old self.new }
     {
         hold_protected(&mut self.areas, self.limits.protected);
         drop_next(&mut self.areas, self.limits, &freq)

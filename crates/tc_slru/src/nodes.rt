@@ -1,6 +1,6 @@
 //! The nodes of the ring, by number. The first three are the marks before window, probation and protected; slot n is node n + 3.
 ghost use Rattle.std.specs.Prelude.{◌≡◌, ◌+◌, ◌<◌, ◌≤◌, ◌^◌, length, Some, None, slice_index, slice_set, is_ok, OnErr, if◌then◌else◌};
-ghost use Rattle.tc_slru.specs.Links.{area_at, marks_alone, grown};
+ghost use Rattle.tc_slru.specs.Links.{area_at, marks_alone, grown, noted, freed};
 
 use crate::area::Area;
 use crate::slot::Slot;
@@ -67,7 +67,8 @@ impl Nodes {
 
     /// Room for all slots below this. A refusal changes nothing.
     pub fn reserve(&mut self, slots: usize) -> Result<(), NoMemory>
-        ensures nodes { self.new ≡ (if is_ok result then grown (slots + 3) self.old else self.old) }
+        ensures nodes { self.new ≡
+            (if is_ok result then grown (slots + 3) self.old else self.old) }
         ensures refused { OnErr result (length self.old.next < slots + 3) }
     {
         if self.rest.len() < slots {
@@ -138,7 +139,7 @@ impl Nodes {
     pub fn note(&mut self, at: usize, weight: u64, area: Area)
         requires slot { 3 ≤ at }
         requires within { at < length self.old.next }
-        ensures { self.new ≡ record self.old { weights = slice_set self.old.weights at weight; areas = slice_set self.old.areas at (Some area) } }
+        ensures { self.new ≡ noted at weight area self.old }
     {
         let node = &mut self.rest[at - MARKS];
         node.weight = weight;
@@ -149,7 +150,7 @@ impl Nodes {
     pub fn free(&mut self, at: usize)
         requires slot { 3 ≤ at }
         requires within { at < length self.old.next }
-        ensures { self.new ≡ record self.old { areas = slice_set self.old.areas at None } }
+        ensures { self.new ≡ freed at self.old }
     {
         self.rest[at - MARKS].area = None;
     }

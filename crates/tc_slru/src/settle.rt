@@ -1,11 +1,10 @@
 //! The three rules of settle, each over the linked lists.
-ghost use Rattle.std.specs.Prelude.{◌≡◌, ℕ, ◌+◌, ◌-◌, ◌<◌, ◌≤◌, ◌^◌, sum_by, nat_lt, nat_le};
-ghost use Rattle.std.specs.List.{list_all};
-ghost use Rattle.tc_model.specs.Areas.{total, demoted, main_weight, shortest, from_tail};
-ghost use Rattle.tc_slru.specs.Slots.{weigh};
+ghost use Rattle.std.specs.Prelude.{◌≡◌, ℕ, ◌+◌, ◌-◌, ◌<◌, ◌≤◌, ◌^◌, sum_by, nat_le};
+ghost use Rattle.tc_model.specs.Areas.{total, main_weight, shortest, from_tail};
+ghost use Rattle.tc_slru.specs.Slots.{placed, weigh};
 ghost use Rattle.tc_slru.specs.Victims.{Counts};
-ghost use Rattle.tc_slru.specs.SlotLists.{placed, GivesNext, AreLight, settled};
-ghost use Rattle.tc_slru.specs.Dropping.{IsMainsLast, verdict_of, with_limits, protected_limit};
+ghost use Rattle.tc_slru.specs.SlotLists.{DropsNext, AreLight};
+ghost use Rattle.tc_slru.specs.Dropping.{IsMainsLast, ranks_above, verdict_of, held_to, with_limits};
 
 use crate::area::Area;
 use crate::linked_areas::{Held, LinkedAreas};
@@ -33,7 +32,7 @@ pub enum Verdict {
 /// Holds protected to its limit: its last goes to the front of probation while it weighs too much.
 pub fn hold_protected(areas: &mut LinkedAreas, limit: u64)
     requires { total weigh areas.old.areas < 2 ^ 64 }
-    ensures { areas.new ≡ record areas.old { areas = demoted weigh (protected_limit limit) areas.old.areas } }
+    ensures { areas.new ≡ held_to limit areas.old }
 {
     while areas.sizes().protected.weight > limit {
         let last = areas.last(Area::Protected);
@@ -45,7 +44,8 @@ pub fn hold_protected(areas: &mut LinkedAreas, limit: u64)
 fn drop_last(areas: &mut LinkedAreas) -> Slot
     requires { 0 < main_weight weigh areas.old.areas }
     ensures slots { areas.new.slots ≡ areas.old.slots }
-    ensures last { (weight : ℕ) × IsMainsLast (placed result.0 weight) areas.old.areas areas.new.areas }
+    ensures last { (weight : ℕ)
+        × IsMainsLast (placed result.0 weight) areas.old.areas areas.new.areas }
 {
     let area = if areas.sizes().probation.count > 0 {
         Area::Probation
@@ -60,7 +60,8 @@ fn drop_last(areas: &mut LinkedAreas) -> Slot
 /// Whether all victims were seen less often than `level`: the shortest run from main's tail that weighs `need`.
 fn outranks<F: Fn(Slot) -> u8>(areas: &LinkedAreas, freq: &F, level: u8, need: u64) -> bool
     requires { F.IsAlwaysCallable freq.now }
-    ensures { (seen : ℕ → ℕ) → Counts (F.post freq.now) seen → result ≡ list_all (λ v. nat_lt (seen v.slot) level) (shortest weigh need (from_tail areas.now.areas)) }
+    ensures { (seen : ℕ → ℕ) → Counts (F.post freq.now) seen
+        → result ≡ ranks_above seen level (shortest weigh need (from_tail areas.now.areas)) }
 {
     match areas.shortfall(Area::Probation, freq, level, need) {
         Some(rest) => areas.shortfall(Area::Protected, freq, level, rest).is_some(),
@@ -69,11 +70,15 @@ fn outranks<F: Fn(Slot) -> u8>(areas: &LinkedAreas, freq: &F, level: u8, need: u
 }
 
 /// What becomes of the candidate.
-fn judge<F: Fn(Slot) -> u8>(areas: &LinkedAreas, limits: Limits, freq: &F, candidate: Held) -> Verdict
+fn judge<F>(areas: &LinkedAreas, limits: Limits, freq: &F, candidate: Held) -> Verdict
+where
+    F: Fn(Slot) -> u8,
     requires callable { F.IsAlwaysCallable freq.now }
     requires fits { main_weight weigh areas.now.areas + candidate.weight < 2 ^ 64 }
-    ensures verdict { (seen : ℕ → ℕ) → Counts (F.post freq.now) seen → result ≡ verdict_of seen limits areas.now.areas (placed candidate.slot.0 candidate.weight) }
-    ensures waits { result ≡ Verdict.Waits → sum_by weigh areas.now.areas.probation < main_weight weigh areas.now.areas + candidate.weight - limits.main }
+    ensures verdict { (seen : ℕ → ℕ) → Counts (F.post freq.now) seen → result
+        ≡ verdict_of seen limits areas.now.areas (placed candidate.slot.0 candidate.weight) }
+    ensures waits { result ≡ Verdict.Waits → sum_by weigh areas.now.areas.probation
+        < main_weight weigh areas.now.areas + candidate.weight - limits.main }
 {
     let sizes = areas.sizes();
     let main = sizes.probation.weight + sizes.protected.weight;
@@ -88,7 +93,9 @@ fn judge<F: Fn(Slot) -> u8>(areas: &LinkedAreas, limits: Limits, freq: &F, candi
 }
 
 /// The next slot that settle drops, once protected is within its limit.
-pub fn drop_next<F: Fn(Slot) -> u8>(areas: &mut LinkedAreas, limits: Limits, freq: &F) -> Option<Slot>
+pub fn drop_next<F>(areas: &mut LinkedAreas, limits: Limits, freq: &F) -> Option<Slot>
+where
+    F: Fn(Slot) -> u8,
     requires callable { F.IsAlwaysCallable freq.now }
     requires protected { sum_by weigh areas.old.areas.protected ≤ limits.protected }
     requires light { AreLight limits.main areas.old.areas.window }
@@ -96,7 +103,8 @@ pub fn drop_next<F: Fn(Slot) -> u8>(areas: &mut LinkedAreas, limits: Limits, fre
     ensures slots { areas.new.slots ≡ areas.old.slots }
     ensures light { AreLight limits.main areas.new.areas.window }
     ensures fits { total weigh areas.new.areas < 2 ^ 64 }
-    ensures settled { (seen : ℕ → ℕ) → Counts (F.post freq.now) seen → GivesNext result (settled seen (with_limits limits areas.old)) (with_limits limits areas.new) (settled seen (with_limits limits areas.new)) }
+    ensures settled { (seen : ℕ → ℕ) → Counts (F.post freq.now) seen
+        → DropsNext result seen (with_limits limits areas.old) (with_limits limits areas.new) }
 {
     while is_main_within(areas, limits.main) && areas.sizes().window.weight > limits.window {
         let candidate = areas.last(Area::Window);

@@ -1,5 +1,5 @@
 use Rattle.std.proofs.Common.{ap, arith}
-use Rattle.tc_slru.specs.SlotLists.{placed}
+use Rattle.tc_slru.specs.Slots.{placed}
 use Rattle.tc_slru.specs.Slots.{Shown}
 use Rattle.tc_slru.proofs.Dropped.{last_of_probation, last_of_protected}
 use Rattle.tc_slru.proofs.settle.drop_last.Goals as goal

@@ -2,7 +2,7 @@ use Rattle.std.specs.Prelude.{sum_by}
 use Rattle.std.proofs.Common.{◌≤◌, ◌∙◌, sym, refl, arith}
 use Rattle.std.proofs.lemmas.Bool.{leb-true, leb-false, false≢true}
 use Rattle.tc_slru.specs.Slots.{weigh}
-use Rattle.tc_slru.specs.SlotLists.{placed}
+use Rattle.tc_slru.specs.Slots.{placed}
 use Rattle.tc_slru.specs.declared.area.Area.TheVariants.{Window}
 use Rattle.tc_slru.proofs.Lasts.{last_total}
 use Rattle.tc_slru.proofs.Dropped.{last_light, admits_enters, step_waits, step_refuses, step_trims, step_ends}

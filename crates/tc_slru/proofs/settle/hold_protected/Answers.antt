@@ -1,5 +1,5 @@
 use Rattle.std.proofs.Common.{arith}
-use Rattle.tc_slru.specs.SlotLists.{placed}
+use Rattle.tc_slru.specs.Slots.{placed}
 use Rattle.tc_slru.specs.declared.area.Area.TheVariants.{Protected}
 use Rattle.tc_slru.proofs.Lasts.{last_total}
 use Rattle.tc_slru.proofs.Holding.{holding_moves, holding_ends}

@@ -1,5 +1,5 @@
 use Rattle.std.proofs.Common.{◌∙◌, sym, arith}
-use Rattle.tc_slru.specs.SlotLists.{placed}
+use Rattle.tc_slru.specs.Slots.{placed}
 use Rattle.tc_slru.proofs.Outranked.{refused, enters, waits}
 use Rattle.tc_slru.proofs.settle.judge.Goals as goal
 

@@ -15,4 +15,4 @@ invariant_of-self c = (access_by (limits_of c.self.inside.limits) c.args.slot.0 
 
 pub returns : goal.returns
 returns c = (access_by (limits_of c.self.inside.limits) c.args.slot.0 c.args.weight c.take-from.result c.raised.result c.self.inside.areas c.take-from.new.self c.put.new.self c.hold_protected.new.areas c.take-from.ensures.from c.raised.ensures c.take-from.ensures.taken c.put.ensures c.hold_protected.ensures
-    (rw (← c.self.view_is) at c.requires.light) (rw (← c.self.view_is) at c.requires.fits) c.self.invariant).shows ∙ ap (λ (l : SlotLists). (let m : SlotLists = record l { areas = accessed_at c.args.slot.0 c.args.weight l } in m)) c.self.view_is
+    (rw (← c.self.view_is) at c.requires.light) (rw (← c.self.view_is) at c.requires.fits) c.self.invariant).shows ∙ ap (λ (l : SlotLists). accessed_at c.args.slot.0 c.args.weight l) c.self.view_is

@@ -1,10 +1,11 @@
-use Rattle.std.proofs.Common.{◌∙◌, ap, subst, arith}
+use Rattle.std.proofs.Common.{◌≡◌, sym, ◌∙◌, ap, arith}
 use Rattle.std.specs.Prelude.{sum_by}
-use Rattle.tc_model.specs.Areas.{Settled, total, settle}
+use Rattle.tc_model.specs.Areas.{total}
 use Rattle.tc_model.proofs.Within.{sum-fitting}
-use Rattle.tc_slru.specs.Slots.{Placed, Shown, weigh}
-use Rattle.tc_slru.specs.SlotLists.{SlotLists, settled, GivesNext}
+use Rattle.tc_slru.specs.Slots.{Shown, weigh}
+use Rattle.tc_slru.specs.SlotLists.{SlotLists, settled}
 use Rattle.tc_slru.specs.Dropping.{limits_of, with_limits}
+use Rattle.tc_slru.proofs.Dropped.{drops_from}
 use Rattle.tc_slru.proofs.Holding.{total-demoted, settle-demoted}
 use Rattle.tc_slru.proofs.lists.Lists.settle_step.Goals as goal
 
@@ -18,6 +19,7 @@ drop_next-requires-clause-fits g c =
 
 pub returns-clause-settled : goal.returns-clause-settled
 returns-clause-settled g c = λ seen h.
-    let same = ap (λ (v : Shown). settle weigh (λ (p : Placed). seen p.slot) (limits_of c.self.inside.limits) v.areas) c.hold_protected.ensures
-      ∙ settle-demoted seen (limits_of c.self.inside.limits) c.self.inside.areas.areas ∙ ap (λ (l : SlotLists). settled seen l) c.self.view_is in
-    subst (λ (z : Settled Placed). GivesNext c.drop_next.result z (with_limits c.self.inside.limits c.drop_next.new.areas) (settled seen (with_limits c.self.inside.limits c.drop_next.new.areas))) same (c.drop_next.ensures.settled seen h)
+    let same : settled seen (with_limits c.self.inside.limits c.hold_protected.new.areas) ≡ settled seen c.args.self.now
+      = ap (λ (v : Shown). settled seen (with_limits c.self.inside.limits v)) c.hold_protected.ensures
+        ∙ settle-demoted seen (limits_of c.self.inside.limits) c.self.inside.areas.areas ∙ ap (λ (l : SlotLists). settled seen l) c.self.view_is in
+    drops_from seen c.drop_next.result (with_limits c.self.inside.limits c.hold_protected.new.areas) c.args.self.now (with_limits c.self.inside.limits c.drop_next.new.areas) (sym same) (c.drop_next.ensures.settled seen h)
