@@ -113,7 +113,7 @@ impl Lists {
         requires { holds slot.0 self.old.areas ≡ true }
         ensures { self.new ≡ removed slot.0 self.old }
     {
-        self.areas.take(slot);
+        let _area = self.areas.take(slot);
     }
 
     /// An access: the slot weighs `weight` from now on, and goes to the front of its list, from probation to the front of
