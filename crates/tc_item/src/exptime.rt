@@ -8,7 +8,7 @@ use crate::{Due, Moment};
 pub const LONGEST_OFFSET: i64 = 2_592_000;
 
 /// The due of an exptime: 0 is never, a negative one is now, up to thirty days is so long from
-/// now, and above is that second since 1970.
+/// the moment handed in, and above is that second since 1970.
 pub fn due(exptime: i64, now: Moment) -> Due
     ensures { result ≡ due_of exptime now }
 {

@@ -10,7 +10,7 @@ ghost use Rattle.tc_item.specs.declared.key.KeyFault.TheVariants.{NoMemory as Ou
 
 use crate::NoMemory;
 use smallvec::SmallVec;
-use std::alloc::{AllocError, Global};
+use std::alloc::Global;
 use std::error::Error;
 use std::fmt;
 use std::hash::{Hash, Hasher};
@@ -41,10 +41,10 @@ impl fmt::Display for KeyFault {
 
 impl Error for KeyFault {}
 
-impl From<AllocError> for KeyFault {
+impl From<NoMemory> for KeyFault {
     ghost from_gives = { λ _ e. e ≡ OutOfMemory };
 
-    fn from(_refused: AllocError) -> KeyFault {
+    fn from(_refused: NoMemory) -> KeyFault {
         KeyFault::NoMemory
     }
 }
@@ -101,8 +101,7 @@ impl Key {
         if !are_key_bytes(bytes) {
             return Err(KeyFault::BadByte);
         }
-        let bytes = SmallVec::from_slice(alloc, bytes)?;
-        Ok(Key { bytes })
+        Ok(Key::from_key_bytes(alloc, bytes)?)
     }
 
     /// The key of bytes that are known to be one.
@@ -128,8 +127,7 @@ impl Key {
     pub fn copy(&self, alloc: Global) -> Result<Key, NoMemory>
         ensures { IfOk result (λ k. k ≡ self.now) }
     {
-        let bytes = SmallVec::from_slice(alloc, self.bytes.as_slice())?;
-        Ok(Key { bytes })
+        Key::from_key_bytes(alloc, self.as_bytes())
     }
 }
 
@@ -154,7 +152,7 @@ impl Hash for Key {
     ghost respects_eq = { Prim.search (hashing, rules) };
 
     fn hash<H: Hasher>(&self, state: &mut H) {
-        state.write(self.bytes.as_slice());
+        state.write(self.as_bytes());
     }
 }
 

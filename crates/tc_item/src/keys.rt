@@ -8,16 +8,16 @@ ghost use Rattle.std.proofs.Common.{rules};
 use crate::{Key, NoMemory};
 use std::alloc::Global;
 use std::marker::Model;
-use std::{mem, slice};
+use std::{fmt, mem, slice};
 
 /// Keys in order; a key may stand twice.
-#[derive(Debug, Drop)]
+#[derive(Drop)]
 pub struct Keys {
     held: Held,
 }
 
 /// Most requests name one key, so one alone is kept in place.
-#[derive(Debug, Drop)]
+#[derive(Drop)]
 enum Held {
     Nothing,
     One(Key),
@@ -121,4 +121,11 @@ impl PartialEq for Keys {
 
 impl Eq for Keys {
     ghost laws = { Prim.search (comparing, rules) };
+}
+
+/// The keys as a list.
+impl fmt::Debug for Keys {
+    fn fmt<W: fmt::Write>(&self, f: &mut fmt::Formatter<W>) -> fmt::Result {
+        write!(f, "{:?}", self.as_slice())
+    }
 }

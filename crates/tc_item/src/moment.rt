@@ -44,7 +44,7 @@ impl Moment {
         ensures { MatchOption result (2 ^ 40 ≤ seconds) (λ m. m ≡ seconds) }
     {
         if seconds < 1 << 40 {
-            Some(Moment { seconds })
+            Some(Moment::new(seconds))
         } else {
             None
         }
@@ -62,11 +62,7 @@ impl Moment {
     pub fn later(self, other: Moment) -> Moment
         ensures { result ≡ max self other }
     {
-        if self.seconds < other.seconds {
-            other
-        } else {
-            self
-        }
+        if self < other { other } else { self }
     }
 }
 

@@ -1,0 +1,4 @@
+pub mod Stream
+pub mod CutStream
+pub mod Scanned
+pub mod Looking

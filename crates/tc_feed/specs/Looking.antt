@@ -1,0 +1,10 @@
+-- How many bytes a line's request needs. Source: this project's own.
+use Rattle.std.specs.Prelude.{ℕ, ◌+◌}
+use Rattle.tc_grammar.specs.declared.line.Line.{Line}
+use Rattle.tc_grammar.specs.declared.line.Line.TheVariants.{Ready, NeedsBlock, Refused}
+
+-- a line with its end, a block and the line end behind it; a line without a block needs no more than is there
+abbrev pub needed_of : ℕ → Line → ℕ
+needed_of line (Ready command) = 0
+needed_of line (Refused fault quiet skip) = 0
+needed_of line (NeedsBlock head n) = line + (n + 2)

@@ -1,0 +1,158 @@
+//! The unread bytes of a stream.
+ghost use Rattle.std.specs.Prelude.{◌≡◌, ◌++◌, ◌+◌, ◌≤◌, [], drop, None, OnOk, OnErr, IfOk, IsTrue, length as list_length};
+ghost use Rattle.tc_feed.specs.Stream.{Reader, more, empty, first, found, after_first};
+
+use crate::Request;
+use crate::reading::{Finding, look};
+use std::alloc::Global;
+use std::marker::Model;
+use tc_item::NoMemory;
+
+/// The most room that is kept once all bytes are read.
+const KEPT_ROOM: usize = 131_072;
+
+/// The unread bytes of a stream, and how many of those to come are skipped.
+#[derive(Debug, Drop)]
+pub struct Feed {
+    bytes: Vec<u8>,
+    /// Where the unread bytes begin.
+    start: usize,
+    /// How many of the unread bytes were looked through for a line feed, and hold none.
+    scanned: usize,
+    /// The limit of blocks at the last look, and how many unread bytes a request needs by it.
+    limit: u32,
+    needed: usize,
+    /// How many bytes to come are skipped.
+    owed: usize,
+}
+
+impl Model for Feed {
+    ghost use Rattle.std.specs.Prelude.{drop};
+    ghost use Rattle.tc_feed.specs.Stream.{Reader};
+
+    ghost Value = { Reader };
+
+    ghost view = { λ f. record { unread = drop f.start f.bytes.items; owed = f.owed } };
+
+    ghost use Rattle.tc_feed.specs.Scanned.{IsScanned, IsAwaited};
+
+    ghost invariant = { λ f. IsScanned f.start f.scanned f.owed f.bytes.items × IsAwaited f.limit f.needed (drop f.start f.bytes.items) };
+}
+
+impl Feed {
+    /// Nothing has come.
+    pub fn new(alloc: Global) -> Feed
+        ensures { result ≡ empty }
+    {
+        Feed {
+            bytes: Vec::new(alloc),
+            start: 0,
+            scanned: 0,
+            limit: 0,
+            needed: 0,
+            owed: 0,
+        }
+    }
+
+    /// Takes the next piece of the stream. A refusal leaves the unread bytes as they were.
+    pub fn push(&mut self, piece: &[u8]) -> Result<(), NoMemory>
+        ensures more { OnOk result (self.new ≡ more self.old piece.now) }
+        ensures unchanged_on_err { OnErr result (self.new ≡ self.old) }
+    {
+        let n = piece.len();
+        if n <= self.owed {
+            self.owed -= n;
+            return Ok(());
+        }
+        self.compact();
+        let rest = &piece[self.owed..];
+        self.bytes.extend_from_slice(rest)?;
+        self.owed = 0;
+        Ok(())
+    }
+
+    /// Gives up the room of bytes that were read, once they are more than those that are left.
+    fn compact(&mut self)
+        ensures { self.new ≡ self.old }
+    {
+        if self.start > self.bytes.len() - self.start {
+            self.bytes.drain(..self.start);
+            self.start = 0;
+        }
+    }
+
+    /// How many bytes are unread.
+    pub fn kept(&self) -> usize
+        ensures { result ≡ list_length self.now.unread }
+    {
+        self.bytes.len() - self.start
+    }
+
+    /// The next whole request, where blocks of at most `limit` bytes are taken: `None` only where no
+    /// whole request begins the unread bytes, which are then at most 65,538 and the limit. A refusal
+    /// leaves the request unread.
+    pub fn next(&mut self, alloc: Global, limit: u32) -> Result<Option<Request>, NoMemory>
+        ensures found { IfOk result (λ request. request ≡ found limit self.old) }
+        ensures after { OnOk result (self.new ≡ after_first limit self.old) }
+        ensures bounded { IfOk result (λ request. request ≡ None → list_length self.new.unread ≤ limit + 65538) }
+        ensures unchanged_on_err { OnErr result (self.new ≡ self.old) }
+    {
+        if self.is_lacking(limit) {
+            return Ok(None);
+        }
+        let unread = &self.bytes[self.start..];
+        let Finding {
+            taken,
+            scanned,
+            needed,
+        } = look(alloc, limit, unread, self.scanned)?;
+        match taken {
+            None => {
+                self.scanned = scanned;
+                self.limit = limit;
+                self.needed = needed;
+                Ok(None)
+            }
+            Some(taken) => {
+                self.pass(alloc, taken.length, taken.skip);
+                Ok(Some(taken.request))
+            }
+        }
+    }
+
+    /// Whether the last look says that no whole request is there yet.
+    fn is_lacking(&self, limit: u32) -> bool
+        ensures none { IsTrue result → first limit self.now.unread ≡ None }
+        ensures bounded { IsTrue result → list_length self.now.unread ≤ limit + 65538 }
+    {
+        self.limit == limit && self.kept() < self.needed
+    }
+
+    /// Goes past the bytes of a request, and past more of those that came or are to come.
+    fn pass(&mut self, alloc: Global, length: usize, skip: usize)
+        requires { length ≤ list_length self.old.unread }
+        ensures { self.new ≡ more (record { unread = []; owed = skip }) (drop length self.old.unread) }
+    {
+        let there = self.bytes.len() - self.start - length;
+        self.scanned = 0;
+        self.needed = 0;
+        if skip < there {
+            self.start += length + skip;
+        } else {
+            clear(alloc, &mut self.bytes);
+            self.start = 0;
+            self.owed = skip - there;
+        }
+    }
+}
+
+/// Empties the bytes, and gives up their room where it is large.
+fn clear(alloc: Global, bytes: &mut Vec<u8>)
+    ensures { bytes.new.items ≡ [] }
+{
+    if bytes.capacity() > KEPT_ROOM {
+        *bytes = Vec::new(alloc);
+    } else {
+        bytes.clear();
+    }
+}

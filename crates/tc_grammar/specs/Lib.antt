@@ -1,0 +1,14 @@
+pub mod Counting
+pub mod Ending
+pub mod Faults
+pub mod Keyed
+pub mod Lines
+pub mod Names
+pub mod Numbers
+pub mod Reading
+pub mod Retrieval
+pub mod Storage
+pub mod Table
+pub mod Tokens
+pub mod Unkeyed
+pub mod Words

@@ -1,0 +1,172 @@
+//! Commands: what a line asks of a cache.
+ghost use Rattle.std.specs.Prelude.{◌≡◌, IfOk};
+
+use std::alloc::Global;
+use tc_item::{Blob, Key, Keys, NoMemory};
+
+/// Which of the six storage names.
+#[derive(Clone, Copy, Debug, PartialEq, Eq)]
+pub enum StoreKind {
+    Set,
+    Add,
+    Replace,
+    Append,
+    Prepend,
+    Cas,
+}
+
+/// Whether items are shown with their cas numbers.
+#[derive(Clone, Copy, Debug, PartialEq, Eq)]
+pub enum Form {
+    Bare,
+    WithCas,
+}
+
+/// Which way a counter goes.
+#[derive(Clone, Copy, Debug, PartialEq, Eq)]
+pub enum Way {
+    Incr,
+    Decr,
+}
+
+/// A storage line without its block.
+#[derive(Debug, PartialEq, Eq, Drop)]
+pub struct Head {
+    pub kind: StoreKind,
+    pub key: Key,
+    pub flags: u32,
+    /// -2^31 to 2^32 - 1.
+    pub exptime: i64,
+    /// 0 but for `cas`.
+    pub cas_unique: u64,
+    /// Whether the line has `noreply`.
+    pub quiet: bool,
+}
+
+impl Head {
+    /// An equal head.
+    pub fn copy(&self, alloc: Global) -> Result<Head, NoMemory>
+        ensures { IfOk result (λ head. head ≡ self.now) }
+    {
+        let key = self.key.copy(alloc)?;
+        Ok(Head {
+            kind: self.kind,
+            key,
+            flags: self.flags,
+            exptime: self.exptime,
+            cas_unique: self.cas_unique,
+            quiet: self.quiet,
+        })
+    }
+}
+
+/// What a line asks for. `quiet` says that the line has `noreply`; an exptime is -2^31 to 2^32 - 1.
+#[derive(Debug, PartialEq, Eq, Drop)]
+pub enum Command {
+    /// A storage line and its block.
+    Store(Head, Blob),
+    Get {
+        form: Form,
+        keys: Keys,
+    },
+    Gat {
+        form: Form,
+        exptime: i64,
+        keys: Keys,
+    },
+    Delete {
+        key: Key,
+        quiet: bool,
+    },
+    Count {
+        way: Way,
+        key: Key,
+        value: u64,
+        quiet: bool,
+    },
+    Touch {
+        key: Key,
+        exptime: i64,
+        quiet: bool,
+    },
+    /// A flush after so many seconds, 0 where the line has no delay.
+    Flush {
+        delay: u32,
+        quiet: bool,
+    },
+    Stats,
+    Version,
+    Verbosity {
+        level: u32,
+        quiet: bool,
+    },
+    Quit,
+}
+
+impl Command {
+    /// An equal command. A block is shared and not copied.
+    pub fn copy(&self, alloc: Global) -> Result<Command, NoMemory>
+        ensures { IfOk result (λ command. command ≡ self.now) }
+    {
+        match self {
+            Command::Store(head, blob) => Ok(Command::Store(head.copy(alloc)?, blob.copy()?)),
+            Command::Get { form, keys } => {
+                let (form, keys) = (*form, keys.copy(alloc)?);
+                Ok(Command::Get { form, keys })
+            }
+            Command::Gat {
+                form,
+                exptime,
+                keys,
+            } => {
+                let (form, exptime, keys) = (*form, *exptime, keys.copy(alloc)?);
+                Ok(Command::Gat {
+                    form,
+                    exptime,
+                    keys,
+                })
+            }
+            Command::Delete { key, quiet } => {
+                let (key, quiet) = (key.copy(alloc)?, *quiet);
+                Ok(Command::Delete { key, quiet })
+            }
+            Command::Count {
+                way,
+                key,
+                value,
+                quiet,
+            } => {
+                let (way, key, value, quiet) = (*way, key.copy(alloc)?, *value, *quiet);
+                Ok(Command::Count {
+                    way,
+                    key,
+                    value,
+                    quiet,
+                })
+            }
+            Command::Touch {
+                key,
+                exptime,
+                quiet,
+            } => {
+                let (key, exptime, quiet) = (key.copy(alloc)?, *exptime, *quiet);
+                Ok(Command::Touch {
+                    key,
+                    exptime,
+                    quiet,
+                })
+            }
+            Command::Flush { delay, quiet } => Ok(Command::Flush {
+                delay: *delay,
+                quiet: *quiet,
+            }),
+            Command::Stats => Ok(Command::Stats),
+            Command::Version => Ok(Command::Version),
+            Command::Verbosity { level, quiet } => Ok(Command::Verbosity {
+                level: *level,
+                quiet: *quiet,
+            }),
+            Command::Quit => Ok(Command::Quit),
+        }
+    }
+}

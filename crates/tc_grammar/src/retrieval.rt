@@ -1,0 +1,58 @@
+//! `get`, `gets`, `gat` and `gats`.
+ghost use Rattle.std.specs.Prelude.{◌≡◌, IfOk};
+ghost use Rattle.tc_grammar.specs.Retrieval.{keys_of, get_of, gat_of};
+
+use crate::command::{Command, Form};
+use crate::number::read_exptime;
+use crate::tokens::Tokens;
+use std::alloc::Global;
+use tc_item::{Key, Keys, NoMemory, is_key};
+
+/// One or more keys, up to the line's end.
+fn read_keys(alloc: Global, mut tokens: Tokens) -> Result<Option<Keys>, NoMemory>
+    ensures { IfOk result (λ keys. keys ≡ keys_of tokens.entry) }
+{
+    let mut keys = Keys::new();
+    while let Some(token) = tokens.next() {
+        if !is_key(token) {
+            return Ok(None);
+        }
+        keys.push(alloc, Key::from_key_bytes(alloc, token)?)?;
+    }
+    if keys.is_empty() {
+        return Ok(None);
+    }
+    Ok(Some(keys))
+}
+
+#[tactic(auto, unfolding(crate::specs::Retrieval::get_of))]
+/// `get` and `gets`, from the tokens after the name.
+pub fn read_get(alloc: Global, form: Form, tokens: Tokens) -> Result<Option<Command>, NoMemory>
+    ensures { IfOk result (λ command. command ≡ get_of form tokens.entry) }
+{
+    let Some(keys) = read_keys(alloc, tokens)? else {
+        return Ok(None)
+    };
+    Ok(Some(Command::Get { form, keys }))
+}
+
+#[tactic(auto, unfolding(crate::specs::Retrieval::gat_of))]
+/// `gat` and `gats`, from the tokens after the name.
+pub fn read_gat(alloc: Global, form: Form, mut tokens: Tokens) -> Result<Option<Command>, NoMemory>
+    ensures { IfOk result (λ command. command ≡ gat_of form tokens.entry) }
+{
+    let Some(exptime) = tokens.next() else {
+        return Ok(None)
+    };
+    let Some(exptime) = read_exptime(exptime) else {
+        return Ok(None)
+    };
+    let Some(keys) = read_keys(alloc, tokens)? else {
+        return Ok(None)
+    };
+    Ok(Some(Command::Gat {
+        form,
+        exptime,
+        keys,
+    }))
+}

@@ -1,0 +1,106 @@
+//! Storage lines.
+ghost use Rattle.std.specs.Prelude.{◌≡◌, IfOk};
+ghost use Rattle.tc_grammar.specs.Lines.{IsAnswered, IsBounded};
+ghost use Rattle.tc_grammar.specs.Storage.{ending_of, head_of, storage_line};
+
+use crate::command::{Head, StoreKind};
+use crate::ending::read_quiet;
+use crate::fault::Fault;
+use crate::line::{Line, refuse_format};
+use crate::number::{read_exptime, read_number, read_u32};
+use crate::tokens::Tokens;
+use std::alloc::Global;
+use tc_item::{Key, NoMemory, is_key};
+
+/// The most bytes that a block may be announced with.
+const LONGEST_BLOCK: u64 = (1 << 31) - 1;
+
+/// What follows the block's length: the cas unique, and whether the line is quiet.
+#[tactic(auto, unfolding(crate::specs::Storage::ending_of))]
+fn read_ending(kind: StoreKind, mut tokens: Tokens) -> Option<(u64, bool)>
+    ensures { result ≡ ending_of kind tokens.entry }
+{
+    match kind {
+        StoreKind::Cas => {
+            let unique = read_number(tokens.next()?, u64::MAX)?;
+            Some((unique, read_quiet(tokens)?))
+        }
+        _ => Some((0, read_quiet(tokens)?)),
+    }
+}
+
+/// A line of its form, but for its block.
+#[tactic(auto, unfolding(crate::specs::Storage::head_of))]
+fn read_head(
+    alloc: Global,
+    kind: StoreKind,
+    key: &[u8],
+    flags: &[u8],
+    exptime: &[u8],
+    rest: Tokens,
+) -> Result<Option<Head>, NoMemory>
+    ensures { IfOk result (λ h. h ≡ head_of kind key.now flags.now exptime.now rest.entry) }
+{
+    if !is_key(key) {
+        return Ok(None);
+    }
+    let Some(flags) = read_u32(flags) else {
+        return Ok(None)
+    };
+    let Some(exptime) = read_exptime(exptime) else {
+        return Ok(None)
+    };
+    let Some((cas_unique, quiet)) = read_ending(kind, rest) else {
+        return Ok(None)
+    };
+    let key = Key::from_key_bytes(alloc, key)?;
+    Ok(Some(Head {
+        kind,
+        key,
+        flags,
+        exptime,
+        cas_unique,
+        quiet,
+    }))
+}
+
+/// What a storage line says, from the tokens after its name.
+#[tactic(auto, unfolding(crate::specs::Storage::storage_line))]
+pub fn read_storage_line(
+    alloc: Global,
+    kind: StoreKind,
+    mut tokens: Tokens,
+    block_limit: u32,
+) -> Result<Line, NoMemory>
+    ensures reading { IfOk result (λ line. line ≡ storage_line block_limit kind tokens.entry) }
+    ensures bounded { IfOk result (IsBounded block_limit) }
+    ensures answered { IfOk result IsAnswered }
+{
+    let Some(key) = tokens.next() else {
+        return Ok(refuse_format(0))
+    };
+    let Some(flags) = tokens.next() else {
+        return Ok(refuse_format(0))
+    };
+    let Some(exptime) = tokens.next() else {
+        return Ok(refuse_format(0))
+    };
+    let Some(bytes) = tokens.next() else {
+        return Ok(refuse_format(0))
+    };
+    let Some(length) = read_number(bytes, LONGEST_BLOCK) else {
+        return Ok(refuse_format(0))
+    };
+    let length = length as u32;
+    let Some(head) = read_head(alloc, kind, key, flags, exptime, tokens)? else {
+        return Ok(refuse_format(length + 2));
+    };
+    if length > block_limit {
+        return Ok(Line::Refused {
+            fault: Fault::TooLarge,
+            quiet: head.quiet,
+            skip: length + 2,
+        });
+    }
+    Ok(Line::NeedsBlock(head, length))
+}

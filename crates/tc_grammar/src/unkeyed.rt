@@ -1,0 +1,59 @@
+//! `flush_all`, `verbosity` and the lines of one token.
+ghost use Rattle.std.specs.Prelude.{◌≡◌};
+ghost use Rattle.tc_grammar.specs.Ending.{ended};
+ghost use Rattle.tc_grammar.specs.Unkeyed.{delayed, flush_of, verbosity_of};
+
+use crate::command::Command;
+use crate::ending::read_quiet;
+use crate::number::read_u32;
+use crate::tokens::Tokens;
+
+/// A command whose line ends here.
+pub fn read_end(command: Command, mut tokens: Tokens) -> Option<Command>
+    ensures { result ≡ ended command tokens.entry }
+{
+    match tokens.next() {
+        None => Some(command),
+        Some(_) => None,
+    }
+}
+
+#[tactic(auto, unfolding(crate::specs::Unkeyed::delayed))]
+fn read_delayed(delay: &[u8], rest: Tokens) -> Option<Command>
+    ensures { result ≡ delayed delay.now rest.entry }
+{
+    let delay = read_u32(delay)?;
+    let quiet = read_quiet(rest)?;
+    Some(Command::Flush { delay, quiet })
+}
+
+#[tactic(auto, unfolding(crate::specs::Unkeyed::flush_of))]
+/// `flush_all`, from the tokens after its name.
+pub fn read_flush(mut tokens: Tokens) -> Option<Command>
+    ensures { result ≡ flush_of tokens.entry }
+{
+    let Some(token) = tokens.next() else {
+        return Some(Command::Flush {
+            delay: 0,
+            quiet: false,
+        });
+    };
+    if token == b"noreply".as_slice() {
+        let command = Command::Flush {
+            delay: 0,
+            quiet: true,
+        };
+        return read_end(command, tokens);
+    }
+    read_delayed(token, tokens)
+}
+
+#[tactic(auto, unfolding(crate::specs::Unkeyed::verbosity_of))]
+/// `verbosity`, from the tokens after its name.
+pub fn read_verbosity(mut tokens: Tokens) -> Option<Command>
+    ensures { result ≡ verbosity_of tokens.entry }
+{
+    let level = read_u32(tokens.next()?)?;
+    let quiet = read_quiet(tokens)?;
+    Some(Command::Verbosity { level, quiet })
+}

@@ -1,0 +1,3 @@
+pub mod AdvancedTwice
+pub mod Sums
+pub mod Found

@@ -1,0 +1,5 @@
+pub mod UserCache
+pub mod Doing
+pub mod Laws
+pub mod Conditions
+pub mod Ends

@@ -1,0 +1,50 @@
+//! Items under their keys.
+ghost use Rattle.std.specs.Prelude.{◌≡◌, ◌+◌, ◌^◌, ◌<◌, IfOk};
+ghost use Rattle.tc_plain.specs.UserCache.{weight};
+
+use std::alloc::Global;
+use tc_item::{Item, Key, NoMemory};
+use tc_stats::Hit;
+
+/// An item under its key.
+#[derive(Debug, PartialEq, Eq, Drop)]
+pub struct Entry {
+    pub key: Key,
+    pub item: Item,
+}
+
+impl Entry {
+    /// What the entry weighs, in bytes.
+    pub fn weight(&self) -> u64
+        ensures value { result ≡ weight self.now }
+        ensures within { result < 2 ^ 63 + 314 }
+    {
+        self.key.as_bytes().len() as u64 + self.item.blob.as_slice().len() as u64 + 64
+    }
+
+    /// What a look-up shows of the entry.
+    pub fn show(&self, alloc: Global) -> Result<Hit, NoMemory>
+        ensures { IfOk result (λ hit. hit ≡ record { key = self.now.key; flags = self.now.item.flags; blob = self.now.item.blob; cas = self.now.item.cas }) }
+    {
+        Ok(Hit {
+            key: self.key.copy(alloc)?,
+            flags: self.item.flags,
+            blob: self.item.blob.copy()?,
+            cas: self.item.cas,
+        })
+    }
+
+    /// An equal entry, over the same data.
+    pub fn copy(&self, alloc: Global) -> Result<Entry, NoMemory>
+        ensures { IfOk result (λ entry. entry ≡ self.now) }
+    {
+        let key = self.key.copy(alloc)?;
+        let item = Item {
+            flags: self.item.flags,
+            due: self.item.due,
+            cas: self.item.cas,
+            blob: self.item.blob.copy()?,
+        };
+        Ok(Entry { key, item })
+    }
+}

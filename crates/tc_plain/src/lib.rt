@@ -1,0 +1,22 @@
+//! One user's cache: what each command does to it, the law that every cache keeps, and the plain
+//! cache, which is a list.
+//!
+//! The definitions are `specs/UserCache.antt` (a cache and how it comes to a moment) and
+//! `specs/Doing.antt` (what a command comes to and leaves). The law is the trait `Cache`: a cache is
+//! seen as the state that it stands for once its deferred work is done. `Plain` defers nothing, so
+//! its contract is the definition. The cache does `set`, `get`, `gets`, `version` and `verbosity`;
+//! every other command only advances it and comes to `Done`.
+#![tactic(auto)]
+
+mod cache;
+mod entry;
+mod laws;
+mod lookup;
+mod plain;
+mod standing;
+mod storing;
+
+pub use cache::Cache;
+pub use entry::Entry;
+pub use laws::advancing;
+pub use plain::Plain;

@@ -1,0 +1,40 @@
+-- A connection as contracts see it. Source: this project's own.
+use Rattle.std.specs.Prelude.{ℕ, List, ◌++◌}
+use Rattle.tc_model.specs.Connection.{Phase, Unbound, Bound, Closed, Endpoint, Want, Nothing, Said, Call, Close, Turn}
+use Rattle.tc_grammar.specs.declared.command.Command.{Command}
+use Rattle.tc_session.specs.declared.session.Stage.{Stage}
+use Rattle.tc_session.specs.declared.session.Stage.TheVariants.{Unbound as IsUnbound, Bound as IsBound, Closed as IsClosed}
+use Rattle.tc_session.specs.declared.want.Want.{Want as WantCode}
+use Rattle.tc_session.specs.declared.want.Want.TheVariants.{Nothing as IsNothing, Said as IsSaid, Call as IsCall, Close as IsClose}
+use Rattle.tc_grammar.specs.declared.fault.Fault.{Fault}
+use Rattle.tc_grammar.specs.declared.fault.Fault.TheVariants.{LineTooLong}
+use Rattle.tc_session.specs.Talking.{talking}
+
+-- the phase of a stage
+abbrev pub phase_of : Stage → Phase
+phase_of IsUnbound = Unbound
+phase_of (IsBound user) = Bound user
+phase_of IsClosed = Closed
+
+-- a connection: its endpoint, the bytes that wait to be sent, and for how many more there is room
+pub record Linked : Type 0 where
+  pub endpoint : Endpoint talking
+  pub out : List ℕ
+  pub room : ℕ
+
+-- what a session wants, as the machine has it
+abbrev pub want_of : WantCode → Want Command
+want_of IsNothing = Nothing
+want_of IsSaid = Said
+want_of (IsCall user command) = Call user command
+want_of IsClose = Close
+
+-- after a line that is too long the connection is closed
+abbrev pub fault_phase : Fault → Phase → Phase
+fault_phase LineTooLong phase = Closed
+fault_phase fault phase = phase
+
+-- what a fault leaves to do
+abbrev pub fault_want : Fault → Want Command
+fault_want LineTooLong = Close
+fault_want fault = Said

@@ -1,0 +1,132 @@
+//! Which outcomes a command can come to, and how its reply is written.
+ghost use Rattle.std.specs.Prelude.{◌≡◌, ◌≤◌, ◌++◌, false, take, length, IsOk, OnOk, OnErr};
+ghost use Rattle.tc_grammar.specs.declared.fault.Fault.TheVariants.{NoMemory as OutOfMemory};
+ghost use Rattle.tc_session.specs.Unsent.{KeepsSpace};
+ghost use Rattle.tc_session.specs.Texts.{fault_line, unless_quiet};
+ghost use Rattle.tc_session.specs.Replies.{is_quiet, is_refusal, is_store_end, can_end, form_of, reply_of, render, is_values};
+
+use crate::output::Output;
+use crate::reply::{is_quiet, write_fault, write_values};
+use tc_grammar::{Command, Fault, Form, StoreKind};
+use tc_item::NoMemory;
+use tc_stats::Outcome;
+
+/// Whether the outcome is a storage name's refusal for what its key holds.
+fn is_refusal(kind: StoreKind, outcome: &Outcome) -> bool
+    ensures { result ≡ is_refusal kind outcome.now }
+{
+    match kind {
+        StoreKind::Set => false,
+        StoreKind::Cas => matches!(outcome, Outcome::NotFound | Outcome::Exists),
+        StoreKind::Add | StoreKind::Replace | StoreKind::Append | StoreKind::Prepend => {
+            matches!(outcome, Outcome::NotStored)
+        }
+    }
+}
+
+/// Whether any storage name may come to the outcome.
+fn is_store_end(outcome: &Outcome) -> bool
+    ensures { result ≡ is_store_end outcome.now }
+{
+    matches!(
+        outcome,
+        Outcome::Stored | Outcome::TooLarge | Outcome::CasWorn
+    )
+}
+
+/// Whether the command has outcomes of this kind.
+fn can_end(command: &Command, outcome: &Outcome) -> bool
+    ensures { result ≡ can_end command.now outcome.now }
+{
+    match command {
+        Command::Store(head, _) => is_store_end(outcome) || is_refusal(head.kind, outcome),
+        Command::Get { .. } => matches!(outcome, Outcome::Values(_)),
+        Command::Gat { .. } => matches!(outcome, Outcome::Values(_)),
+        Command::Delete { .. } => matches!(outcome, Outcome::Deleted | Outcome::NotFound),
+        Command::Count { .. } => matches!(
+            outcome,
+            Outcome::Number(_) | Outcome::NotFound | Outcome::NotNumeric | Outcome::CasWorn
+        ),
+        Command::Touch { .. } => matches!(outcome, Outcome::Touched | Outcome::NotFound),
+        Command::Flush { .. } => matches!(outcome, Outcome::Done),
+        Command::Version => matches!(outcome, Outcome::Version),
+        Command::Verbosity { .. } => matches!(outcome, Outcome::Done),
+        Command::Stats => false,
+        Command::Quit => false,
+    }
+}
+
+/// Whether the command's VALUE lines show cas numbers.
+fn form_of(command: &Command) -> Form
+    ensures { result ≡ form_of command.now }
+{
+    match command {
+        Command::Get { form, .. } => *form,
+        Command::Gat { form, .. } => *form,
+        _ => Form::Bare,
+    }
+}
+
+/// Writes the reply to an outcome. Where memory is refused, what waited before is still in front.
+fn write_outcome(out: &mut Output, form: Form, outcome: &Outcome) -> Result<(), NoMemory>
+    requires { 64 ≤ out.old.room }
+    ensures bytes { OnOk result (out.new.bytes ≡ out.old.bytes ++ reply_of form outcome.now) }
+    ensures front_on_err { OnErr result (take (length out.old.bytes) out.new.bytes ≡ out.old.bytes) }
+    ensures longer_on_err { OnErr result (length out.old.bytes ≤ length out.new.bytes) }
+    ensures space { KeepsSpace out.old out.new }
+    ensures lookup { is_values outcome.now ≡ false → IsOk result }
+{
+    match outcome {
+        Outcome::Stored => out.write(b"STORED\r\n"),
+        Outcome::NotStored => out.write(b"NOT_STORED\r\n"),
+        Outcome::Exists => out.write(b"EXISTS\r\n"),
+        Outcome::NotFound => out.write(b"NOT_FOUND\r\n"),
+        Outcome::Deleted => out.write(b"DELETED\r\n"),
+        Outcome::Touched => out.write(b"TOUCHED\r\n"),
+        Outcome::Number(number) => {
+            out.write_number(*number);
+            out.write(b"\r\n");
+        }
+        Outcome::Values(hits) => return write_values(out, form, hits.as_slice()),
+        Outcome::Done => out.write(b"OK\r\n"),
+        Outcome::Stats(_) => {}
+        Outcome::Version => out.write(b"VERSION 1.0.0-partcached\r\n"),
+        Outcome::TooLarge => write_fault(out, Fault::TooLarge),
+        Outcome::NotNumeric => write_fault(out, Fault::NotNumeric),
+        Outcome::CasWorn => write_fault(out, Fault::CasWorn),
+    }
+    Ok(())
+}
+
+/// Says that memory was refused, unless the line has `noreply`.
+pub(crate) fn write_refusal(out: &mut Output, command: &Command)
+    requires { 64 ≤ out.old.room }
+    ensures { out.new.bytes ≡ out.old.bytes ++ unless_quiet (is_quiet command.now) (fault_line OutOfMemory) }
+{
+    if !is_quiet(command) {
+        write_fault(out, Fault::NoMemory);
+    }
+}
+
+/// Writes the reply to a command. Where memory is refused, that is said in its place.
+pub(crate) fn write_reply(
+    out: &mut Output,
+    command: &Command,
+    outcome: &Outcome,
+) -> Result<(), NoMemory>
+    requires { 64 ≤ out.old.room }
+    ensures bytes { OnOk result (out.new.bytes ≡ out.old.bytes ++ render command.now outcome.now) }
+    ensures refused { OnErr result (out.new.bytes ≡ out.old.bytes ++ unless_quiet (is_quiet command.now) (fault_line OutOfMemory)) }
+    ensures lookup { is_values outcome.now ≡ false → IsOk result }
+{
+    if is_quiet(command) || !can_end(command, outcome) {
+        return Ok(());
+    }
+    let mark = out.len();
+    if write_outcome(out, form_of(command), outcome).is_err() {
+        out.truncate(mark);
+        write_refusal(out, command);
+        return Err(NoMemory);
+    }
+    Ok(())
+}

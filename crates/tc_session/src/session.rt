@@ -1,0 +1,344 @@
+//! A connection.
+ghost use Rattle.std.specs.Prelude.{◌≡◌, ◌≤◌, ◌++◌, ℕ, [], false, codes, drop, length, IsOk, IfOk, OnOk, OnErr};
+ghost use Rattle.tc_model.specs.Connection.{turn, login, login_turn, unbound_turn, bound_turn, with_piece, shut_endpoint, new_endpoint, Unbound, Bound, is_closed};
+ghost use Rattle.tc_grammar.specs.declared.fault.Fault.TheVariants.{AuthenticationFailure, NoMemory as OutOfMemory};
+ghost use Rattle.tc_session.specs.Texts.{fault_line, unless_quiet};
+ghost use Rattle.tc_session.specs.Replies.{is_quiet, render, is_values};
+ghost use Rattle.tc_session.specs.Talking.{talking, fault_said, unbound_asks, unbound_command, unbound_store, bound_wants, bound_command, served, is_done};
+ghost use Rattle.tc_session.specs.Linked.{Linked, want_of, fault_want, fault_phase};
+
+use crate::Want;
+use crate::ending::{write_refusal, write_reply};
+use crate::output::Output;
+use crate::reply::{is_quiet, write_fault};
+use std::alloc::Global;
+use std::marker::Model;
+use tc_feed::{Feed, Request};
+use tc_grammar::{Command, Fault, Head, StoreKind};
+use tc_item::NoMemory;
+use tc_stats::Outcome;
+use tc_users::{UserNo, Users};
+
+/// The most bytes of a block before a connection is bound, and after.
+const UNBOUND_LIMIT: u32 = 256;
+
+const BOUND_LIMIT: u32 = 1_048_576;
+
+/// Room that a request is read with: for what is said at once, and for a reply or its refusal.
+const NEEDED_ROOM: usize = 128;
+
+/// Whose a connection is.
+#[derive(Clone, Copy, Debug, PartialEq, Eq)]
+enum Stage {
+    Unbound,
+    /// To the user of this number.
+    Bound(u32),
+    Closed,
+}
+
+/// A connection: what came on it and is unread, whose it is, and what waits to be sent.
+#[derive(Debug, Drop)]
+pub struct Session {
+    feed: Feed,
+    stage: Stage,
+    out: Output,
+}
+
+impl Model for Session {
+    ghost use Rattle.tc_session.specs.Linked.{Linked, phase_of};
+
+    ghost Value = { Linked };
+
+    ghost view = { λ s. record { endpoint = record { phase = phase_of s.stage; reader = s.feed }; out = s.out.bytes; room = s.out.room } };
+}
+
+/// Whether the cache does the command.
+fn is_done(command: &Command) -> bool
+    ensures { result ≡ is_done command.now }
+{
+    match command {
+        Command::Store(head, _) => matches!(head.kind, StoreKind::Set),
+        Command::Get { .. } | Command::Version | Command::Verbosity { .. } => true,
+        _ => false,
+    }
+}
+
+/// The user whom the data logs in.
+fn find_login(users: &Users, text: &[u8]) -> Option<UserNo>
+    ensures { result ≡ login talking users.now text.now }
+{
+    users.login(text)
+}
+
+impl Session {
+    /// A connection as it is opened: unbound, with nothing to read or to send.
+    pub fn new(alloc: Global) -> Session
+        ensures endpoint { result.endpoint ≡ new_endpoint talking }
+        ensures out { result.out ≡ [] }
+    {
+        Session {
+            feed: Feed::new(alloc),
+            stage: Stage::Unbound,
+            out: Output::new(alloc),
+        }
+    }
+
+    /// Takes bytes that came; a closed connection takes none. A refusal changes nothing.
+    pub fn push(&mut self, piece: &[u8]) -> Result<(), NoMemory>
+        ensures endpoint { OnOk result (self.new.endpoint ≡ with_piece talking self.old.endpoint piece.now) }
+        ensures out { self.new.out ≡ self.old.out }
+        ensures unchanged_on_err { OnErr result (self.new ≡ self.old) }
+    {
+        match self.stage {
+            Stage::Closed => Ok(()),
+            Stage::Unbound | Stage::Bound(_) => self.feed.push(piece),
+        }
+    }
+
+    /// The connection's next request. What needs no cache is answered at once. A refusal leaves the
+    /// request unread.
+    pub fn next(&mut self, alloc: Global, users: &Users) -> Result<Want, NoMemory>
+        ensures want { IfOk result (λ want. want_of want ≡ (turn talking users.now self.old.endpoint).want) }
+        ensures endpoint { OnOk result (self.new.endpoint ≡ (turn talking users.now self.old.endpoint).endpoint) }
+        ensures said { OnOk result (self.new.out ≡ self.old.out ++ (turn talking users.now self.old.endpoint).said) }
+        ensures room { OnOk result (64 ≤ self.new.room) }
+        ensures endpoint_on_err { OnErr result (self.new.endpoint ≡ self.old.endpoint) }
+        ensures out_on_err { OnErr result (self.new.out ≡ self.old.out) }
+    {
+        self.out.reserve(NEEDED_ROOM)?;
+        match self.stage {
+            Stage::Closed => Ok(Want::Nothing),
+            Stage::Unbound => {
+                let request = self.feed.next(alloc, UNBOUND_LIMIT)?;
+                Ok(self.greet(users, request))
+            }
+            Stage::Bound(number) => {
+                let request = self.feed.next(alloc, BOUND_LIMIT)?;
+                Ok(self.serve(UserNo::new(number), request))
+            }
+        }
+    }
+
+    /// What a request means before the connection is bound.
+    fn greet(&mut self, users: &Users, request: Option<Request>) -> Want
+        requires room { 128 ≤ self.old.room }
+        requires unbound { self.old.endpoint.phase ≡ Unbound }
+        ensures want { want_of result ≡ (unbound_turn talking users.now self.old.endpoint.reader (unbound_asks request)).want }
+        ensures endpoint { self.new.endpoint ≡ (unbound_turn talking users.now self.old.endpoint.reader (unbound_asks request)).endpoint }
+        ensures said { self.new.out ≡ self.old.out ++ (unbound_turn talking users.now self.old.endpoint.reader (unbound_asks request)).said }
+        ensures room { 64 ≤ self.new.room }
+    {
+        match request {
+            None => Want::Nothing,
+            Some(Request::Ask(command)) => self.greet_command(users, &command),
+            Some(Request::Refused { fault, quiet }) => self.fail(fault, quiet),
+        }
+    }
+
+    /// What a command means before the connection is bound.
+    fn greet_command(&mut self, users: &Users, command: &Command) -> Want
+        requires room { 128 ≤ self.old.room }
+        requires unbound { self.old.endpoint.phase ≡ Unbound }
+        ensures want { want_of result ≡ (unbound_turn talking users.now self.old.endpoint.reader (unbound_command command.now)).want }
+        ensures endpoint { self.new.endpoint ≡ (unbound_turn talking users.now self.old.endpoint.reader (unbound_command command.now)).endpoint }
+        ensures said { self.new.out ≡ self.old.out ++ (unbound_turn talking users.now self.old.endpoint.reader (unbound_command command.now)).said }
+        ensures room { 64 ≤ self.new.room }
+    {
+        match command {
+            Command::Store(head, blob) => self.greet_store(users, head, blob.as_slice()),
+            Command::Quit => {
+                self.stage = Stage::Closed;
+                Want::Close
+            }
+            _ => {
+                self.say_fault(Fault::Unauthenticated, is_quiet(command));
+                Want::Said
+            }
+        }
+    }
+
+    /// What a storage command means before the connection is bound: a `set` is a login.
+    fn greet_store(&mut self, users: &Users, head: &Head, blob: &[u8]) -> Want
+        requires room { 128 ≤ self.old.room }
+        requires unbound { self.old.endpoint.phase ≡ Unbound }
+        ensures want { want_of result ≡ (unbound_turn talking users.now self.old.endpoint.reader (unbound_store head.now.kind head.now blob.now)).want }
+        ensures endpoint { self.new.endpoint ≡ (unbound_turn talking users.now self.old.endpoint.reader (unbound_store head.now.kind head.now blob.now)).endpoint }
+        ensures said { self.new.out ≡ self.old.out ++ (unbound_turn talking users.now self.old.endpoint.reader (unbound_store head.now.kind head.now blob.now)).said }
+        ensures room { 64 ≤ self.new.room }
+    {
+        match head.kind {
+            StoreKind::Set => self.log_in(users, head.quiet, blob),
+            _ => self.say_fault(Fault::Unauthenticated, head.quiet),
+        }
+        Want::Said
+    }
+
+    /// Binds the connection to the user whom the data logs in, or denies the login.
+    fn log_in(&mut self, users: &Users, quiet: bool, text: &[u8])
+        requires room { 128 ≤ self.old.room }
+        requires unbound { self.old.endpoint.phase ≡ Unbound }
+        ensures endpoint { self.new.endpoint ≡ (login_turn talking self.old.endpoint.reader (unless_quiet quiet (codes "STORED\r\n")) (fault_said AuthenticationFailure quiet) (login talking users.now text.now)).endpoint }
+        ensures said { self.new.out ≡ self.old.out ++ (login_turn talking self.old.endpoint.reader (unless_quiet quiet (codes "STORED\r\n")) (fault_said AuthenticationFailure quiet) (login talking users.now text.now)).said }
+        ensures room { 64 ≤ self.new.room }
+    {
+        match find_login(users, text) {
+            None => self.say_fault(Fault::AuthenticationFailure, quiet),
+            Some(user) => {
+                self.stage = Stage::Bound(user.number());
+                self.say_stored(quiet);
+            }
+        }
+    }
+
+    /// What a request means once the connection is bound.
+    fn serve(&mut self, user: UserNo, request: Option<Request>) -> Want
+        requires room { 128 ≤ self.old.room }
+        requires bound { self.old.endpoint.phase ≡ Bound user }
+        ensures want { want_of result ≡ (bound_turn talking user self.old.endpoint.reader (bound_wants request)).want }
+        ensures endpoint { self.new.endpoint ≡ (bound_turn talking user self.old.endpoint.reader (bound_wants request)).endpoint }
+        ensures said { self.new.out ≡ self.old.out ++ (bound_turn talking user self.old.endpoint.reader (bound_wants request)).said }
+        ensures room { 64 ≤ self.new.room }
+    {
+        match request {
+            None => Want::Nothing,
+            Some(Request::Ask(command)) => self.serve_command(user, command),
+            Some(Request::Refused { fault, quiet }) => self.fail(fault, quiet),
+        }
+    }
+
+    /// What a command means once the connection is bound.
+    fn serve_command(&mut self, user: UserNo, command: Command) -> Want
+        requires room { 128 ≤ self.old.room }
+        requires bound { self.old.endpoint.phase ≡ Bound user }
+        ensures want { want_of result ≡ (bound_turn talking user self.old.endpoint.reader (bound_command command)).want }
+        ensures endpoint { self.new.endpoint ≡ (bound_turn talking user self.old.endpoint.reader (bound_command command)).endpoint }
+        ensures said { self.new.out ≡ self.old.out ++ (bound_turn talking user self.old.endpoint.reader (bound_command command)).said }
+        ensures room { 64 ≤ self.new.room }
+    {
+        match command {
+            Command::Quit => {
+                self.stage = Stage::Closed;
+                Want::Close
+            }
+            command => self.serve_other(user, command),
+        }
+    }
+
+    /// What a command other than `quit` means once the connection is bound.
+    fn serve_other(&mut self, user: UserNo, command: Command) -> Want
+        requires room { 128 ≤ self.old.room }
+        requires bound { self.old.endpoint.phase ≡ Bound user }
+        ensures want { want_of result ≡ (bound_turn talking user self.old.endpoint.reader (served (is_done command) command)).want }
+        ensures endpoint { self.new.endpoint ≡ (bound_turn talking user self.old.endpoint.reader (served (is_done command) command)).endpoint }
+        ensures said { self.new.out ≡ self.old.out ++ (bound_turn talking user self.old.endpoint.reader (served (is_done command) command)).said }
+        ensures room { 64 ≤ self.new.room }
+    {
+        if is_done(&command) {
+            return Want::Call(user, command);
+        }
+        let quiet = is_quiet(&command);
+        self.say_fault(Fault::UnknownCommand, quiet);
+        Want::Said
+    }
+
+    /// Says a fault, unless it is quiet; after a line that is too long the connection is closed.
+    fn fail(&mut self, fault: Fault, quiet: bool) -> Want
+        requires { 128 ≤ self.old.room }
+        ensures want { want_of result ≡ fault_want fault }
+        ensures phase { self.new.endpoint.phase ≡ fault_phase fault self.old.endpoint.phase }
+        ensures reader { self.new.endpoint.reader ≡ self.old.endpoint.reader }
+        ensures said { self.new.out ≡ self.old.out ++ fault_said fault quiet }
+        ensures room { 64 ≤ self.new.room }
+    {
+        self.say_fault(fault, quiet);
+        match fault {
+            Fault::LineTooLong => {
+                self.stage = Stage::Closed;
+                Want::Close
+            }
+            _ => Want::Said,
+        }
+    }
+
+    /// Says a fault's line, unless it is quiet.
+    fn say_fault(&mut self, fault: Fault, quiet: bool)
+        requires { 128 ≤ self.old.room }
+        ensures endpoint { self.new.endpoint ≡ self.old.endpoint }
+        ensures said { self.new.out ≡ self.old.out ++ fault_said fault quiet }
+        ensures room { 64 ≤ self.new.room }
+    {
+        if !quiet {
+            write_fault(&mut self.out, fault);
+        }
+    }
+
+    /// Says that a login was granted, unless it is quiet.
+    fn say_stored(&mut self, quiet: bool)
+        requires { 128 ≤ self.old.room }
+        ensures endpoint { self.new.endpoint ≡ self.old.endpoint }
+        ensures said { self.new.out ≡ self.old.out ++ unless_quiet quiet (codes "STORED\r\n") }
+        ensures room { 64 ≤ self.new.room }
+    {
+        if !quiet {
+            self.out.write(b"STORED\r\n");
+        }
+    }
+
+    /// Appends the reply to a command. Where memory is refused, which only the reply to a look-up may
+    /// meet, that is said in the reply's place.
+    pub fn answer(&mut self, command: &Command, outcome: &Outcome) -> Result<(), NoMemory>
+        requires { 64 ≤ self.old.room }
+        ensures endpoint { self.new.endpoint ≡ self.old.endpoint }
+        ensures reply { OnOk result (self.new.out ≡ self.old.out ++ render command.now outcome.now) }
+        ensures refused { OnErr result (self.new.out ≡ self.old.out ++ unless_quiet (is_quiet command.now) (fault_line OutOfMemory)) }
+        ensures lookup { is_values outcome.now ≡ false → IsOk result }
+    {
+        write_reply(&mut self.out, command, outcome)
+    }
+
+    /// Appends that memory was refused to a command, unless its line has `noreply`.
+    pub fn refuse(&mut self, command: &Command)
+        requires { 64 ≤ self.old.room }
+        ensures endpoint { self.new.endpoint ≡ self.old.endpoint }
+        ensures refused { self.new.out ≡ self.old.out ++ unless_quiet (is_quiet command.now) (fault_line OutOfMemory) }
+    {
+        write_refusal(&mut self.out, command);
+    }
+
+    /// The bytes that wait to be sent.
+    pub fn out(&self) -> &[u8]
+        ensures { result.now ≡ self.now.out }
+    {
+        self.out.as_slice()
+    }
+
+    /// So many of the first bytes that wait were sent; all of them, where fewer wait.
+    pub fn sent(&mut self, n: usize)
+        ensures endpoint { self.new.endpoint ≡ self.old.endpoint }
+        ensures out { self.new.out ≡ drop n self.old.out }
+    {
+        self.out.sent(n);
+    }
+
+    /// How many bytes came and are unread.
+    pub fn kept(&self) -> usize
+        ensures { result ≡ length self.now.endpoint.reader.unread }
+    {
+        self.feed.kept()
+    }
+
+    /// Whether the connection is closed.
+    pub fn is_closed(&self) -> bool
+        ensures { result ≡ is_closed self.now.endpoint.phase }
+    {
+        matches!(self.stage, Stage::Closed)
+    }
+
+    /// Ends the connection.
+    pub fn shut(&mut self)
+        ensures endpoint { self.new.endpoint ≡ shut_endpoint talking self.old.endpoint }
+        ensures out { self.new.out ≡ self.old.out }
+    {
+        self.stage = Stage::Closed;
+    }
+}

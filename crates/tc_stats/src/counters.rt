@@ -1,0 +1,99 @@
+//! A user's counters, as the rows of `stats` show them.
+ghost use Rattle.std.specs.Prelude.{◌≡◌, IfOk};
+
+use std::alloc::Global;
+use std::marker::Model;
+use tc_item::NoMemory;
+
+/// A user's counters, in the order of the rows of `stats` (doc/protocol.txt, "Statistics"). Each is
+/// a count that stops at 2^64-1, but for `curr_items`, `bytes`, `limit_maxbytes` and `item_size_max`,
+/// which the cache sets to what it holds and may hold.
+#[derive(Clone, Copy, Debug, PartialEq, Eq)]
+pub struct Counters {
+    /// Items held.
+    pub curr_items: u64,
+    /// Storage commands that stored.
+    pub total_items: u64,
+    /// What the items held weigh, in bytes.
+    pub bytes: u64,
+    /// Keys asked by `get`, `gets`, `gat` and `gats`.
+    pub cmd_get: u64,
+    /// Storage commands, whatever they came to.
+    pub cmd_set: u64,
+    /// `flush_all` commands.
+    pub cmd_flush: u64,
+    /// Keys asked by `touch`, `gat` and `gats`.
+    pub cmd_touch: u64,
+    /// Keys found by `get`, `gets`, `gat` and `gats`.
+    pub get_hits: u64,
+    /// Keys not found by them.
+    pub get_misses: u64,
+    /// `delete` commands that found nothing.
+    pub delete_misses: u64,
+    /// `delete` commands that took an item out.
+    pub delete_hits: u64,
+    /// `incr` commands that found nothing.
+    pub incr_misses: u64,
+    /// `incr` commands that counted.
+    pub incr_hits: u64,
+    /// `decr` commands that found nothing.
+    pub decr_misses: u64,
+    /// `decr` commands that counted.
+    pub decr_hits: u64,
+    /// `cas` commands that found nothing.
+    pub cas_misses: u64,
+    /// `cas` commands that stored.
+    pub cas_hits: u64,
+    /// `cas` commands that found another cas number.
+    pub cas_badval: u64,
+    /// Keys found by `touch`, `gat` and `gats`.
+    pub touch_hits: u64,
+    /// Keys not found by them.
+    pub touch_misses: u64,
+    /// Items that the policy dropped.
+    pub evictions: u64,
+    /// The partition's budget, in bytes.
+    pub limit_maxbytes: u64,
+    /// The most data bytes of one item.
+    pub item_size_max: u64,
+    /// Storage commands that were too large for the cache.
+    pub store_too_large: u64,
+}
+
+/// Counters in a box of their own, since an outcome that carries them is rare.
+#[derive(Debug, Drop)]
+pub struct Statistics {
+    counters: Box<Counters>,
+}
+
+impl Model for Statistics {
+    ghost use Rattle.tc_stats.specs.declared.counters.Counters.{Counters};
+
+    ghost Value = { Counters };
+
+    ghost view = { λ s. s.counters.value };
+}
+
+impl Statistics {
+    /// These counters.
+    pub fn new(alloc: Global, counters: Counters) -> Result<Statistics, NoMemory>
+        ensures { IfOk result (λ statistics. statistics ≡ counters) }
+    {
+        let counters = Box::new(alloc, counters)?;
+        Ok(Statistics { counters })
+    }
+
+    /// The counters.
+    pub fn counters(&self) -> &Counters
+        ensures { result.now ≡ self.now }
+    {
+        &self.counters
+    }
+
+    /// The same counters in another box.
+    pub fn copy(&self, alloc: Global) -> Result<Statistics, NoMemory>
+        ensures { IfOk result (λ statistics. statistics ≡ self.now) }
+    {
+        Statistics::new(alloc, *self.counters)
+    }
+}

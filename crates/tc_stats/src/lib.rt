@@ -1,0 +1,15 @@
+//! What a command comes to, and a user's counters.
+//!
+//! An `Outcome` is plain data: `Hits` is seen as the list of its hits, `Statistics` as its counters.
+//! Each copy equals what it copies; a refused copy is want of memory and changes nothing.
+#![tactic(auto)]
+
+mod counters;
+mod hits;
+mod outcome;
+#[cfg(test)]
+mod tests;
+
+pub use counters::{Counters, Statistics};
+pub use hits::{Hit, Hits};
+pub use outcome::Outcome;

@@ -1,0 +1,14 @@
+//! The users of a server, and who a login's data is.
+//!
+//! A user's row is plain data; a `Text` is seen as its bytes, a `UserNo` as its number, `Users` as
+//! the list of the rows, whose users are numbered from 1 in that order. `Users::login` is the first
+//! row that the data opens (`specs/Login.antt`).
+#![tactic(auto)]
+
+mod text;
+mod user_no;
+mod users;
+
+pub use text::Text;
+pub use user_no::UserNo;
+pub use users::{UserSpec, Users};
