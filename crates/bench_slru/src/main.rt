@@ -78,8 +78,7 @@ fn push(lists: &mut Lists, slot: Slot) {
 }
 
 /// Lists that hold all of these slots but one.
-fn filled<R: AllocGlobal>(rt: &R, slots: u64) -> Result<Lists>
-{
+fn filled<R: AllocGlobal>(rt: &R, slots: u64) -> Result<Lists> {
     let all = slots.saturating_sub(1).saturating_mul(WEIGHT);
     let window = all / 100;
     let main = all - window;
@@ -120,7 +119,9 @@ fn measure_settle<R: Print + Clock + AllocGlobal>(rt: &R, how: Spread, slots: u6
     for call in 0..CALLS {
         push(&mut lists, free);
         let newer = call % 2;
-        if let Some(gone) = lists.settle_step(|slot| ((slot.0 as u64 ^ u64::from(newer)) % 2) as u8) {
+        if let Some(gone) = lists.settle_step(|slot| ((slot.0 as u64 ^ u64::from(newer))
+            % 2) as u8)
+        {
             free = gone;
         }
     }
@@ -132,7 +133,9 @@ fn measure<R: Print + Clock + AllocGlobal>(rt: &R, slots: u64, octaves: u64) -> 
     let skewed = measure_access(rt, how, slots)?;
     let even = measure_access(rt, Spread::Even, slots)?;
     let settle = measure_settle(rt, how, slots)?;
-    println!(rt; "{slots:>7} slots: access {skewed:.1} ns skewed, {even:.1} ns even; push and settle {settle:.1} ns")?;
+    println!(rt;
+        "{slots:>7} slots: access {skewed:.1} ns skewed, {even:.1} ns even; settle {settle:.1} ns"
+    )?;
     Ok(())
 }
 

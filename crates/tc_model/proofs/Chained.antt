@@ -5,8 +5,8 @@ use Rattle.std.proofs.lemmas.Bool.{eqb-true, eqb-false, ne_eqb}
 use Rattle.std.proofs.lemmas.List.{reverse-append}
 use Rattle.std.proofs.lemmas.List.Elements.{filter-append}
 use Rattle.tc_model.specs.Ring.{Linked, IsAway, AreDistinct, AreBelow, IsRing, HasPlace, walk, put_next, put_prev, cut_next, cut_prev}
-use Rattle.tc_model.specs.Chains.{is_node, marked, IsLoop, AreChained, AreLinked, EachDistinct, fronted, without_node, is_among}
-use Rattle.tc_model.proofs.Rings.{linked_split, ring_cut, ring_put, ring_put_first, away_append, below_append, split, IsSplit}
+use Rattle.tc_model.specs.Chains.{is_node, marked, IsLoop, AreChained, AreLinked, EachDistinct, fronted, without_node, is_among, walks}
+use Rattle.tc_model.proofs.Rings.{linked_split, linked_walk, ring_cut, ring_put, ring_put_first, away_append, below_append, split, IsSplit}
 
 pub append_nil : (xs : List ℕ) → xs ++ [] ≡ xs
 append_nil [] = refl
@@ -126,6 +126,11 @@ are_linked next prev m b xs (ys ∷ yss) h =
     let both = linked_split next prev m b (suc m) xs (ys ++ marked (suc (suc m)) yss) h in
     (both.0, are_linked next prev (suc m) b ys yss both.1)
 
+pub walks-again : (next prev : List ℕ) (m b : ℕ) (lists : List (List ℕ)) → AreLinked next prev m lists b → walks m next (map (λ xs. length xs) lists) ≡ lists
+walks-again next prev m b [] h = refl
+walks-again next prev m b (xs ∷ []) h = ap (λ t. t ∷ []) (linked_walk next prev m b xs h)
+walks-again next prev m b (xs ∷ ys ∷ yss) h = rw (linked_walk next prev m (suc m) xs h.0) (ap (λ t. xs ∷ t) (walks-again next prev (suc m) b (ys ∷ yss) h.1))
+
 pub each_distinct : (m : ℕ) (lists : List (List ℕ)) → AreDistinct (marked m lists) → EachDistinct lists
 each_distinct m [] h = tt
 each_distinct m (xs ∷ xss) h = (front xs (marked (suc m) xss) h.1, each_distinct (suc m) xss (back xs (marked (suc m) xss) h.1))
@@ -173,7 +178,7 @@ pub walk_back : (next prev : List ℕ) (a b : ℕ) (xs : List ℕ) → Linked ne
 walk_back next prev a b [] h = refl
 walk_back next prev a b (x ∷ xs) h =
     walk_push (length xs) prev b ∙ ap (λ t. t ++ slice_index prev (reached (length xs) prev b) ∷ []) (walk_back next prev x b xs h.2)
-      ∙ ap (λ y. reverse xs ++ y ∷ []) (before_first next prev x b xs h.2) ∙ sym (reverse-append (x ∷ []) xs)
+    ∙ ap (λ y. reverse xs ++ y ∷ []) (before_first next prev x b xs h.2) ∙ sym (reverse-append (x ∷ []) xs)
 
 -- a node's neighbours have places too
 

@@ -47,13 +47,13 @@ module _ {A : Type 0} where
       let gone : victims weigh l a c ≡ vs = shortest-front weigh need (reverse p) (reverse q) room in
       let few : length vs ≤ length p = omega (arith, length-shortest weigh need (reverse p), length-reverse p) in
       let enters : admitted freq c a (victims weigh l a c) ≡ settled_by (entered c (without_last (length vs) a)) vs =
-        ap (λ b. cond b (settled_by (entered c (without_last (length (victims weigh l a c)) a)) (victims weigh l a c)) (settled_by a (c ∷ []))) won
-        ∙ ap (λ g. settled_by (entered c (without_last (length g) a)) g) gone in
+      ap (λ b. cond b (settled_by (entered c (without_last (length (victims weigh l a c)) a)) (victims weigh l a c)) (settled_by a (c ∷ []))) won
+      ∙ ap (λ g. settled_by (entered c (without_last (length g) a)) g) gone in
       let tail : from_tail (areas_by w (c ∷ p) q) ≡ reverse p ++ c ∷ reverse q = ap (λ t. t ++ reverse q) (reverse-append (c ∷ []) p) ∙ append_assoc (reverse p) (c ∷ []) (reverse q) in
       let same : main_weight weigh (areas_by w (c ∷ p) q) - l.main ≡ need = omega (arith, sum_by-cons weigh c p) in
       let behind : shortest weigh (main_weight weigh (areas_by w (c ∷ p) q) - l.main) (from_tail (areas_by w (c ∷ p) q)) ≡ vs =
-        ap (λ n. shortest weigh n (from_tail (areas_by w (c ∷ p) q))) same ∙ ap (λ t. shortest weigh need t) tail ∙ shortest-front weigh need (reverse p) (c ∷ reverse q) room in
+      ap (λ n. shortest weigh n (from_tail (areas_by w (c ∷ p) q))) same ∙ ap (λ t. shortest weigh need t) tail ∙ shortest-front weigh need (reverse p) (c ∷ reverse q) room in
       let trims : trimmed weigh l (areas_by w (c ∷ p) q) ≡ settled_by (entered c (without_last (length vs) (areas_by w p q))) vs =
-        ap (λ g. settled_by (without_last (length g) (areas_by w (c ∷ p) q)) g) behind ∙ ap (λ z. settled_by z vs) (without_last-entered (length vs) w p q c few) in
+      ap (λ g. settled_by (without_last (length g) (areas_by w (c ∷ p) q)) g) behind ∙ ap (λ z. settled_by z vs) (without_last-entered (length vs) w p q c few) in
       settle_main weigh freq l (areas_by (w ++ c ∷ []) p q) h m ∙ candidate weigh freq l w p q c x ∙ ap (λ s. first_of weigh freq l w c s) enters
       ∙ sym (settle_trimmed weigh freq l (areas_by w (c ∷ p) q) h ∙ ap (λ s. candidates_of weigh freq l w s) trims)

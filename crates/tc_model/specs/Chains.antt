@@ -1,6 +1,6 @@
 -- Lists of nodes in one ring. Before list i stands the mark i, so that no list is ever empty in the ring.
 use Rattle.std.specs.Prelude.{Bool, false, ◌||◌, ℕ, zero, suc, List, [], ◌∷◌, ◌++◌, filter, not, ◌==◌}
-use Rattle.tc_model.specs.Ring.{IsRing, Linked, AreDistinct}
+use Rattle.tc_model.specs.Ring.{IsRing, Linked, AreDistinct, walk}
 
 -- x is the node n
 abbrev pub is_node : ℕ → ℕ → Bool
@@ -45,3 +45,8 @@ without_node n xs = filter (λ x. not (is_node n x)) xs
 abbrev pub is_among : ℕ → List ℕ → Bool
 is_among n [] = false
 is_among n (x ∷ xs) = is_node n x || is_among n xs
+
+-- the lists behind the marks from m on, by how many each holds
+abbrev pub walks : ℕ → List ℕ → List ℕ → List (List ℕ)
+walks m next [] = []
+walks m next (n ∷ ns) = walk n next m ∷ walks (suc m) next ns

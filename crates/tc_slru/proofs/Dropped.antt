@@ -45,11 +45,11 @@ mains_window last a b (of_protected others n e g) = ap (λ (z : Areas Placed). z
 popped_at : (w : List Placed) (last : Placed) (a b : Areas Placed) → IsMainsLast last a b → Popped weigh (areas_by w a.probation a.protected) last (areas_by w b.probation b.protected)
 popped_at w last a b (of_probation others e g) =
     subst (λ (z : Areas Placed). Popped weigh (areas_by w a.probation a.protected) last (areas_by w z.probation z.protected)) (sym g)
-      (subst (λ ps. Popped weigh (areas_by w ps a.protected) last (areas_by w others a.protected)) (sym e) (popped_probation weigh w others a.protected last))
+    (subst (λ ps. Popped weigh (areas_by w ps a.protected) last (areas_by w others a.protected)) (sym e) (popped_probation weigh w others a.protected last))
 popped_at w last a b (of_protected others n e g) =
     subst (λ (z : Areas Placed). Popped weigh (areas_by w a.probation a.protected) last (areas_by w z.probation z.protected)) (sym g)
-      (subst (λ ps. Popped weigh (areas_by w ps a.protected) last (areas_by w ps others)) (sym n)
-        (subst (λ qs. Popped weigh (areas_by w [] qs) last (areas_by w [] others)) (sym e) (popped_protected weigh w others last)))
+    (subst (λ ps. Popped weigh (areas_by w ps a.protected) last (areas_by w ps others)) (sym n)
+    (subst (λ qs. Popped weigh (areas_by w [] qs) last (areas_by w [] others)) (sym e) (popped_protected weigh w others last)))
 
 -- what a step is given, and what it leaves
 
@@ -108,8 +108,8 @@ last_light limits v c h l = light_last limits.main l.others c (subst (λ ps. Are
 
 -- the window's last enters
 pub admits_enters : (post : Slot → ℕ → Type 0) (limits : CodeLimits) (before now after : Shown) (c : Placed) → IsLast c Window now.areas → after ≡ record now { areas = fronted_in Probation c (without_slot c.slot now.areas) }
-  → main_weight weigh now.areas ≤ limits.main → limits.window < sum_by weigh now.areas.window → ((seen : ℕ → ℕ) → Counts post seen → Enters ≡ verdict_of seen limits now.areas c)
-  → IsAdmitting post limits before now → IsAdmitting post limits before after
+    → main_weight weigh now.areas ≤ limits.main → limits.window < sum_by weigh now.areas.window → ((seen : ℕ → ℕ) → Counts post seen → Enters ≡ verdict_of seen limits now.areas c)
+    → IsAdmitting post limits before now → IsAdmitting post limits before after
 admits_enters post limits before now after c l e main over verdict h =
     let p : List Placed = now.areas.probation in
     let q : List Placed = now.areas.protected in
@@ -126,17 +126,17 @@ admits_enters post limits before now after c l e main over verdict h =
         protected = h.ready.protected;
       };
       same = λ seen k.
-        let v = verdict_enters (ranks seen limits now.areas c) (rids limits now.areas c) (verdict seen k) in
-        let room : main_weight weigh now.areas + weigh c - limits.main ≤ sum_by weigh now.areas.probation = leb-true _ _ v.1 in
-        h.same seen k ∙ ap (λ z. settle weigh (λ (x : Placed). seen x.slot) (limits_of limits) z) was
+          let v = verdict_enters (ranks seen limits now.areas c) (rids limits now.areas c) (verdict seen k) in
+          let room : main_weight weigh now.areas + weigh c - limits.main ≤ sum_by weigh now.areas.probation = leb-true _ _ v.1 in
+          h.same seen k ∙ ap (λ z. settle weigh (λ (x : Placed). seen x.slot) (limits_of limits) z) was
           ∙ settle_overtakes weigh (λ (x : Placed). seen x.slot) (limits_of limits) l.others now.areas.probation now.areas.protected c h.ready.protected main room much v.0;
     } in
     subst (λ (z : Shown). IsAdmitting post limits before z) (sym is) done
 
 -- the window's last is refused
 pub step_refuses : (post : Slot → ℕ → Type 0) (limits : CodeLimits) (before now after : Shown) (c : Placed) (given : Slot) → given.0 ≡ c.slot → IsLast c Window now.areas → after ≡ record now { areas = without_slot c.slot now.areas }
-  → main_weight weigh now.areas ≤ limits.main → limits.window < sum_by weigh now.areas.window → ((seen : ℕ → ℕ) → Counts post seen → Refused ≡ verdict_of seen limits now.areas c)
-  → IsAdmitting post limits before now → IsStep post limits (Some given) before after
+    → main_weight weigh now.areas ≤ limits.main → limits.window < sum_by weigh now.areas.window → ((seen : ℕ → ℕ) → Counts post seen → Refused ≡ verdict_of seen limits now.areas c)
+    → IsAdmitting post limits before now → IsStep post limits (Some given) before after
 step_refuses post limits before now after c given own l e main over verdict h =
     let b : Areas Placed = areas_by l.others now.areas.probation now.areas.protected in
     let was : now.areas ≡ areas_by (l.others ++ c ∷ []) now.areas.probation now.areas.protected = ap (λ ps. areas_by ps now.areas.probation now.areas.protected) l.list in
@@ -148,10 +148,12 @@ step_refuses post limits before now after c given own l e main over verdict h =
       light = light_front limits.main l.others (c ∷ []) (subst (λ ps. AreLight limits.main ps) l.list h.ready.light);
       sum = omega (arith, h.ready.sum, ap (λ ps. sum_by weigh ps) l.list, sum_by_push weigh l.others c);
       settled = λ seen k.
-        let lost : ranks seen limits now.areas c ≡ false = verdict_refused (ranks seen limits now.areas c) (rids limits now.areas c) (verdict seen k) in
-        (c.weight, h.same seen k ∙ ap (λ z. settle weigh (λ (x : Placed). seen x.slot) (limits_of limits) z) was
-          ∙ settle_refuses weigh (λ (x : Placed). seen x.slot) (limits_of limits) l.others now.areas.probation now.areas.protected c h.ready.protected main much lost
-          ∙ ap (λ (x : Placed). and_then (x ∷ []) (settle weigh (λ (x : Placed). seen x.slot) (limits_of limits) (areas_by l.others now.areas.probation now.areas.protected))) same);
+          let lost : ranks seen limits now.areas c ≡ false = verdict_refused (ranks seen limits now.areas c) (rids limits now.areas c) (verdict seen k) in (
+            c.weight,
+            h.same seen k ∙ ap (λ z. settle weigh (λ (x : Placed). seen x.slot) (limits_of limits) z) was
+                ∙ settle_refuses weigh (λ (x : Placed). seen x.slot) (limits_of limits) l.others now.areas.probation now.areas.protected c h.ready.protected main much lost
+                ∙ ap (λ (x : Placed). and_then (x ∷ []) (settle weigh (λ (x : Placed). seen x.slot) (limits_of limits) (areas_by l.others now.areas.probation now.areas.protected))) same,
+          );
     } in
     subst (λ (z : Shown). IsStep post limits (Some given) before z) (sym is) done
 
@@ -160,8 +162,8 @@ light_window limits a b e h = subst (λ ps. AreLight limits.main ps) (sym e) h
 
 -- the window's last waits, and its first victim goes
 pub step_waits : (post : Slot → ℕ → Type 0) (limits : CodeLimits) (before now after : Shown) (c : Placed) (given : Slot) (weight : ℕ) → IsLast c Window now.areas → IsMainsLast (placed given.0 weight) now.areas after.areas → after.slots ≡ now.slots
-  → main_weight weigh now.areas ≤ limits.main → limits.window < sum_by weigh now.areas.window → ((seen : ℕ → ℕ) → Counts post seen → Waits ≡ verdict_of seen limits now.areas c)
-  → IsAdmitting post limits before now → IsStep post limits (Some given) before after
+    → main_weight weigh now.areas ≤ limits.main → limits.window < sum_by weigh now.areas.window → ((seen : ℕ → ℕ) → Counts post seen → Waits ≡ verdict_of seen limits now.areas c)
+    → IsAdmitting post limits before now → IsStep post limits (Some given) before after
 step_waits post limits before now after c given weight l last slots main over verdict h =
     let v : Placed = placed given.0 weight in
     let same : after.areas.window ≡ now.areas.window = mains_window v now.areas after.areas last in
@@ -174,16 +176,18 @@ step_waits post limits before now after c given weight l last slots main over ve
       light = light_window limits now.areas after.areas same h.ready.light;
       sum = omega (arith, h.ready.sum, ap (λ ps. sum_by weigh ps) same, pop.main);
       settled = λ seen k.
-        let w = verdict_waits (ranks seen limits now.areas c) (rids limits now.areas c) (verdict seen k) in
-        let big : limits.main < main_weight weigh now.areas + weigh c = omega (arith, leb-false _ _ w.1) in
-        (weight, h.same seen k ∙ ap (λ z. settle weigh (λ (x : Placed). seen x.slot) (limits_of limits) z) was
-          ∙ settle_yields weigh (λ (x : Placed). seen x.slot) (limits_of limits) l.others now.areas.probation now.areas.protected after.areas.probation after.areas.protected c v pop (popped_at (fitting weigh limits.window l.others) v now.areas after.areas last) h.ready.protected main big much w.0
-          ∙ sym (ap (λ z. and_then (v ∷ []) (settle weigh (λ (x : Placed). seen x.slot) (limits_of limits) z)) is));
+          let w = verdict_waits (ranks seen limits now.areas c) (rids limits now.areas c) (verdict seen k) in
+          let big : limits.main < main_weight weigh now.areas + weigh c = omega (arith, leb-false _ _ w.1) in (
+            weight,
+            h.same seen k ∙ ap (λ z. settle weigh (λ (x : Placed). seen x.slot) (limits_of limits) z) was
+                ∙ settle_yields weigh (λ (x : Placed). seen x.slot) (limits_of limits) l.others now.areas.probation now.areas.protected after.areas.probation after.areas.protected c v pop (popped_at (fitting weigh limits.window l.others) v now.areas after.areas last) h.ready.protected main big much w.0
+                ∙ sym (ap (λ z. and_then (v ∷ []) (settle weigh (λ (x : Placed). seen x.slot) (limits_of limits) z)) is),
+          );
     }
 
 -- main weighs too much
 pub step_trims : (post : Slot → ℕ → Type 0) (limits : CodeLimits) (before now after : Shown) (given : Slot) (weight : ℕ) → IsMainsLast (placed given.0 weight) now.areas after.areas → after.slots ≡ now.slots
-  → limits.main < main_weight weigh now.areas → IsAdmitting post limits before now → IsStep post limits (Some given) before after
+    → limits.main < main_weight weigh now.areas → IsAdmitting post limits before now → IsStep post limits (Some given) before after
 step_trims post limits before now after given weight last slots over h =
     let v : Placed = placed given.0 weight in
     let same : after.areas.window ≡ now.areas.window = mains_window v now.areas after.areas last in
@@ -193,10 +197,12 @@ step_trims post limits before now after given weight last slots over h =
       slots = slots ∙ h.slots;
       light = light_window limits now.areas after.areas same h.ready.light;
       sum = omega (arith, h.ready.sum, ap (λ ps. sum_by weigh ps) same, pop.main);
-      settled = λ seen k.
-        (weight, h.same seen k
-          ∙ settle_trims weigh (λ (x : Placed). seen x.slot) (limits_of limits) now.areas (areas_by now.areas.window after.areas.probation after.areas.protected) v pop h.ready.protected over
-          ∙ sym (ap (λ z. and_then (v ∷ []) (settle weigh (λ (x : Placed). seen x.slot) (limits_of limits) z)) is));
+      settled = λ seen k. (
+        weight,
+        h.same seen k
+            ∙ settle_trims weigh (λ (x : Placed). seen x.slot) (limits_of limits) now.areas (areas_by now.areas.window after.areas.probation after.areas.protected) v pop h.ready.protected over
+            ∙ sym (ap (λ z. and_then (v ∷ []) (settle weigh (λ (x : Placed). seen x.slot) (limits_of limits) z)) is),
+      );
     }
 
 -- nothing is left to drop

@@ -26,15 +26,15 @@ pub record IsHolding (limit : ℕ) (before now : Shown) : Type 0 where
 demoted-push : (limit : ℕ) (w p q : List Placed) (y : Placed) → limit < sum_by weigh (q ++ y ∷ []) → demoted weigh (protected_limit limit) (areas_by w p (q ++ y ∷ [])) ≡ demoted weigh (protected_limit limit) (areas_by w (y ∷ p) q)
 demoted-push limit w p q y h =
     ap (λ t. areas_by w (t ++ p) (fitting weigh limit (q ++ y ∷ []))) (beyond_last weigh limit q y h)
-      ∙ ap (λ t. areas_by w t (fitting weigh limit (q ++ y ∷ []))) (append_assoc (beyond weigh limit q) (y ∷ []) p)
-      ∙ ap (λ t. areas_by w (beyond weigh limit q ++ y ∷ p) t) (fitting_last weigh limit q y h)
+    ∙ ap (λ t. areas_by w t (fitting weigh limit (q ++ y ∷ []))) (append_assoc (beyond weigh limit q) (y ∷ []) p)
+    ∙ ap (λ t. areas_by w (beyond weigh limit q ++ y ∷ p) t) (fitting_last weigh limit q y h)
 
 -- protected's last at probation's front
 moved : (last : Placed) (a : Areas Placed) (l : IsLast last Protected a) → fronted_in Probation last (without_slot last.slot a) ≡ areas_by a.window (last ∷ a.probation) l.others
 moved last a l = ap (λ (z : Areas Placed). fronted_in Probation last z) l.left
 
 pub holding_moves : (limit : ℕ) (before now after : Shown) (last : Placed) → limit < sum_by weigh now.areas.protected → IsLast last Protected now.areas
-  → after ≡ record now { areas = fronted_in Probation last (without_slot last.slot now.areas) } → IsHolding limit before now → IsHolding limit before after
+    → after ≡ record now { areas = fronted_in Probation last (without_slot last.slot now.areas) } → IsHolding limit before now → IsHolding limit before after
 holding_moves limit before now after last over l e h =
     let a : Areas Placed = now.areas in
     let b : Areas Placed = areas_by now.areas.window (last ∷ now.areas.probation) l.others in
@@ -68,13 +68,13 @@ total-demoted limits a = omega (arith, parts weigh weigh limits.protected a.prot
 pub settle-demoted : (seen : ℕ → ℕ) (limits : Limits) (a : Areas Placed) → settle weigh (λ p. seen p.slot) limits (demoted weigh limits a) ≡ settle weigh (λ p. seen p.slot) limits a
 settle-demoted seen limits a =
     ap (λ z. let s = trimmed weigh limits z in and_then s.dropped (all_admitted weigh (λ (p : Placed). seen p.slot) limits (narrowed (fitting weigh limits.window a.window) s.areas) (reverse (beyond weigh limits.window a.window))))
-      (demoted-within limits (demoted weigh limits a) (sum-fitting weigh limits.protected a.protected))
+    (demoted-within limits (demoted weigh limits a) (sum-fitting weigh limits.protected a.protected))
 
 pub raised-by : (slot : ℕ) (x : Placed) (a : Areas Placed) → fronted_in (raised_from (area_of slot a)) x (without_slot slot a) ≡ raised (is_slot slot) x a
 raised-by slot x a = go (is_in (is_slot slot) a.window) (is_in (is_slot slot) a.probation)
   where
     go : (w p : Bool) → fronted_in (raised_from (cond w Window (cond p Probation Protected))) x (without_slot slot a)
-      ≡ cond w (areas_by (x ∷ without (is_slot slot) a.window) (without (is_slot slot) a.probation) (without (is_slot slot) a.protected)) (areas_by (without (is_slot slot) a.window) (without (is_slot slot) a.probation) (x ∷ without (is_slot slot) a.protected))
+        ≡ cond w (areas_by (x ∷ without (is_slot slot) a.window) (without (is_slot slot) a.probation) (without (is_slot slot) a.protected)) (areas_by (without (is_slot slot) a.window) (without (is_slot slot) a.probation) (x ∷ without (is_slot slot) a.protected))
     go true p = refl
     go false true = refl
     go false false = refl
@@ -99,15 +99,15 @@ pub record IsAccess (slot weight : ℕ) (l m : SlotLists) : Type 0 where
   pub shows : m ≡ accessed_at slot weight l
 
 pub access_by : (limits : Limits) (slot weight : ℕ) (area to : Area) (v taken put held : Shown) → area ≡ area_of slot v.areas → to ≡ raised_from area → taken ≡ record v { areas = without_slot slot v.areas }
-  → put ≡ record taken { areas = fronted_in to (placed slot weight) taken.areas } → held ≡ record put { areas = demoted weigh (protected_limit limits.protected) put.areas }
-  → weight ≤ limits.main → total weigh (without_slot slot v.areas) + weight < 2 ^ 64 → AreFit (record { limits = limits; slots = v.slots; areas = v.areas })
-  → IsAccess slot weight (record { limits = limits; slots = v.slots; areas = v.areas }) (record { limits = limits; slots = held.slots; areas = held.areas })
+    → put ≡ record taken { areas = fronted_in to (placed slot weight) taken.areas } → held ≡ record put { areas = demoted weigh (protected_limit limits.protected) put.areas }
+    → weight ≤ limits.main → total weigh (without_slot slot v.areas) + weight < 2 ^ 64 → AreFit (record { limits = limits; slots = v.slots; areas = v.areas })
+    → IsAccess slot weight (record { limits = limits; slots = v.slots; areas = v.areas }) (record { limits = limits; slots = held.slots; areas = held.areas })
 access_by limits slot weight area to v taken put held e_area e_to e_taken e_put e_held light sum h =
     let x : Placed = placed slot weight in
     let l : SlotLists = record { limits = limits; slots = v.slots; areas = v.areas } in
     let is : held ≡ record v { areas = demoted weigh limits (fronted_in (raised_from (area_of slot v.areas)) (placed slot weight) (without_slot slot v.areas)) }
-      = e_held ∙ ap (λ (z : Shown). (let u : Shown = record z { areas = demoted weigh limits z.areas } in u)) (e_put ∙ ap (λ (z : Shown). (let u : Shown = record z { areas = fronted_in to (placed slot weight) z.areas } in u)) e_taken)
-        ∙ ap (λ (t : Area). (let u : Shown = record v { areas = demoted weigh limits (fronted_in t (placed slot weight) (without_slot slot v.areas)) } in u)) (e_to ∙ ap raised_from e_area) in
+    = e_held ∙ ap (λ (z : Shown). (let u : Shown = record z { areas = demoted weigh limits z.areas } in u)) (e_put ∙ ap (λ (z : Shown). (let u : Shown = record z { areas = fronted_in to (placed slot weight) z.areas } in u)) e_taken)
+    ∙ ap (λ (t : Area). (let u : Shown = record v { areas = demoted weigh limits (fronted_in t (placed slot weight) (without_slot slot v.areas)) } in u)) (e_to ∙ ap raised_from e_area) in
     let f : AreFit (record l { areas = fronted_in (raised_from (area_of slot v.areas)) (placed slot weight) (without_slot slot v.areas) }) = fit-fronted (raised_from (area_of slot v.areas)) slot weight l h light sum in
     let done : IsAccess slot weight l (record l { areas = demoted weigh limits (fronted_in (raised_from (area_of slot v.areas)) (placed slot weight) (without_slot slot v.areas)) }) = record {
       fit = record { light = f.light; sum = omega (arith, f.sum, total-demoted limits (fronted_in (raised_from (area_of slot v.areas)) (placed slot weight) (without_slot slot v.areas))) };

@@ -39,7 +39,7 @@ placed-without area hs ws s [] h = refl
 placed-without area hs ws s (x ∷ xs) h = go (x == s + 3) (slot_node x s h.0) (placed-without area hs ws s xs h.2)
   where
     go : (b : Bool) → (x - 3 == s) ≡ b → map (placed_of ws) (without_node (s + 3) xs) ≡ without (is_slot s) (map (placed_of ws) xs)
-      → map (placed_of ws) (cond (not b) (x ∷ without_node (s + 3) xs) (without_node (s + 3) xs)) ≡ cond (not (x - 3 == s)) (placed_of ws x ∷ without (is_slot s) (map (placed_of ws) xs)) (without (is_slot s) (map (placed_of ws) xs))
+        → map (placed_of ws) (cond (not b) (x ∷ without_node (s + 3) xs) (without_node (s + 3) xs)) ≡ cond (not (x - 3 == s)) (placed_of ws x ∷ without (is_slot s) (map (placed_of ws) xs)) (without (is_slot s) (map (placed_of ws) xs))
     go true e k = rw e k
     go false e k = rw e (ap (λ t. placed_of ws x ∷ t) k)
 
@@ -85,7 +85,7 @@ placed-fronted s w ws xs l a =
     rw (index_same_own ws (s + 3) w l, placed-away (s + 3) w ws xs a, same)
 
 pub kept_fronted : (area : Area) (ws : List ℕ) (hs : List (Option Area)) (size : Size) (s w : ℕ) (xs : List ℕ) → s + 3 < length ws → s + 3 < length hs → IsAway (s + 3) xs → AreKept area ws hs size xs
-  → AreKept area (slice_set ws (s + 3) w) (slice_set hs (s + 3) (Some area)) (size_with w size) ((s + 3) ∷ xs)
+    → AreKept area (slice_set ws (s + 3) w) (slice_set hs (s + 3) (Some area)) (size_with w size) ((s + 3) ∷ xs)
 kept_fronted area ws hs size s w xs l m a k =
     let placed = placed-fronted s w ws xs l a in
     record {
@@ -124,7 +124,7 @@ one_less n ws (x ∷ xs) d h = go (x == n) refl h (one_less n ws xs d.1)
         record { count = omega (arith, ap length rest, l.count); weight = omega (arith, l.weight, ap (λ ys. sum_by weigh (map (placed_of ws) ys)) rest, sum_by-cons weigh (placed_of ws x) (map (placed_of ws) xs), sum_by-cons weigh (placed_of ws x) (map (placed_of ws) (without_node n xs))) }
 
 pub kept_left : (area : Area) (ws : List ℕ) (hs : List (Option Area)) (size : Size) (n : ℕ) (xs : List ℕ) → AreDistinct xs → is_among n xs ≡ true → AreKept area ws hs size xs
-  → AreKept area ws (slice_set hs n None) (size_without (slice_index ws n) size) (without_node n xs)
+    → AreKept area ws (slice_set hs n None) (size_without (slice_index ws n) size) (without_node n xs)
 kept_left area ws hs size n xs d h k =
     let l : OneLess n ws xs = one_less n ws xs d h in
     record {
@@ -196,7 +196,7 @@ area_none (y ∷ ys) zero = refl
 area_none (y ∷ ys) (suc n) = area_none ys n
 
 pub free_without : (hs : List (Option Area)) (n m : ℕ) (a : Areas ℕ) → (is_held m a ≡ false → area_at hs m ≡ None)
-  → is_held m (record { window = without_node n a.window; probation = without_node n a.probation; protected = without_node n a.protected }) ≡ false → area_at (slice_set hs n None) m ≡ None
+    → is_held m (record { window = without_node n a.window; probation = without_node n a.probation; protected = without_node n a.protected }) ≡ false → area_at (slice_set hs n None) m ≡ None
 free_without hs n m a free h = go (n == m) refl
   where
     go : (b : Bool) → (n == m) ≡ b → area_at (slice_set hs n None) m ≡ None

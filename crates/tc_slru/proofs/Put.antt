@@ -31,9 +31,9 @@ pub nodes_again : (l : Links) (s : Sizes) (a : Areas ℕ) → AreNodes l s a →
 nodes_again l s a k =
     let e = are_linked l.next l.prev 0 0 a.window (a.probation ∷ a.protected ∷ []) k.ring.linked in
     same_areas _ _ _ _ _ _
-      (ap (λ n. walk n l.next 0) k.window.count ∙ linked_walk l.next l.prev 0 1 a.window e.0)
-      (ap (λ n. walk n l.next 1) k.probation.count ∙ linked_walk l.next l.prev 1 2 a.probation e.1.0)
-      (ap (λ n. walk n l.next 2) k.protected.count ∙ linked_walk l.next l.prev 2 0 a.protected e.1.1)
+    (ap (λ n. walk n l.next 0) k.window.count ∙ linked_walk l.next l.prev 0 1 a.window e.0)
+    (ap (λ n. walk n l.next 1) k.probation.count ∙ linked_walk l.next l.prev 1 2 a.probation e.1.0)
+    (ap (λ n. walk n l.next 2) k.protected.count ∙ linked_walk l.next l.prev 2 0 a.protected e.1.1)
 
 -- a node in none of the lists
 pub record IsOut (n : ℕ) (a : Areas ℕ) : Type 0 where
@@ -52,9 +52,11 @@ out_of l s a slot k h =
     }
 
 out_of_ring : (n : ℕ) (a : Areas ℕ) → 2 < n → IsOut n a → IsAway n (marked 0 (lists_of a))
-out_of_ring n a big out =
-    (omega arith, away_both n a.window (1 ∷ (a.probation ++ (2 ∷ (a.protected ++ [])))) out.window
-      (omega arith, away_both n a.probation (2 ∷ (a.protected ++ [])) out.probation (omega arith, away_both n a.protected [] out.protected tt)))
+out_of_ring n a big out = (
+  omega arith,
+  away_both n a.window (1 ∷ (a.probation ++ (2 ∷ (a.protected ++ [])))) out.window
+      (omega arith, away_both n a.probation (2 ∷ (a.protected ++ [])) out.probation (omega arith, away_both n a.protected [] out.protected tt)),
+)
 
 -- the links once a node came, and what is noted of it
 abbrev pub links_put : Area → ℕ → ℕ → Links → Links
@@ -74,7 +76,7 @@ length-set_area (x ∷ xs) zero h = refl
 length-set_area (x ∷ xs) (suc i) h = ap suc (length-set_area xs i h)
 
 nodes_put : (area : Area) (l : Links) (s : Sizes) (a : Areas ℕ) (slot w : ℕ) → slot + 3 < length l.next → IsOut (slot + 3) a → AreNodes l s a
-  → AreNodes (links_put area (slot + 3) w l) (sizes_with area w s) (fronted_in area (slot + 3) a)
+    → AreNodes (links_put area (slot + 3) w l) (sizes_with area w s) (fronted_in area (slot + 3) a)
 nodes_put Window l s a slot w within out k = record {
   ring = chained_put l.next l.prev 0 (slot + 3) (lists_of a) (omega arith) within (out_of_ring (slot + 3) a (omega arith) out) k.ring;
   window = kept_fronted Window l.weights l.areas s.window slot w a.window (omega (arith, k.weights_long)) (omega (arith, k.areas_long)) out.window k.window;
@@ -104,7 +106,7 @@ nodes_put Protected l s a slot w within out k = record {
 }
 
 placed_put : (area : Area) (a : Areas ℕ) (ws : List ℕ) (slot w : ℕ) → slot + 3 < length ws → IsOut (slot + 3) a
-  → placed_areas (slice_set ws (slot + 3) w) (fronted_in area (slot + 3) a) ≡ fronted_in area (record { slot = slot; weight = w }) (placed_areas ws a)
+    → placed_areas (slice_set ws (slot + 3) w) (fronted_in area (slot + 3) a) ≡ fronted_in area (record { slot = slot; weight = w }) (placed_areas ws a)
 placed_put Window a ws slot w l out = same_areas _ _ _ _ _ _ (placed-fronted slot w ws a.window l out.window) (placed-away (slot + 3) w ws a.probation out.probation) (placed-away (slot + 3) w ws a.protected out.protected)
 placed_put Probation a ws slot w l out = same_areas _ _ _ _ _ _ (placed-away (slot + 3) w ws a.window out.window) (placed-fronted slot w ws a.probation l out.probation) (placed-away (slot + 3) w ws a.protected out.protected)
 placed_put Protected a ws slot w l out = same_areas _ _ _ _ _ _ (placed-away (slot + 3) w ws a.window out.window) (placed-away (slot + 3) w ws a.probation out.probation) (placed-fronted slot w ws a.protected l out.protected)
@@ -115,7 +117,7 @@ pub record IsPut (area : Area) (slot w : ℕ) (l : Links) (s : Sizes) (m : Links
   pub shows : shown_by m t ≡ record (shown_by l s) { areas = fronted_in area (record { slot = slot; weight = w }) (shown_by l s).areas }
 
 put : (area : Area) (l : Links) (s : Sizes) (slot w : ℕ) → slot + 3 < length l.next → holds slot (shown_by l s).areas ≡ false → AreNodes l s (nodes_by l.next s)
-  → IsPut area slot w l s (links_put area (slot + 3) w l) (sizes_with area w s)
+    → IsPut area slot w l s (links_put area (slot + 3) w l) (sizes_with area w s)
 put area l s slot w within free k =
     let a : Areas ℕ = nodes_by l.next s in
     let m : Links = links_put area (slot + 3) w l in
@@ -130,16 +132,16 @@ put area l s slot w within free k =
 
 -- the same, by the steps of the code
 pub put_by : (area : Area) (l : Links) (s : Sizes) (slot w at mark : ℕ) (noted m : Links) (t : Sizes) → at ≡ slot + 3 → mark ≡ mark_of area
-  → noted ≡ record l { weights = slice_set l.weights at w; areas = slice_set l.areas at (Some area) }
-  → m ≡ record noted { next = put_next noted.next mark at; prev = put_prev noted.next noted.prev mark at } → t ≡ sizes_with area w s
-  → slot < (shown_by l s).slots → holds slot (shown_by l s).areas ≡ false → AreNodes l s (nodes_by l.next s) → IsPut area slot w l s m t
+    → noted ≡ record l { weights = slice_set l.weights at w; areas = slice_set l.areas at (Some area) }
+    → m ≡ record noted { next = put_next noted.next mark at; prev = put_prev noted.next noted.prev mark at } → t ≡ sizes_with area w s
+    → slot < (shown_by l s).slots → holds slot (shown_by l s).areas ≡ false → AreNodes l s (nodes_by l.next s) → IsPut area slot w l s m t
 put_by area l s slot w at mark noted m t e_at e_mark e_noted e_m e_t within free k =
     let linked : Links → ℕ → ℕ → Links = λ (x : Links) (i j : ℕ). record x { next = put_next x.next i j; prev = put_prev x.next x.prev i j } in
     let note : ℕ → Links = λ (j : ℕ). record l { weights = slice_set l.weights j w; areas = slice_set l.areas j (Some area) } in
     let is : m ≡ links_put area (slot + 3) w l
-      = e_m ∙ ap (λ (x : Links). linked x mark at) e_noted ∙ ap (λ (i : ℕ). linked (note at) i at) e_mark ∙ ap (λ (j : ℕ). linked (note j) (mark_of area) j) e_at in
+    = e_m ∙ ap (λ (x : Links). linked x mark at) e_noted ∙ ap (λ (i : ℕ). linked (note at) i at) e_mark ∙ ap (λ (j : ℕ). linked (note j) (mark_of area) j) e_at in
     subst (λ (x : Links). IsPut area slot w l s x t) (sym is)
-      (subst (λ (y : Sizes). IsPut area slot w l s (links_put area (slot + 3) w l) y) (sym e_t) (put area l s slot w (omega arith) free k))
+    (subst (λ (y : Sizes). IsPut area slot w l s (links_put area (slot + 3) w l) y) (sym e_t) (put area l s slot w (omega arith) free k))
 
 -- what the steps ask
 
@@ -151,8 +153,16 @@ mark_within Protected l s a k = let h = mark_place l.next l.prev 2 (lists_of a) 
 -- all that is counted, and the marks, have places
 counted : (l : Links) (s : Sizes) (a : Areas ℕ) → AreNodes l s a → s.window.count + (s.probation.count + s.protected.count) + 2 < length l.next
 counted l s a k =
-    omega (arith, ring_length l.next l.prev 0 (a.window ++ (1 ∷ (a.probation ++ (2 ∷ (a.protected ++ []))))) k.ring, k.window.count, k.probation.count, k.protected.count,
-      length-append a.window (1 ∷ (a.probation ++ (2 ∷ (a.protected ++ [])))), length-append a.probation (2 ∷ (a.protected ++ [])), length-append a.protected [])
+    omega (
+      arith,
+      ring_length l.next l.prev 0 (a.window ++ (1 ∷ (a.probation ++ (2 ∷ (a.protected ++ []))))) k.ring,
+      k.window.count,
+      k.probation.count,
+      k.protected.count,
+      length-append a.window (1 ∷ (a.probation ++ (2 ∷ (a.protected ++ [])))),
+      length-append a.probation (2 ∷ (a.protected ++ [])),
+      length-append a.protected [],
+    )
 
 pub count_fits : (area : Area) (l : Links) (s : Sizes) (a : Areas ℕ) → AreNodes l s a → (size_in area s).count + 1 < length l.next
 count_fits Window l s a k = omega (arith, counted l s a k)

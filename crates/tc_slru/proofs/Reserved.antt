@@ -74,7 +74,7 @@ reserved_by slots l s m e k =
     let again : nodes_by g.next s ≡ a = nodes_again g s a done in
     let long : length g.next - 3 ≡ max (length l.next - 3) slots = omega (arith, length-append l.next zs, length-replicate_own {A = ℕ} (slots + 3 - length l.next) 0) in
     let kept : (area : Area) → map (placed_of g.weights) (list_in area a) ≡ map (placed_of l.weights) (list_in area a)
-      = λ area. placed-grown l.weights zs (list_in area a) (subst (λ m. AreBelow m (list_in area a)) (sym k.weights_long) (standing l s a k area).below) in
+    = λ area. placed-grown l.weights zs (list_in area a) (subst (λ m. AreBelow m (list_in area a)) (sym k.weights_long) (standing l s a k area).below) in
     let same : IsReserved slots l s g = record {
       nodes = subst (λ z. AreNodes g s z) (sym again) done;
       shows = same_shown _ _ _ _ long (ap (λ z. placed_areas g.weights z) again ∙ same_areas _ _ _ _ _ _ (kept Window) (kept Probation) (kept Protected));
@@ -86,7 +86,7 @@ abbrev pub roomier : Bool → ℕ → Shown → Shown
 roomier b slots v = if b then (record v { slots = max v.slots slots }) else v
 
 pub reserved_if : (b : Bool) (slots : ℕ) (l : Links) (s : Sizes) (v : Shown) (m : Links) → m ≡ (if b then (grown (slots + 3) l) else l) → shown_by l s ≡ v → AreNodes l s (nodes_by l.next s)
-  → AreNodes m s (nodes_by m.next s) × (shown_by m s ≡ roomier b slots v)
+    → AreNodes m s (nodes_by m.next s) × (shown_by m s ≡ roomier b slots v)
 reserved_if true slots l s v m e w k =
     let r : IsReserved slots l s m = reserved_by slots l s m e k in
     (r.nodes, r.shows ∙ ap (λ (z : Shown). record z { slots = max z.slots slots }) w)

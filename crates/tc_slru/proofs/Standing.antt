@@ -84,7 +84,7 @@ elsewhere : (area other : Area) (hs : List (Option Area)) (n : ℕ) (xs : List �
 elsewhere area other hs n xs k o ne = without-away n xs (away_out n xs (not_among area other hs n xs k o ne))
 
 left_behind : (area : Area) (l : Links) (s : Sizes) (a : Areas ℕ) (others : List ℕ) (at : ℕ) → list_in area a ≡ others ++ at ∷ [] → without_node at (list_in area a) ≡ others → area_at l.areas at ≡ Some area → AreNodes l s a
-  → placed_areas l.weights (without_in at a) ≡ with_list area (map (placed_of l.weights) others) (placed_areas l.weights a)
+    → placed_areas l.weights (without_in at a) ≡ with_list area (map (placed_of l.weights) others) (placed_areas l.weights a)
 left_behind Window l s a others at is less home k = same_areas _ _ _ _ _ _
     (ap (λ xs. map (placed_of l.weights) xs) less)
     (ap (λ xs. map (placed_of l.weights) xs) (elsewhere Probation Window l.areas at a.probation k.probation.members home (λ e. cc)))

@@ -36,10 +36,10 @@ ring_among n a big =
     let two : (2 == n) ≡ false = ne_eqb 2 n (omega arith) in
     let last : is_among n (a.protected ++ []) ≡ is_among n a.protected = among-append n a.protected [] ∙ or_none (is_among n a.protected) in
     among-append n a.window (1 ∷ (a.probation ++ (2 ∷ (a.protected ++ []))))
-      ∙ ap (λ b. is_among n a.window || (b || is_among n (a.probation ++ (2 ∷ (a.protected ++ []))))) one
-      ∙ ap (λ b. is_among n a.window || b) (among-append n a.probation (2 ∷ (a.protected ++ [])))
-      ∙ ap (λ b. is_among n a.window || (is_among n a.probation || (b || is_among n (a.protected ++ [])))) two
-      ∙ ap (λ b. is_among n a.window || (is_among n a.probation || b)) last
+    ∙ ap (λ b. is_among n a.window || (b || is_among n (a.probation ++ (2 ∷ (a.protected ++ []))))) one
+    ∙ ap (λ b. is_among n a.window || b) (among-append n a.probation (2 ∷ (a.protected ++ [])))
+    ∙ ap (λ b. is_among n a.window || (is_among n a.probation || (b || is_among n (a.protected ++ [])))) two
+    ∙ ap (λ b. is_among n a.window || (is_among n a.probation || b)) last
 
 held_placed : (l : Links) (s : Sizes) (a : Areas ℕ) (slot : ℕ) → AreNodes l s a → holds slot (placed_areas l.weights a) ≡ is_held (slot + 3) a
 held_placed l s a slot k =
@@ -77,7 +77,7 @@ length-cut next prev n = length-slice_set next (slice_index prev n) (slice_index
 -- the kept lists without the node
 
 kept_cut : (area : Area) (l : Links) (s : Sizes) (a : Areas ℕ) (n : ℕ) → 2 < n → StandsIn area n a → is_held n a ≡ true → AreNodes l s a
-  → AreNodes (links_cut n l) (sizes_without area (slice_index l.weights n) s) (without_in n a)
+    → AreNodes (links_cut n l) (sizes_without area (slice_index l.weights n) s) (without_in n a)
 kept_cut Window l s a n big at held k =
     let d = each_distinct 0 (lists_of a) k.ring.distinct in
     record {
@@ -124,7 +124,7 @@ pub record IsTaken (slot : ℕ) (l : Links) (s : Sizes) (m : Links) (t : Sizes) 
   pub shows : shown_by m t ≡ record (shown_by l s) { areas = without_slot slot (shown_by l s).areas }
 
 taken : (area : Area) (l : Links) (s : Sizes) (slot : ℕ) → area_at l.areas (slot + 3) ≡ Some area → holds slot (shown_by l s).areas ≡ true → AreNodes l s (nodes_by l.next s)
-  → IsTaken slot l s (links_cut (slot + 3) l) (sizes_without area (slice_index l.weights (slot + 3)) s)
+    → IsTaken slot l s (links_cut (slot + 3) l) (sizes_without area (slice_index l.weights (slot + 3)) s)
 taken area l s slot home held k =
     let a : Areas ℕ = nodes_by l.next s in
     let m : Links = links_cut (slot + 3) l in
@@ -139,14 +139,14 @@ taken area l s slot home held k =
 
 -- the same, by the steps of the code
 pub taken_by : (l : Links) (s : Sizes) (slot at weight : ℕ) (area : Area) (cut m : Links) (t : Sizes) → at ≡ slot + 3 → weight ≡ slice_index l.weights at → Some area ≡ area_at l.areas at
-  → cut ≡ record l { next = cut_next l.next l.prev at; prev = cut_prev l.next l.prev at } → m ≡ record cut { areas = slice_set cut.areas at None } → t ≡ sizes_without area weight s
-  → holds slot (shown_by l s).areas ≡ true → AreNodes l s (nodes_by l.next s) → IsTaken slot l s m t
+    → cut ≡ record l { next = cut_next l.next l.prev at; prev = cut_prev l.next l.prev at } → m ≡ record cut { areas = slice_set cut.areas at None } → t ≡ sizes_without area weight s
+    → holds slot (shown_by l s).areas ≡ true → AreNodes l s (nodes_by l.next s) → IsTaken slot l s m t
 taken_by l s slot at weight area cut m t e_at e_weight e_area e_cut e_m e_t held k =
     let home : area_at l.areas (slot + 3) ≡ Some area = sym (e_area ∙ ap (λ n. area_at l.areas n) e_at) in
     let links_is : m ≡ links_cut (slot + 3) l = e_m ∙ ap (λ (c : Links). record c { areas = slice_set c.areas at None }) e_cut ∙ ap (λ (n : ℕ). links_cut n l) e_at in
     let sizes_is : t ≡ sizes_without area (slice_index l.weights (slot + 3)) s = e_t ∙ ap (λ w. sizes_without area w s) (e_weight ∙ ap (λ n. slice_index l.weights n) e_at) in
     subst (λ (x : Links). IsTaken slot l s x t) (sym links_is)
-      (subst (λ (y : Sizes). IsTaken slot l s (links_cut (slot + 3) l) y) (sym sizes_is) (taken area l s slot home held k))
+    (subst (λ (y : Sizes). IsTaken slot l s (links_cut (slot + 3) l) y) (sym sizes_is) (taken area l s slot home held k))
 
 -- what is noted of a held slot
 
@@ -220,7 +220,7 @@ held_by l s slot v at area e_at e_area e held k =
 pub some_held : (l : Links) (s : Sizes) (slot : ℕ) (v : Shown) (at : ℕ) → at ≡ slot + 3 → shown_by l s ≡ v → AreNodes l s (nodes_by l.next s) → is_some (area_at l.areas at) ≡ holds slot v.areas
 some_held l s slot v at e_at e k =
     ap (λ n. is_some (area_at l.areas n)) e_at ∙ go (is_held (slot + 3) (nodes_by l.next s)) refl
-      ∙ sym (held_placed l s (nodes_by l.next s) slot k) ∙ ap (λ (z : Shown). holds slot z.areas) e
+    ∙ sym (held_placed l s (nodes_by l.next s) slot k) ∙ ap (λ (z : Shown). holds slot z.areas) e
   where
     go : (b : Bool) → is_held (slot + 3) (nodes_by l.next s) ≡ b → is_some (area_at l.areas (slot + 3)) ≡ is_held (slot + 3) (nodes_by l.next s)
     go true h = ap is_some (noted_of l s (nodes_by l.next s) (slot + 3) h k).1 ∙ sym h

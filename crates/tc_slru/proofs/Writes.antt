@@ -44,7 +44,7 @@ kept_field : {B : Type 0} (f : Node → B) (ns : List Node) (at : ℕ) (n x : No
 kept_field f ns at n x w e = map-set_same f ns at x (e ∙ ap f (w.was ∙ index-default ns at n x w.within))
 
 same_links : (a b c d : List ℕ) (e f : List ℕ) (g h : List (Option Area)) → a ≡ b → c ≡ d → e ≡ f → g ≡ h
-  → (let l : Links = record { next = a; prev = c; weights = e; areas = g } in l) ≡ record { next = b; prev = d; weights = f; areas = h }
+    → (let l : Links = record { next = a; prev = c; weights = e; areas = g } in l) ≡ record { next = b; prev = d; weights = f; areas = h }
 same_links a b c d e f g h p q r s = cc
 
 next_set : (ns : List Node) (at to : ℕ) (n : Node) → IsWritten ns at n → links (slice_set ns at (record n { next = to })) ≡ record (links ns) { next = slice_set (links ns).next at to }
@@ -77,19 +77,19 @@ behind_set : (ms rest : List Node) (at : ℕ) (x : Node) → 3 ≤ at → length
 behind_set ms rest at x h m = let same : length ms + (at - 3) ≡ at = omega arith in append-set ms rest (at - 3) x ∙ ap (λ k. slice_set (ms ++ rest) k x) same
 
 pub next_behind : (ms rest : List Node) (at to : ℕ) (n : Node) → 3 ≤ at → length ms ≡ 3 → at < length (links (ms ++ rest)).next → n ≡ slice_index_or rest (at - 3) n
-  → links (ms ++ slice_set rest (at - 3) (record n { next = to })) ≡ record (links (ms ++ rest)) { next = slice_set (links (ms ++ rest)).next at to }
+    → links (ms ++ slice_set rest (at - 3) (record n { next = to })) ≡ record (links (ms ++ rest)) { next = slice_set (links (ms ++ rest)).next at to }
 next_behind ms rest at to n h m l e = ap links (behind_set ms rest at (record n { next = to }) h m) ∙ next_set (ms ++ rest) at to n (behind ms rest at n h m l e)
 
 pub prev_behind : (ms rest : List Node) (at to : ℕ) (n : Node) → 3 ≤ at → length ms ≡ 3 → at < length (links (ms ++ rest)).next → n ≡ slice_index_or rest (at - 3) n
-  → links (ms ++ slice_set rest (at - 3) (record n { prev = to })) ≡ record (links (ms ++ rest)) { prev = slice_set (links (ms ++ rest)).prev at to }
+    → links (ms ++ slice_set rest (at - 3) (record n { prev = to })) ≡ record (links (ms ++ rest)) { prev = slice_set (links (ms ++ rest)).prev at to }
 prev_behind ms rest at to n h m l e = ap links (behind_set ms rest at (record n { prev = to }) h m) ∙ prev_set (ms ++ rest) at to n (behind ms rest at n h m l e)
 
 pub note_behind : (ms rest : List Node) (at weight : ℕ) (area : Option Area) (n : Node) → 3 ≤ at → length ms ≡ 3 → at < length (links (ms ++ rest)).next → n ≡ slice_index_or rest (at - 3) n
-  → links (ms ++ slice_set rest (at - 3) (record n { weight = weight; area = area })) ≡ record (links (ms ++ rest)) { weights = slice_set (links (ms ++ rest)).weights at weight; areas = slice_set (links (ms ++ rest)).areas at area }
+    → links (ms ++ slice_set rest (at - 3) (record n { weight = weight; area = area })) ≡ record (links (ms ++ rest)) { weights = slice_set (links (ms ++ rest)).weights at weight; areas = slice_set (links (ms ++ rest)).areas at area }
 note_behind ms rest at weight area n h m l e = ap links (behind_set ms rest at (record n { weight = weight; area = area }) h m) ∙ note_set (ms ++ rest) at weight area n (behind ms rest at n h m l e)
 
 pub area_behind : (ms rest : List Node) (at : ℕ) (area : Option Area) (n : Node) → 3 ≤ at → length ms ≡ 3 → at < length (links (ms ++ rest)).next → n ≡ slice_index_or rest (at - 3) n
-  → links (ms ++ slice_set rest (at - 3) (record n { area = area })) ≡ record (links (ms ++ rest)) { areas = slice_set (links (ms ++ rest)).areas at area }
+    → links (ms ++ slice_set rest (at - 3) (record n { area = area })) ≡ record (links (ms ++ rest)) { areas = slice_set (links (ms ++ rest)).areas at area }
 area_behind ms rest at area n h m l e = ap links (behind_set ms rest at (record n { area = area }) h m) ∙ area_set (ms ++ rest) at area n (behind ms rest at n h m l e)
 
 -- nodes that come
@@ -106,13 +106,13 @@ grown_field : {B : Type 0} (f : Node → B) (ns : List Node) (k : ℕ) (x : Node
 grown_field f ns k x = map-append f ns (replicate k x) ∙ ap (λ t. map f ns ++ t) (map-replicate f k x)
 
 pub links-grown : (ms rest : List Node) (slots : ℕ) (x : Node) → x.next ≡ 0 → x.prev ≡ 0 → x.weight ≡ 0 → x.area ≡ None → length ms ≡ 3
-  → links (ms ++ (rest ++ replicate (slots - length rest) x)) ≡ grown (slots + 3) (links (ms ++ rest))
+    → links (ms ++ (rest ++ replicate (slots - length rest) x)) ≡ grown (slots + 3) (links (ms ++ rest))
 links-grown ms rest slots x en ep ew ea m =
     let more : slots - length rest ≡ slots + 3 - length (links (ms ++ rest)).next = omega (arith, length-map_own (λ (n : Node). n.next) (ms ++ rest), length-append ms rest) in
     let k : ℕ = slots + 3 - length (links (ms ++ rest)).next in
     ap links (sym (append_assoc ms rest (replicate (slots - length rest) x))) ∙ ap (λ j. links ((ms ++ rest) ++ replicate j x)) more
-      ∙ same_links _ _ _ _ _ _ _ _
-          (grown_field (λ n. n.next) (ms ++ rest) k x ∙ ap (λ v. map (λ n. n.next) (ms ++ rest) ++ replicate k v) en)
-          (grown_field (λ n. n.prev) (ms ++ rest) k x ∙ ap (λ v. map (λ n. n.prev) (ms ++ rest) ++ replicate k v) ep)
-          (grown_field (λ n. n.weight) (ms ++ rest) k x ∙ ap (λ v. map (λ n. n.weight) (ms ++ rest) ++ replicate k v) ew)
-          (grown_field (λ n. n.area) (ms ++ rest) k x ∙ ap (λ v. map (λ n. n.area) (ms ++ rest) ++ replicate k v) ea)
+    ∙ same_links _ _ _ _ _ _ _ _
+    (grown_field (λ n. n.next) (ms ++ rest) k x ∙ ap (λ v. map (λ n. n.next) (ms ++ rest) ++ replicate k v) en)
+    (grown_field (λ n. n.prev) (ms ++ rest) k x ∙ ap (λ v. map (λ n. n.prev) (ms ++ rest) ++ replicate k v) ep)
+    (grown_field (λ n. n.weight) (ms ++ rest) k x ∙ ap (λ v. map (λ n. n.weight) (ms ++ rest) ++ replicate k v) ew)
+    (grown_field (λ n. n.area) (ms ++ rest) k x ∙ ap (λ v. map (λ n. n.area) (ms ++ rest) ++ replicate k v) ea)

@@ -27,9 +27,9 @@ with_limits l v = record { limits = limits_of l; slots = v.slots; areas = v.area
 -- the last of main, and the lists without it: of probation first
 pub data IsMainsLast (last : Placed) (old new : Areas Placed) : Type 0 where
   of_probation : (others : List Placed) → old.probation ≡ others ++ last ∷ [] → new ≡ record old { probation = others }
-    → IsMainsLast last old new
+      → IsMainsLast last old new
   of_protected : (others : List Placed) → old.probation ≡ [] → old.protected ≡ others ++ last ∷ []
-    → new ≡ record old { protected = others } → IsMainsLast last old new
+      → new ≡ record old { protected = others } → IsMainsLast last old new
 
 -- all of these were seen less often
 abbrev pub ranks_above : (ℕ → ℕ) → ℕ → List Placed → Bool
@@ -39,5 +39,5 @@ ranks_above seen level vs = list_all (λ v. nat_lt (seen v.slot) level) vs
 abbrev pub verdict_of : (ℕ → ℕ) → CodeLimits → Areas Placed → Placed → Verdict
 verdict_of seen limits a c =
     cond (ranks_above seen (seen c.slot) (victims weigh (limits_of limits) a c))
-      (cond (nat_le (main_weight weigh a + weigh c - limits.main) (sum_by weigh a.probation)) Enters Waits)
-      Refused
+    (cond (nat_le (main_weight weigh a + weigh c - limits.main) (sum_by weigh a.probation)) Enters Waits)
+    Refused

@@ -1,8 +1,16 @@
 //! Three lists of slots in one ring of nodes.
 //!
-//! The ring is: mark 0, the window's nodes, mark 1, probation's nodes, mark 2, protected's nodes, and back to mark 0.
-//! A list's front is behind its mark, and its last before the next mark, so no list is ever empty in the ring and
-//! no call has a case for one.
+//! Terms: a node is a number. 0, 1 and 2 are the marks of window, probation and protected, and slot n
+//! is node n + 3. A list's front stands behind its mark, and its last before the next mark, so no list
+//! is ever empty in the ring and no call has a case for one.
+//!
+//! What is always true (`AreNodes` in `specs/Kept.antt`):
+//! 1. `ring`: mark 0, the window's nodes, mark 1, probation's nodes, mark 2, protected's nodes and mark 0
+//!    again are linked in this order, both ways, and no node stands there twice.
+//! 2. `window`, `probation`, `protected`: a list's size says how many nodes stand in it and what they
+//!    weigh; each of them is a slot's, and this list is noted at it.
+//! 3. `free`: at the node of every other slot no list is noted.
+//! 4. `weights_long`, `areas_long`: each node has a place for its weight and its list.
 ghost use Rattle.std.specs.Prelude.{◌≡◌, ℕ, reverse, ◌+◌, ◌-◌, ◌<◌, ◌≤◌, ◌^◌, true, false, length, max, slice_index, is_ok, OnErr, sum_by, if◌then◌else◌};
 ghost use Rattle.tc_model.specs.Areas.{total};
 ghost use Rattle.tc_model.specs.Ring.{HasPlace};
@@ -107,7 +115,8 @@ impl LinkedAreas {
 
     /// Room for all slots below this. A refusal changes nothing.
     pub fn reserve(&mut self, slots: usize) -> Result<(), NoMemory>
-        ensures reserved { self.new ≡ (if is_ok result then with_room slots self.old else self.old) }
+        ensures reserved { self.new
+            ≡ (if is_ok result then with_room slots self.old else self.old) }
         ensures refused { OnErr result (self.old.slots < slots) }
     {
         self.nodes.reserve(slots)
@@ -172,7 +181,8 @@ impl LinkedAreas {
     /// Moves a slot to the front of a list.
     pub fn move_to(&mut self, area: Area, held: Held)
         requires held { holds held.slot.0 self.old.areas ≡ true }
-        requires fits { total weigh (without_slot held.slot.0 self.old.areas) + held.weight < 2 ^ 64 }
+        requires fits { total weigh (without_slot held.slot.0 self.old.areas) + held.weight
+            < 2 ^ 64 }
         ensures { self.new
             ≡ put_in area (placed held.slot.0 held.weight) (taken_out held.slot.0 self.old) }
     {

@@ -58,7 +58,8 @@ impl Lists {
 
     /// Room for all slots below `slots`; never less than there was. A refusal changes nothing.
     pub fn reserve(&mut self, slots: usize) -> Result<(), NoMemory>
-        ensures reserved { self.new ≡ (if is_ok result then reserved slots self.old else self.old) }
+        ensures reserved { self.new
+            ≡ (if is_ok result then reserved slots self.old else self.old) }
         ensures refused { OnErr result (self.old.slots < slots) }
     {
         self.areas.reserve(slots)

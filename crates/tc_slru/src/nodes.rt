@@ -1,4 +1,5 @@
-//! The nodes of the ring, by number. The first three are the marks before window, probation and protected; slot n is node n + 3.
+//! The nodes of the ring, by number. The first three are the marks before window, probation and
+//! protected; slot n is node n + 3.
 ghost use Rattle.std.specs.Prelude.{◌≡◌, ◌+◌, ◌<◌, ◌≤◌, ◌^◌, length, Some, None, slice_index, slice_set, is_ok, OnErr, if◌then◌else◌};
 ghost use Rattle.tc_slru.specs.Links.{area_at, marks_alone, grown, noted, freed};
 
@@ -21,6 +22,7 @@ pub struct Node {
     pub area: Option<Area>,
 }
 
+/// A node that is linked so, of no slot.
 const fn alone(next: usize, prev: usize) -> Node
     ensures next { result.next ≡ next }
     ensures prev { result.prev ≡ prev }
@@ -91,6 +93,7 @@ impl Nodes {
         ensures node { result ≡ slot.0 + 3 }
         ensures few { length self.now.next < 2 ^ 64 }
     {
+        // The bytes of a slice fit a `usize`, so a number of nodes does with the marks added.
         let places: &[Node] = self.rest.as_slice();
         let _all = places.len() + MARKS;
         slot.0 + MARKS

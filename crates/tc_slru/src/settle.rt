@@ -64,7 +64,9 @@ fn outranks<F: Fn(Slot) -> u8>(areas: &LinkedAreas, freq: &F, level: u8, need: u
         → result ≡ ranks_above seen level (shortest weigh need (from_tail areas.now.areas)) }
 {
     match areas.shortfall(Area::Probation, freq, level, need) {
-        Some(rest) => areas.shortfall(Area::Protected, freq, level, rest).is_some(),
+        Some(rest) => areas
+            .shortfall(Area::Protected, freq, level, rest)
+            .is_some(),
         None => false,
     }
 }

@@ -1,6 +1,9 @@
 //! Runs by hand, refusals of memory, and a random run beside the plain definition over `Vec`s.
+mod plain;
+
 use crate::{Lists, Slot, Weights};
-use std::alloc::{AllocError, Global};
+use plain::{Entry, MAIN, PROTECTED, Plain, WINDOW};
+use std::alloc::AllocError;
 use std::process::Abort;
 use std::test::Fail;
 use tc_item::NoMemory;
@@ -43,24 +46,51 @@ fn five_evictions_as_worked_by_hand(rt: HostRuntime) -> Result<(), Fail> {
     push(&rt, &mut lists, 1, 30065);
     assert_eq!(rt; dropped(&mut lists, &seen), None, "b enters");
     push(&rt, &mut lists, 2, 30065);
-    assert_eq!(rt; dropped(&mut lists, &seen), Some(2), "c was seen as often as a");
+    assert_eq!(rt;
+        dropped(&mut lists, &seen),
+        Some(2),
+        "c was seen as often as a"
+    );
     assert_eq!(rt; dropped(&mut lists, &seen), None);
     seen = vec![in rt.alloc(); 1u8, 1, 2, 1]?;
     push(&rt, &mut lists, 2, 30065);
-    assert_eq!(rt; dropped(&mut lists, &seen), Some(0), "c was seen more often than a");
+    assert_eq!(rt;
+        dropped(&mut lists, &seen),
+        Some(0),
+        "c was seen more often than a"
+    );
     assert_eq!(rt; dropped(&mut lists, &seen), None);
     access(&rt, &mut lists, 1, 30065);
     access(&rt, &mut lists, 1, 30065);
     access(&rt, &mut lists, 1, 30065);
-    assert_eq!(rt; lists.weights(), Weights { window: 0, probation: 30065, protected: 30065 });
+    assert_eq!(rt;
+        lists.weights(),
+        Weights {
+            window: 0,
+            probation: 30065,
+            protected: 30065
+        }
+    );
     seen = vec![in rt.alloc(); 2u8, 4, 2, 1]?;
     push(&rt, &mut lists, 0, 30065);
-    assert_eq!(rt; dropped(&mut lists, &seen), Some(0), "a was seen as often as c");
+    assert_eq!(rt;
+        dropped(&mut lists, &seen),
+        Some(0),
+        "a was seen as often as c"
+    );
     push(&rt, &mut lists, 3, 30065);
-    assert_eq!(rt; dropped(&mut lists, &seen), Some(3), "d was seen less often than c");
+    assert_eq!(rt;
+        dropped(&mut lists, &seen),
+        Some(3),
+        "d was seen less often than c"
+    );
     seen = vec![in rt.alloc(); 3u8, 4, 2, 1]?;
     push(&rt, &mut lists, 0, 30065);
-    assert_eq!(rt; dropped(&mut lists, &seen), Some(2), "a was seen more often than c");
+    assert_eq!(rt;
+        dropped(&mut lists, &seen),
+        Some(2),
+        "a was seen more often than c"
+    );
     assert_eq!(rt; dropped(&mut lists, &seen), None);
     assert!(rt; lists.holds(Slot(0)) && lists.holds(Slot(1)));
     assert!(rt; !lists.holds(Slot(2)) && !lists.holds(Slot(3)));
@@ -79,10 +109,21 @@ fn a_candidate_as_heavy_as_main_drops_all_of_it(rt: HostRuntime) -> Result<(), F
     access(&rt, &mut lists, 1, 20);
     push(&rt, &mut lists, 3, 100);
     for victim in [0, 2, 1] {
-        assert_eq!(rt; dropped(&mut lists, &seen), Some(victim), "from main's tail");
+        assert_eq!(rt;
+            dropped(&mut lists, &seen),
+            Some(victim),
+            "from main's tail"
+        );
     }
     assert_eq!(rt; dropped(&mut lists, &seen), None);
-    assert_eq!(rt; lists.weights(), Weights { window: 0, probation: 100, protected: 0 });
+    assert_eq!(rt;
+        lists.weights(),
+        Weights {
+            window: 0,
+            probation: 100,
+            protected: 0
+        }
+    );
     Ok(())
 }
 
@@ -100,7 +141,14 @@ fn victims_in_probation_leave_protected_alone(rt: HostRuntime) -> Result<(), Fai
     assert_eq!(rt; dropped(&mut lists, &seen), Some(1));
     assert_eq!(rt; dropped(&mut lists, &seen), Some(2));
     assert_eq!(rt; dropped(&mut lists, &seen), None);
-    assert_eq!(rt; lists.weights(), Weights { window: 0, probation: 65, protected: 25 });
+    assert_eq!(rt;
+        lists.weights(),
+        Weights {
+            window: 0,
+            probation: 65,
+            protected: 25
+        }
+    );
     Ok(())
 }
 
@@ -114,14 +162,27 @@ fn one_victim_seen_as_often_keeps_the_candidate_out(rt: HostRuntime) -> Result<(
         assert_eq!(rt; dropped(&mut lists, &seen), None);
     }
     push(&rt, &mut lists, 3, 60);
-    assert_eq!(rt; dropped(&mut lists, &seen), Some(3), "slot 1 was seen as often");
+    assert_eq!(rt;
+        dropped(&mut lists, &seen),
+        Some(3),
+        "slot 1 was seen as often"
+    );
     assert_eq!(rt; dropped(&mut lists, &seen), None);
-    assert_eq!(rt; lists.weights(), Weights { window: 0, probation: 90, protected: 0 });
+    assert_eq!(rt;
+        lists.weights(),
+        Weights {
+            window: 0,
+            probation: 90,
+            protected: 0
+        }
+    );
     Ok(())
 }
 
 #[test]
-fn an_item_heavier_than_protected_goes_back_to_the_front_of_probation(rt: HostRuntime) -> Result<(), Fail> {
+fn an_item_heavier_than_protected_goes_back_to_the_front_of_probation(
+    rt: HostRuntime,
+) -> Result<(), Fail> {
     let mut lists = Lists::new(rt.alloc(), 10, 120, 40);
     lists.reserve(4)?;
     let seen = vec![in rt.alloc(); 1u8, 1, 1, 2]?;
@@ -132,29 +193,67 @@ fn an_item_heavier_than_protected_goes_back_to_the_front_of_probation(rt: HostRu
     push(&rt, &mut lists, 2, 50);
     assert_eq!(rt; dropped(&mut lists, &seen), None);
     access(&rt, &mut lists, 1, 30);
-    assert_eq!(rt; lists.weights(), Weights { window: 0, probation: 80, protected: 30 });
+    assert_eq!(rt;
+        lists.weights(),
+        Weights {
+            window: 0,
+            probation: 80,
+            protected: 30
+        }
+    );
     access(&rt, &mut lists, 2, 50);
-    assert_eq!(rt; lists.weights(), Weights { window: 0, probation: 110, protected: 0 });
+    assert_eq!(rt;
+        lists.weights(),
+        Weights {
+            window: 0,
+            probation: 110,
+            protected: 0
+        }
+    );
     push(&rt, &mut lists, 3, 120);
     for victim in [0, 1, 2] {
-        assert_eq!(rt; dropped(&mut lists, &seen), Some(victim), "1 was demoted before 2");
+        assert_eq!(rt;
+            dropped(&mut lists, &seen),
+            Some(victim),
+            "1 was demoted before 2"
+        );
     }
     assert_eq!(rt; dropped(&mut lists, &seen), None);
     Ok(())
 }
 
 #[test]
-fn an_access_in_the_window_stays_there_and_takes_its_new_weight(rt: HostRuntime) -> Result<(), Fail> {
+fn an_access_in_the_window_stays_there_and_takes_its_new_weight(
+    rt: HostRuntime,
+) -> Result<(), Fail> {
     let mut lists = Lists::new(rt.alloc(), 50, 100, 80);
     lists.reserve(3)?;
     let seen = vec![in rt.alloc(); 1u8, 1, 1]?;
     push(&rt, &mut lists, 0, 10);
     push(&rt, &mut lists, 1, 10);
     access(&rt, &mut lists, 0, 25);
-    assert_eq!(rt; lists.weights(), Weights { window: 35, probation: 0, protected: 0 });
+    assert_eq!(rt;
+        lists.weights(),
+        Weights {
+            window: 35,
+            probation: 0,
+            protected: 0
+        }
+    );
     push(&rt, &mut lists, 2, 20);
-    assert_eq!(rt; dropped(&mut lists, &seen), None, "slot 1 is the last, and main has room");
-    assert_eq!(rt; lists.weights(), Weights { window: 45, probation: 10, protected: 0 });
+    assert_eq!(rt;
+        dropped(&mut lists, &seen),
+        None,
+        "slot 1 is the last, and main has room"
+    );
+    assert_eq!(rt;
+        lists.weights(),
+        Weights {
+            window: 45,
+            probation: 10,
+            protected: 0
+        }
+    );
     Ok(())
 }
 
@@ -166,13 +265,34 @@ fn a_removed_slot_is_free_and_weighs_nothing(rt: HostRuntime) -> Result<(), Fail
     push(&rt, &mut lists, 0, 20);
     push(&rt, &mut lists, 1, 5);
     assert_eq!(rt; dropped(&mut lists, &seen), None);
-    assert_eq!(rt; lists.weights(), Weights { window: 5, probation: 20, protected: 0 });
+    assert_eq!(rt;
+        lists.weights(),
+        Weights {
+            window: 5,
+            probation: 20,
+            protected: 0
+        }
+    );
     assert!(rt; lists.holds(Slot(0)));
     lists.remove(Slot(0));
     assert!(rt; !lists.holds(Slot(0)) && lists.holds(Slot(1)) && !lists.holds(Slot(2)));
-    assert_eq!(rt; lists.weights(), Weights { window: 5, probation: 0, protected: 0 });
+    assert_eq!(rt;
+        lists.weights(),
+        Weights {
+            window: 5,
+            probation: 0,
+            protected: 0
+        }
+    );
     push(&rt, &mut lists, 0, 30);
-    assert_eq!(rt; lists.weights(), Weights { window: 35, probation: 0, protected: 0 });
+    assert_eq!(rt;
+        lists.weights(),
+        Weights {
+            window: 35,
+            probation: 0,
+            protected: 0
+        }
+    );
     Ok(())
 }
 
@@ -188,170 +308,43 @@ fn a_refused_reserve_changes_nothing(rt: HostRuntime) -> Result<(), Fail> {
     push(&rt, &mut lists, 1, 5);
     assert_eq!(rt; lists.reserve(1 << 60), Err(NoMemory));
     assert_eq!(rt; lists.slots(), 2);
-    assert_eq!(rt; lists.weights(), Weights { window: 25, probation: 0, protected: 0 });
+    assert_eq!(rt;
+        lists.weights(),
+        Weights {
+            window: 25,
+            probation: 0,
+            protected: 0
+        }
+    );
     assert_eq!(rt; dropped(&mut lists, &seen), None, "slot 0 enters main");
-    assert_eq!(rt; lists.weights(), Weights { window: 5, probation: 20, protected: 0 });
+    assert_eq!(rt;
+        lists.weights(),
+        Weights {
+            window: 5,
+            probation: 20,
+            protected: 0
+        }
+    );
     lists.reserve(1)?;
     assert_eq!(rt; lists.slots(), 2, "room is never taken away");
     Ok(())
 }
 
-/// A slot in a plain list.
-#[derive(Clone, Copy, Debug, PartialEq, Eq, Drop)]
-struct Entry {
-    slot: usize,
-    weight: u64,
-}
-
-/// The definition, word for word, over plain lists, front to back.
-#[derive(Drop)]
-struct Plain {
-    window: Vec<Entry>,
-    probation: Vec<Entry>,
-    protected: Vec<Entry>,
-}
-
-const WINDOW: u64 = 60;
-const MAIN: u64 = 600;
-const PROTECTED: u64 = 480;
-
-fn weight_of(list: &Vec<Entry>) -> u64 {
-    list.iter().fold(0u64, |sum, entry| sum.saturating_add(entry.weight))
-}
-
-fn times(seen: &Vec<u8>, slot: usize) -> u8 {
-    seen.get(slot).copied().unwrap_or(0)
-}
-
-impl Plain {
-    fn new(alloc: Global) -> Plain {
-        Plain {
-            window: Vec::new(alloc),
-            probation: Vec::new(alloc),
-            protected: Vec::new(alloc),
-        }
-    }
-
-    fn main(&self) -> u64 {
-        weight_of(&self.probation).saturating_add(weight_of(&self.protected))
-    }
-
-    fn holds(&self, slot: usize) -> bool {
-        self.window.iter().any(|entry| entry.slot == slot)
-            || self.probation.iter().any(|entry| entry.slot == slot)
-            || self.protected.iter().any(|entry| entry.slot == slot)
-    }
-
-    fn weights(&self) -> Weights {
-        Weights {
-            window: weight_of(&self.window),
-            probation: weight_of(&self.probation),
-            protected: weight_of(&self.protected),
-        }
-    }
-
-    fn remove(&mut self, slot: usize) {
-        self.window.retain(|entry| entry.slot != slot);
-        self.probation.retain(|entry| entry.slot != slot);
-        self.protected.retain(|entry| entry.slot != slot);
-    }
-
-    fn demote(&mut self) -> Result<(), AllocError> {
-        for _last in 0..self.protected.len() {
-            if weight_of(&self.protected) > PROTECTED {
-                if let Some(last) = self.protected.pop() {
-                    self.probation.insert(0, last)?;
-                }
-            }
-        }
-        Ok(())
-    }
-
-    fn access(&mut self, slot: usize, weight: u64) -> Result<(), AllocError> {
-        let in_window = self.window.iter().any(|entry| entry.slot == slot);
-        self.remove(slot);
-        if in_window {
-            self.window.insert(0, Entry { slot, weight })?;
-        } else {
-            self.protected.insert(0, Entry { slot, weight })?;
-        }
-        self.demote()
-    }
-
-    /// Main's last, of probation first.
-    fn pop_main(&mut self) -> Option<Entry> {
-        match self.probation.pop() {
-            Some(entry) => Some(entry),
-            None => self.protected.pop(),
-        }
-    }
-
-    /// How many of main from its tail weigh at least `need`, and whether all were seen less often.
-    fn victims(&self, need: u64, level: u8, seen: &Vec<u8>) -> (usize, bool) {
-        let mut left = need;
-        let mut count = 0usize;
-        let mut wins = true;
-        for entry in self.probation.iter().rev().chain(self.protected.iter().rev()) {
-            if left > 0 {
-                left = left.saturating_sub(entry.weight);
-                count = count.saturating_add(1);
-                wins = wins && times(seen, entry.slot) < level;
-            }
-        }
-        (count, wins)
-    }
-
-    /// All that settle drops, in order.
-    fn settle(&mut self, alloc: Global, seen: &Vec<u8>) -> Result<Vec<usize>, AllocError> {
-        let mut gone = Vec::new(alloc);
-        self.demote()?;
-        self.trim(&mut gone)?;
-        for _candidate in 0..self.window.len() {
-            if weight_of(&self.window) > WINDOW {
-                if let Some(candidate) = self.window.pop() {
-                    self.admit(candidate, seen, &mut gone)?;
-                }
-            }
-        }
-        Ok(gone)
-    }
-
-    fn trim(&mut self, gone: &mut Vec<usize>) -> Result<(), AllocError> {
-        for _last in 0..self.probation.len().saturating_add(self.protected.len()) {
-            if self.main() > MAIN {
-                if let Some(last) = self.pop_main() {
-                    gone.push(last.slot)?;
-                }
-            }
-        }
-        Ok(())
-    }
-
-    fn admit(&mut self, candidate: Entry, seen: &Vec<u8>, gone: &mut Vec<usize>) -> Result<(), AllocError> {
-        let need = self.main().saturating_add(candidate.weight).saturating_sub(MAIN);
-        let (count, wins) = self.victims(need, times(seen, candidate.slot), seen);
-        if !wins {
-            gone.push(candidate.slot)?;
-            return Ok(());
-        }
-        for _victim in 0..count {
-            if let Some(victim) = self.pop_main() {
-                gone.push(victim.slot)?;
-            }
-        }
-        self.probation.insert(0, candidate)?;
-        Ok(())
-    }
-}
-
 /// Numbers that look random (Knuth's MMIX generator).
 fn stir(state: &mut u64) -> u64 {
-    *state = state.wrapping_mul(6364136223846793005).wrapping_add(1442695040888963407);
+    *state = state
+        .wrapping_mul(6364136223846793005)
+        .wrapping_add(1442695040888963407);
     *state >> 33
 }
 
 /// Settles both and compares each drop.
-fn settle_both(rt: &(impl Abort + AllocGlobal), lists: &mut Lists, plain: &mut Plain, seen: &Vec<u8>) -> Result<(), AllocError> {
+fn settle_both(
+    rt: &(impl Abort + AllocGlobal),
+    lists: &mut Lists,
+    plain: &mut Plain,
+    seen: &Vec<u8>,
+) -> Result<(), AllocError> {
     let gone = plain.settle(rt.alloc(), seen)?;
     for slot in &gone {
         assert_eq!(rt; dropped(lists, seen), Some(*slot));

@@ -30,8 +30,9 @@ returns-in-Refused-clause-settled g c = (step_refuses _ c.args.limits c.args.are
 pub returns-then-is_main_within-clause-settled : goal.returns-then-is_main_within-clause-settled
 returns-then-is_main_within-clause-settled g c =
     let fits : sum_by weigh c.loop-areas.areas.areas.window ≤ c.args.limits.window = elim c.loop-areas-test.branch [
-      then-loop-areas-test+else-sizes-limits w ↦ omega (arith, w.if-sizes-limits.false, w.sizes.ensures.window.weight)
-    | else-loop-areas-test w ↦ absurd (false≢true (sym w.loop-areas-test.false ∙ c.is_main_within.ensures ∙ sym c.is_main_within-2.ensures ∙ c.if-is_main_within.true)) ] in
+      | then-loop-areas-test+else-sizes-limits w ↦ omega (arith, w.if-sizes-limits.false, w.sizes.ensures.window.weight)
+      | else-loop-areas-test w ↦ absurd (false≢true (sym w.loop-areas-test.false ∙ c.is_main_within.ensures ∙ sym c.is_main_within-2.ensures ∙ c.if-is_main_within.true))
+    ] in
     (step_ends _ c.args.limits c.args.areas.now c.loop-areas.areas (leb-true _ _ (sym c.is_main_within-2.ensures ∙ c.if-is_main_within.true)) fits c.loop-areas.invariant).settled
 
 pub returns-else-is_main_within-clause-settled : goal.returns-else-is_main_within-clause-settled

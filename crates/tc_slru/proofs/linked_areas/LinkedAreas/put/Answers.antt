@@ -12,8 +12,8 @@ enter-requires-clause-count c = omega (arith, count_fits c.args.area c.self.insi
 
 pub invariant_of-self : goal.invariant_of-self
 invariant_of-self c = (put_by c.args.area c.self.inside.nodes c.self.inside.sizes c.args.slot.0 c.args.weight c.place-at.result c.mark_of.result c.note.new.self c.link_behind.new.nodes c.enter.new.self c.place-at.ensures.node c.mark_of.ensures c.note.ensures c.link_behind.ensures c.enter.ensures
-  (rw (← c.self.view_is) at c.requires.reserved) (rw (← c.self.view_is) at c.requires.free) c.self.invariant).nodes
+    (rw (← c.self.view_is) at c.requires.reserved) (rw (← c.self.view_is) at c.requires.free) c.self.invariant).nodes
 
 pub returns : goal.returns
 returns c = (put_by c.args.area c.self.inside.nodes c.self.inside.sizes c.args.slot.0 c.args.weight c.place-at.result c.mark_of.result c.note.new.self c.link_behind.new.nodes c.enter.new.self c.place-at.ensures.node c.mark_of.ensures c.note.ensures c.link_behind.ensures c.enter.ensures
-  (rw (← c.self.view_is) at c.requires.reserved) (rw (← c.self.view_is) at c.requires.free) c.self.invariant).shows ∙ ap (λ (z : Shown). record z { areas = fronted_in c.args.area (record { slot = c.args.slot.0; weight = c.args.weight }) z.areas }) c.self.view_is
+    (rw (← c.self.view_is) at c.requires.reserved) (rw (← c.self.view_is) at c.requires.free) c.self.invariant).shows ∙ ap (λ (z : Shown). record z { areas = fronted_in c.args.area (record { slot = c.args.slot.0; weight = c.args.weight }) z.areas }) c.self.view_is

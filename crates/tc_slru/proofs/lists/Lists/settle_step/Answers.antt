@@ -20,6 +20,6 @@ drop_next-requires-clause-fits g c =
 pub returns-clause-settled : goal.returns-clause-settled
 returns-clause-settled g c = λ seen h.
     let same : settled seen (with_limits c.self.inside.limits c.hold_protected.new.areas) ≡ settled seen c.args.self.now
-      = ap (λ (v : Shown). settled seen (with_limits c.self.inside.limits v)) c.hold_protected.ensures
-        ∙ settle-demoted seen (limits_of c.self.inside.limits) c.self.inside.areas.areas ∙ ap (λ (l : SlotLists). settled seen l) c.self.view_is in
+    = ap (λ (v : Shown). settled seen (with_limits c.self.inside.limits v)) c.hold_protected.ensures
+    ∙ settle-demoted seen (limits_of c.self.inside.limits) c.self.inside.areas.areas ∙ ap (λ (l : SlotLists). settled seen l) c.self.view_is in
     drops_from seen c.drop_next.result (with_limits c.self.inside.limits c.hold_protected.new.areas) c.args.self.now (with_limits c.self.inside.limits c.drop_next.new.areas) (sym same) (c.drop_next.ensures.settled seen h)
