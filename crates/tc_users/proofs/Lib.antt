@@ -1,1 +1,2 @@
 pub mod LoginData
+pub mod FirstFault

@@ -5,10 +5,13 @@
 //! row that the data opens (`specs/Login.antt`).
 #![tactic(auto)]
 
+mod checks;
+mod settings_fault;
 mod text;
 mod user_no;
 mod users;
 
+pub use settings_fault::{Field, Found, SettingsFault, TextFault};
 pub use text::Text;
 pub use user_no::UserNo;
 pub use users::{UserSpec, Users};
