@@ -23,7 +23,8 @@ abbrev pub told : Connection serving → Turn talking → Connection serving
 told q t = record { endpoint = t.endpoint; out = q.out ++ t.said ++ refusal_of t.want }
 
 -- an act was refused: before its request was read; or by the cache, and the request is spent; or at its reply, and the command stays done
-pub data IsRefusedAct (clock : ℕ) (caches : List UserCache) (q : Connection serving) (t : Turn talking) (caches' : List UserCache) (q' : Connection serving) : Type 0 where
+pub data IsRefusedAct (clock : ℕ) (caches : List UserCache) (q : Connection serving) (t : Turn talking)
+    (caches' : List UserCache) (q' : Connection serving) : Type 0 where
   Unread : caches' ≡ caches → q' ≡ q → IsRefusedAct clock caches q t caches' q'
   Undone : caches' ≡ caches → q' ≡ told q t → IsRefusedAct clock caches q t caches' q'
   Unsaid : caches' ≡ (turn_effect serving clock caches q.out t).caches → q' ≡ told q t → IsRefusedAct clock caches q t caches' q'
@@ -36,10 +37,12 @@ IsRefusedThere Act rows clock caches q caches' q' = IsRefusedAct clock caches q 
 IsRefusedThere Shut rows clock caches q caches' q' = ⊥
 
 -- a step of a connection was refused: one that opens it leaves everything unchanged
-pub data IsRefusedOn (x : Happening) (rows : List UserSpec) (clock c : ℕ) (caches : List UserCache) (connections : List (ℕ × Connection serving)) (caches' : List UserCache) (connections' : List (ℕ × Connection serving)) : Type 0 where
+pub data IsRefusedOn (x : Happening) (rows : List UserSpec) (clock c : ℕ)
+    (caches : List UserCache) (connections : List (ℕ × Connection serving))
+    (caches' : List UserCache) (connections' : List (ℕ × Connection serving)) : Type 0 where
   Unopened : x ≡ Open → caches' ≡ caches → connections' ≡ connections → IsRefusedOn x rows clock c caches connections caches' connections'
-  There : (q q' : Connection serving) → numbered c connections ≡ Some q → IsRefusedThere x rows clock caches q caches' q' → connections' ≡ with_numbered c q' connections
-      → IsRefusedOn x rows clock c caches connections caches' connections'
+  There : (q q' : Connection serving) → numbered c connections ≡ Some q → IsRefusedThere x rows clock caches q caches' q'
+      → connections' ≡ with_numbered c q' connections → IsRefusedOn x rows clock c caches connections caches' connections'
 
 -- only a step of a connection is refused
 abbrev pub IsRefusedBy : State → State → Step → Type 0

@@ -8,11 +8,15 @@
 #![tactic(auto)]
 
 mod doing;
+mod fresh;
 mod outputs;
 mod running;
 mod server;
 mod step;
+#[cfg(test)]
+mod tests;
 
+pub use fresh::fresh_caches;
 pub use outputs::{Output, Outputs, Sent};
 pub use running::run;
 pub use server::Server;
