@@ -28,7 +28,7 @@ fault_after-past rows i d h e at =
     e ∙ fault_after-row rows i d h ∙ ap (λ o. option_or o (fault_after (take (i + 1) rows) (drop (i + 1) rows))) at
 
 -- neither of two is there
-option_or-none : {A : Type 0} (o p : Option A) → option_or o p ≡ None → (o ≡ None) × (p ≡ None)
+pub option_or-none : {A : Type 0} (o p : Option A) → option_or o p ≡ None → (o ≡ None) × (p ≡ None)
 option_or-none None p e = (refl, e)
 option_or-none (Some x) p e = grind arith
 

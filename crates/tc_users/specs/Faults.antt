@@ -1,5 +1,5 @@
 -- Which users' rows are good, and the first fault where one is not. Source: docs/OPERATING.md, 'Settings', whose table gives the ranges and the order of the checks.
-use Rattle.std.specs.Prelude.{ℕ, ◌+◌, ◌^◌, ◌≤◌, pos, Bool, ◌&&◌, ◌||◌, not, nat_lt, nat_le, ◌==◌, if◌then◌else◌, List, [], ◌∷◌, ◌++◌, length, slice_index, position, Option, Some, None, option_map}
+use Rattle.std.specs.Prelude.{ℕ, ◌+◌, ◌^◌, ◌≤◌, ℤ, pos, int_le, Bool, ◌&&◌, ◌||◌, not, nat_lt, nat_le, ◌==◌, if◌then◌else◌, List, [], ◌∷◌, ◌++◌, length, slice_index, position, Option, Some, None, option_map}
 use Rattle.std.specs.Option.{option_or}
 use Rattle.std.specs.Char.{is_ascii_alphanumeric}
 use Rattle.std.specs.Str.{bytes_eq}
@@ -55,9 +55,13 @@ name_fault user name = option_map (BadName user) (text_fault 64 (position (λ b.
 abbrev pub token_fault : Field → List ℕ → Option SettingsFault
 token_fault field token = option_map (BadToken field) (text_fault 128 (position (λ b. not (is_token_byte b)) token) token)
 
+-- a whole number of this range
+abbrev pub range_fault : ℕ → ℕ → (ℤ → SettingsFault) → ℤ → Option SettingsFault
+range_fault low high fault found = if int_le (pos low) found && int_le found (pos high) then None else Some (fault found)
+
 -- a budget is 65,536 to 2^30 bytes
-abbrev pub budget_fault : ℕ → ℕ → Option SettingsFault
-budget_fault user budget = if nat_le 65536 budget && nat_le budget 1073741824 then None else Some (BudgetRange user (pos budget))
+abbrev pub budget_fault : ℕ → ℤ → Option SettingsFault
+budget_fault user found = range_fault 65536 1073741824 (BudgetRange user) found
 
 -- a second token is another token
 abbrev pub other_token_fault : ℕ → List ℕ → List ℕ → Option SettingsFault
@@ -69,8 +73,8 @@ second_fault user token None = None
 second_fault user token (Some second) = first_of (token_fault (SecondToken user) second ∷ other_token_fault user token second ∷ [])
 
 -- a largest item is 1 to 1,048,576 bytes
-abbrev pub largest_fault : ℕ → ℕ → Option SettingsFault
-largest_fault user largest = if nat_le 1 largest && nat_le largest 1048576 then None else Some (LargestRange user (pos largest))
+abbrev pub largest_fault : ℕ → ℤ → Option SettingsFault
+largest_fault user found = range_fault 1 1048576 (LargestRange user) found
 
 -- no user before has the name
 abbrev pub same_name_fault : List UserSpec → List ℕ → Option SettingsFault
@@ -81,9 +85,9 @@ abbrev pub row_fault : ℕ → UserSpec → Option SettingsFault
 row_fault user row =
     first_of (name_fault user row.name
     ∷ token_fault (Token user) row.token
-    ∷ budget_fault user row.budget
+    ∷ budget_fault user (pos row.budget)
     ∷ second_fault user row.token row.second
-    ∷ largest_fault user row.largest
+    ∷ largest_fault user (pos row.largest)
     ∷ [])
 
 -- the first fault of the row that comes after these

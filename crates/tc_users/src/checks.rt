@@ -79,16 +79,13 @@ pub fn check_token(field: Field, token: &[u8]) -> Result<(), SettingsFault>
 }
 
 /// Whether a user's budget is in its range.
-pub fn check_budget(user: u32, budget: u64) -> Result<(), SettingsFault>
-    ensures { result_err result ≡ budget_fault user budget }
+pub fn check_budget(user: u32, found: i128) -> Result<(), SettingsFault>
+    ensures { result_err result ≡ budget_fault user found }
 {
-    if budget >= 65_536 && budget <= 1_073_741_824 {
+    if found >= 65_536 && found <= 1_073_741_824 {
         return Ok(());
     }
-    Err(SettingsFault::BudgetRange {
-        user,
-        found: i128::from(budget),
-    })
+    Err(SettingsFault::BudgetRange { user, found })
 }
 
 /// Whether a second token is a token, and not the first.
@@ -113,16 +110,13 @@ fn check_second(user: u32, token: &[u8], second: &Option<Text>) -> Result<(), Se
 }
 
 /// Whether a user's largest item is in its range.
-pub fn check_largest(user: u32, largest: u64) -> Result<(), SettingsFault>
-    ensures { result_err result ≡ largest_fault user largest }
+pub fn check_largest(user: u32, found: i128) -> Result<(), SettingsFault>
+    ensures { result_err result ≡ largest_fault user found }
 {
-    if largest >= 1 && largest <= 1_048_576 {
+    if found >= 1 && found <= 1_048_576 {
         return Ok(());
     }
-    Err(SettingsFault::LargestRange {
-        user,
-        found: i128::from(largest),
-    })
+    Err(SettingsFault::LargestRange { user, found })
 }
 
 /// The place of the first row of this name.
@@ -152,9 +146,9 @@ fn check_row(user: u32, row: &UserSpec) -> Result<(), SettingsFault>
 {
     check_name(user, row.name.as_bytes())?;
     check_token(Field::Token(user), row.token.as_bytes())?;
-    check_budget(user, row.budget)?;
+    check_budget(user, i128::from(row.budget))?;
     check_second(user, row.token.as_bytes(), &row.second)?;
-    check_largest(user, row.largest)
+    check_largest(user, i128::from(row.largest))
 }
 
 /// Whether the row that comes after these is good.

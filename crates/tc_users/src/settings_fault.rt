@@ -1,8 +1,11 @@
 //! Why settings are refused.
 ghost use Rattle.std.specs.Prelude.{◌≡◌};
 ghost use Rattle.tc_users.specs.Faults.{fault_number};
+ghost use Rattle.tc_users.specs.Fields.{key_of};
+ghost use Rattle.tc_users.specs.declared.settings_fault.SettingsFault.TheVariants.{NoMemory as OutOfMemory};
 
 use std::fmt;
+use tc_item::NoMemory;
 use thiserror::Error;
 
 /// A field of the settings; a user's field with the user's number.
@@ -21,21 +24,43 @@ pub enum Field {
 
 impl fmt::Display for Field {
     fn fmt<W: fmt::Write>(&self, f: &mut fmt::Formatter<W>) -> fmt::Result {
-        match self {
-            Field::Listen => write!(f, "`listen`"),
-            Field::Workers => write!(f, "`workers`"),
-            Field::Journal => write!(f, "`journal`"),
-            Field::Users => write!(f, "`user`"),
-            Field::Name(user) => write!(f, "`name` of user {user}"),
-            Field::Token(user) => write!(f, "`token` of user {user}"),
-            Field::Budget(user) => write!(f, "`budget` of user {user}"),
-            Field::SecondToken(user) => write!(f, "`token2` of user {user}"),
-            Field::Largest(user) => write!(f, "`largest` of user {user}"),
+        match self.user() {
+            None => write!(f, "`{}`", self.key()),
+            Some(user) => write!(f, "`{}` of user {user}", self.key()),
         }
     }
 }
 
 impl Field {
+    /// The field's name in the text.
+    pub fn key(&self) -> &'static str
+        ensures { result.now ≡ key_of self.now }
+    {
+        match self {
+            Field::Listen => "listen",
+            Field::Workers => "workers",
+            Field::Journal => "journal",
+            Field::Users => "user",
+            Field::Name(_) => "name",
+            Field::Token(_) => "token",
+            Field::Budget(_) => "budget",
+            Field::SecondToken(_) => "token2",
+            Field::Largest(_) => "largest",
+        }
+    }
+
+    /// The number of the user whose field it is.
+    fn user(&self) -> Option<u32> {
+        match self {
+            Field::Listen | Field::Workers | Field::Journal | Field::Users => None,
+            Field::Name(user)
+            | Field::Token(user)
+            | Field::Budget(user)
+            | Field::SecondToken(user)
+            | Field::Largest(user) => Some(*user),
+        }
+    }
+
     /// What stands in the field, in an operator's words.
     fn wanted(&self) -> &'static str {
         match self {
@@ -136,6 +161,14 @@ pub enum SettingsFault {
     SameToken { user: u32 },
     #[error("there are {found} users; wanted: at most 4294967295")]
     TooManyUsers { found: usize },
+}
+
+impl From<NoMemory> for SettingsFault {
+    ghost from_gives = { λ _ e. e ≡ OutOfMemory };
+
+    fn from(_refused: NoMemory) -> SettingsFault {
+        SettingsFault::NoMemory
+    }
 }
 
 impl SettingsFault {

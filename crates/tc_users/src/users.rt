@@ -104,6 +104,14 @@ impl Users {
         Ok(Users { rows })
     }
 
+    /// The users of rows that are known to be good.
+    pub(crate) fn from_good_rows(rows: Vec<UserSpec>) -> Users
+        requires { first_fault rows.items ≡ None }
+        ensures { result ≡ rows.items }
+    {
+        Users { rows }
+    }
+
     /// How many users there are.
     pub fn len(&self) -> usize
         ensures { result ≡ length self.now }
