@@ -1,16 +1,19 @@
 -- What a run gives out is what the theorems on the machine speak of.
 use Rattle.std.specs.Prelude.{map, option_map, ◌==◌}
-use Rattle.std.proofs.Common.{◌≡◌, ℕ, Bool, true, false, cond, List, [], ◌∷◌, Some, refl, sym, ◌∙◌, ap, subst}
+use Rattle.std.proofs.Common.{◌≡◌, ◌≤◌, ℕ, Bool, true, false, cond, List, [], ◌∷◌, Some, refl, sym, ◌∙◌, ap, subst, drop, length}
+use Rattle.std.proofs.Math.ListN.{drop_of_length-le}
 use Rattle.tc_model.specs.Caching.{IsLawful}
 use Rattle.tc_model.specs.Connection.{is_closed}
-use Rattle.tc_model.specs.Server.{Connection, Step, World, numbered, run, sent}
+use Rattle.tc_model.specs.Server.{Connection, Step, World, numbered, steps_from, run, sent}
 use Rattle.tc_model.specs.Laws.{IsRising}
 use Rattle.tc_model.proofs.Isolation.{isolated, indifferent}
 use Rattle.tc_model.proofs.Untouched.{untouched}
 use Rattle.tc_model.proofs.Ordered.{ordered}
 use Rattle.tc_users.specs.declared.users.UserSpec.{UserSpec}
 use Rattle.tc_plain.specs.Laws.{user_caching, AdvancesOnce, ActsAdvanced}
+use Rattle.tc_core.specs.declared.step.Step.{Step as StepCode}
 use Rattle.tc_core.specs.Serving.{serving}
+use Rattle.tc_core.specs.Steps.{step_of}
 use Rattle.tc_core.specs.Sending.{output_of, sent_by, IsRun, IsIsolatedRun, IsUntouchedRun, IsIndifferentRun}
 
 -- the cache of the server is lawful
@@ -29,6 +32,13 @@ sent_by-outputs (e ∷ es) c = go (e.0 == c) (sent_by-outputs es c)
 numbers-outputs : (es : List (ℕ × Connection serving)) → map (λ o. o.connection) (map output_of es) ≡ map (λ e. e.0) es
 numbers-outputs [] = refl
 numbers-outputs (e ∷ es) = ap (λ ns. e.0 ∷ ns) (numbers-outputs es)
+
+-- past the last step the server has come to where all steps lead
+pub run-ended : (users : List UserSpec) (steps : List StepCode) (w : World serving) (i : ℕ) → length steps ≤ i
+    → steps_from serving users w (map step_of (drop i steps)) ≡ run serving users (map step_of steps)
+    → w ≡ run serving users (map step_of steps)
+run-ended users steps w i past rest =
+    subst (λ (xs : List StepCode). steps_from serving users w (map step_of xs) ≡ run serving users (map step_of steps)) (drop_of_length-le steps past) rest
 
 module _ (users : List UserSpec) (steps : List Step) (w : World serving) (e : w ≡ run serving users steps) where
   sent_here : (c : ℕ) → sent_by (map output_of w.connections) c ≡ sent serving (run serving users steps) c
