@@ -1,3 +1,6 @@
+pub mod Chained
+pub mod Counted
+pub mod Rings
 mod Numbered
 mod Logins
 mod Binding
@@ -15,5 +18,6 @@ pub mod Within
 pub mod Totals
 pub mod Accessed
 pub mod Steps
+pub mod Overtaking
 pub mod FirstPlace
 mod WorkedRun

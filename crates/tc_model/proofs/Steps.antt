@@ -8,7 +8,7 @@ use Rattle.std.proofs.lemmas.List.Sums.{sum_by-cons, sum_by_push}
 use Rattle.tc_model.specs.Areas.{Areas, Limits, Settled, fitting, beyond, shortest, demoted, trimmed, victims, admitted, all_admitted, and_then, entered, narrowed, without_last, from_tail, main_weight, settle}
 use Rattle.tc_model.proofs.Last.{fitting_last, beyond_last, shortest_more, fitting_all}
 
-abbrev areas_by : {A : Type 0} → List A → List A → List A → Areas A
+abbrev pub areas_by : {A : Type 0} → List A → List A → List A → Areas A
 areas_by x y z = record { window = x; probation = y; protected = z }
 
 and_parts : (a b : Bool) → (a && b) ≡ true → (a ≡ true) × (b ≡ true)
@@ -32,7 +32,7 @@ module _ {A : Type 0} where
   abbrev empty_list : List A
   empty_list = []
 
-  none_shortest : (w : A → ℕ) (xs : List A) → shortest w 0 xs ≡ []
+  pub none_shortest : (w : A → ℕ) (xs : List A) → shortest w 0 xs ≡ []
   none_shortest w [] = refl
   none_shortest w (x ∷ xs) = refl
 
@@ -60,7 +60,7 @@ module _ {A : Type 0} where
   without_none : (a : Areas A) → without_last 0 a ≡ a
   without_none a = same3 _ _ _ _ _ _ refl (take_all a.probation (length a.probation - 0) (omega arith)) (take_all a.protected (length a.protected - (0 - length a.probation)) (omega arith))
 
-  abbrev settled_by : Areas A → List A → Settled A
+  abbrev pub settled_by : Areas A → List A → Settled A
   settled_by a d = record { areas = a; dropped = d }
 
   trimmed_none : (weigh : A → ℕ) (l : Limits) (a : Areas A) → main_weight weigh a ≤ l.main → trimmed weigh l a ≡ settled_by a []
@@ -70,13 +70,13 @@ module _ {A : Type 0} where
       ∙ ap (λ g. settled_by (without_last (length g) a) g) (none_shortest weigh (from_tail a)) ∙ ap (λ z. settled_by z []) (without_none a)
 
   -- the candidates of areas, once main is as it is
-  abbrev candidates_of : (A → ℕ) → (A → ℕ) → Limits → List A → Settled A → Settled A
+  abbrev pub candidates_of : (A → ℕ) → (A → ℕ) → Limits → List A → Settled A → Settled A
   candidates_of weigh freq l window s = and_then s.dropped (all_admitted weigh freq l (narrowed (fitting weigh l.window window) s.areas) (reverse (beyond weigh l.window window)))
 
-  settle_trimmed : (weigh freq : A → ℕ) (l : Limits) (a : Areas A) → sum_by weigh a.protected ≤ l.protected → settle weigh freq l a ≡ candidates_of weigh freq l a.window (trimmed weigh l a)
+  pub settle_trimmed : (weigh freq : A → ℕ) (l : Limits) (a : Areas A) → sum_by weigh a.protected ≤ l.protected → settle weigh freq l a ≡ candidates_of weigh freq l a.window (trimmed weigh l a)
   settle_trimmed weigh freq l a h = ap (λ z. candidates_of weigh freq l a.window (trimmed weigh l z)) (demoted_none weigh l a h)
 
-  settle_main : (weigh freq : A → ℕ) (l : Limits) (a : Areas A) → sum_by weigh a.protected ≤ l.protected → main_weight weigh a ≤ l.main → settle weigh freq l a ≡ candidates_of weigh freq l a.window (settled_by a [])
+  pub settle_main : (weigh freq : A → ℕ) (l : Limits) (a : Areas A) → sum_by weigh a.protected ≤ l.protected → main_weight weigh a ≤ l.main → settle weigh freq l a ≡ candidates_of weigh freq l a.window (settled_by a [])
   settle_main weigh freq l a h m = settle_trimmed weigh freq l a h ∙ ap (λ s. candidates_of weigh freq l a.window s) (trimmed_none weigh l a m)
 
   -- b is a without the last of main, v
@@ -138,10 +138,10 @@ module _ {A : Type 0} where
       ∙ sym (ap (λ s. and_then (v ∷ []) s) (settle_trimmed weigh freq l b (omega (arith, pop.protected))))
 
   -- the first candidate, and then the others
-  abbrev first_of : (A → ℕ) → (A → ℕ) → Limits → List A → A → Settled A → Settled A
+  abbrev pub first_of : (A → ℕ) → (A → ℕ) → Limits → List A → A → Settled A → Settled A
   first_of weigh freq l w c s = and_then s.dropped (all_admitted weigh freq l s.areas (reverse (beyond weigh l.window w)))
 
-  candidate : (weigh freq : A → ℕ) (l : Limits) (w p q : List A) (c : A) → l.window < sum_by weigh (w ++ c ∷ [])
+  pub candidate : (weigh freq : A → ℕ) (l : Limits) (w p q : List A) (c : A) → l.window < sum_by weigh (w ++ c ∷ [])
       → candidates_of weigh freq l (w ++ c ∷ []) (settled_by (areas_by (w ++ c ∷ []) p q) []) ≡ first_of weigh freq l w c (admitted freq c (areas_by (fitting weigh l.window w) p q) (victims weigh l (areas_by (fitting weigh l.window w) p q) c))
   candidate weigh freq l w p q c x =
       ap (λ t. all_admitted weigh freq l (areas_by t p q) (reverse (beyond weigh l.window (w ++ c ∷ [])))) (fitting_last weigh l.window w c x)

@@ -1,3 +1,5 @@
+pub mod Chains
+pub mod Ring
 pub mod Caching
 pub mod Connection
 pub mod Server

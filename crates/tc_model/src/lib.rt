@@ -5,6 +5,7 @@
 //! - `specs/Server.antt`: the machine of many users, over any cache and any reader of requests.
 //! - `specs/Laws.antt`: isolation and its companions, proved in `proofs/` for every lawful machine.
 //! - `specs/Areas.antt`, `Within.antt`: window, probation and protected, access and settle.
+//! - `specs/Ring.antt`, `Chains.antt`: lists linked by index, in one ring with a mark before each.
 //! - `specs/Place.antt`: the first place whose item passes a test, for search loops.
 //!
 //! A crate above makes its own cache and its own reader instances of these, and names the theorems on

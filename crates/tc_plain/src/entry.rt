@@ -39,8 +39,9 @@ impl Entry {
         ensures { IfOk result (λ entry. entry ≡ self.now) }
     {
         let key = self.key.copy(alloc)?;
+        let flags = self.item.flags;
         let item = Item {
-            flags: self.item.flags,
+            flags,
             due: self.item.due,
             cas: self.item.cas,
             blob: self.item.blob.copy()?,

@@ -15,6 +15,8 @@ mod lookup;
 mod plain;
 mod standing;
 mod storing;
+#[cfg(test)]
+mod tests;
 
 pub use cache::Cache;
 pub use entry::Entry;

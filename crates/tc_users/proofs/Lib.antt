@@ -1,1 +1,3 @@
 pub mod LoginData
+pub mod FirstFault
+pub mod UserTables

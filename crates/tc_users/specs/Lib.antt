@@ -1,1 +1,4 @@
 pub mod Login
+pub mod Faults
+pub mod Fields
+pub mod SettingsTable

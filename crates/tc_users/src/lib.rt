@@ -5,10 +5,17 @@
 //! row that the data opens (`specs/Login.antt`).
 #![tactic(auto)]
 
+mod checks;
+mod fields;
+mod settings;
+mod settings_fault;
 mod text;
 mod user_no;
+mod user_table;
 mod users;
 
+pub use settings::{Address, Settings};
+pub use settings_fault::{Field, Found, SettingsFault, TextFault};
 pub use text::Text;
 pub use user_no::UserNo;
 pub use users::{UserSpec, Users};

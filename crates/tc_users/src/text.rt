@@ -1,7 +1,9 @@
 //! Bytes that a user is known by.
-ghost use Rattle.std.specs.Prelude.{◌≡◌};
+ghost use Rattle.std.specs.Prelude.{◌≡◌, IfOk};
 
+use std::alloc::Global;
 use std::marker::Model;
+use tc_item::NoMemory;
 
 /// A name or a token, as its bytes.
 #[derive(Debug, Drop)]
@@ -23,6 +25,13 @@ impl Text {
         ensures { result ≡ bytes.items }
     {
         Text { bytes }
+    }
+
+    /// A copy of these bytes.
+    pub fn copy(alloc: Global, bytes: &[u8]) -> Result<Text, NoMemory>
+        ensures { IfOk result (λ text. text ≡ bytes.now) }
+    {
+        Ok(Text::new(Vec::from_slice(alloc, bytes)?))
     }
 
     /// The bytes.

@@ -1,11 +1,14 @@
 //! The table of users.
-ghost use Rattle.std.specs.Prelude.{◌≡◌, ◌<◌, ◌+◌, ◌≤◌, ◌^◌, ◌∷◌, ◌++◌, ◌||◌, length, suc, option_map, option_copied, IfSome, List, ℕ};
+ghost use Rattle.std.specs.Prelude.{◌≡◌, ◌<◌, ◌+◌, ◌≤◌, ◌^◌, ◌∷◌, ◌++◌, ◌||◌, length, suc, option_map, option_copied, IfSome, IfOk, All, List, ℕ};
+ghost use Rattle.std.specs.Result.{result_err};
 ghost use Rattle.std.specs.Str.{bytes_eq};
 ghost use Rattle.tc_model.specs.Place.{first_place};
 ghost use Rattle.tc_model.specs.Connection.{user_at};
+ghost use Rattle.tc_users.specs.Faults.{first_fault, IsSoundRow};
 ghost use Rattle.tc_users.specs.Login.{login_data, opens_second, opens};
 
-use crate::{Text, UserNo};
+use crate::checks::check_rows;
+use crate::{SettingsFault, Text, UserNo};
 use std::marker::Model;
 
 /// A user's row.
@@ -30,14 +33,15 @@ pub struct Users {
 }
 
 impl Model for Users {
-    ghost use Rattle.std.specs.Prelude.{List, length, ◌<◌, ◌^◌};
+    ghost use Rattle.std.specs.Prelude.{List, ◌≡◌, None};
     ghost use Rattle.tc_users.specs.declared.users.UserSpec.{UserSpec};
+    ghost use Rattle.tc_users.specs.Faults.{first_fault};
 
     ghost Value = { List UserSpec };
 
     ghost view = { λ u. u.rows.items };
 
-    ghost invariant = { λ u. length u.rows.items < 2 ^ 32 };
+    ghost invariant = { λ u. first_fault u.rows.items ≡ None };
 }
 
 /// Whether the data is this name, one space and this token.
@@ -88,6 +92,26 @@ fn find_row(rows: &[UserSpec], text: &[u8]) -> Option<usize>
 }
 
 impl Users {
+    /// The users of these rows, or the first fault of the rows; no rows are good too.
+    pub fn build(rows: Vec<UserSpec>) -> Result<Users, SettingsFault>
+        ensures users { IfOk result (λ users. users ≡ rows.items) }
+        ensures fault { result_err result ≡ first_fault rows.items }
+    {
+        if rows.len() > u32::MAX as usize {
+            return Err(SettingsFault::TooManyUsers { found: rows.len() });
+        }
+        check_rows(&rows)?;
+        Ok(Users { rows })
+    }
+
+    /// The users of rows that are known to be good.
+    pub(crate) fn from_good_rows(rows: Vec<UserSpec>) -> Users
+        requires { first_fault rows.items ≡ None }
+        ensures { result ≡ rows.items }
+    {
+        Users { rows }
+    }
+
     /// How many users there are.
     pub fn len(&self) -> usize
         ensures { result ≡ length self.now }
@@ -97,7 +121,8 @@ impl Users {
 
     /// The rows, in the order of the users' numbers.
     pub fn rows(&self) -> &[UserSpec]
-        ensures { result.now ≡ self.now }
+        ensures rows { result.now ≡ self.now }
+        ensures sound { All IsSoundRow self.now }
     {
         &self.rows
     }
@@ -114,7 +139,8 @@ impl Users {
 
     /// The row of a user; `None` where there is no such user.
     pub fn spec(&self, user: UserNo) -> Option<&UserSpec>
-        ensures { option_copied result ≡ user_at self.now user }
+        ensures row { option_copied result ≡ user_at self.now user }
+        ensures sound { IfSome (option_copied result) IsSoundRow }
     {
         let place = user.number().checked_sub(1)?;
         self.rows.get(place as usize)

@@ -1,8 +1,7 @@
 use Rattle.std.specs.Prelude.{◌&&◌}
 use Rattle.std.specs.Str.{bytes_eq}
-use Rattle.std.proofs.Common.{◌≡◌, ◌+◌, length, take, drop, suc, sym, ◌∙◌, ap, arith, add-one}
+use Rattle.std.proofs.Common.{◌≡◌, ◌+◌, length, drop, suc, sym, ◌∙◌, ap, add-one}
 use Rattle.std.proofs.lemmas.List.{take_rest}
-use Rattle.tc_users.specs.Login.{login_data}
 use Rattle.tc_users.proofs.LoginData.{login_data-no_space, login_data-parts}
 use Rattle.tc_users.proofs.users.is_login.Goals as goal
 

@@ -1,0 +1,51 @@
+-- What a call of one user's cache, or its maintenance, does to all caches.
+use Rattle.std.specs.Prelude.{map, slice_set, option_map}
+use Rattle.std.proofs.Common.{◌≡◌, ℕ, zero, suc, ◌+◌, ◌-◌, ◌<◌, ◌≤◌, List, [], ◌∷◌, ◌++◌, length, get_or, Some, slice_get, refl, sym, ◌∙◌, ap, arith}
+use Rattle.std.proofs.lemmas.Option.{slice_get-map, slice_get-get_or}
+use Rattle.std.proofs.lemmas.List.{map-set}
+use Rattle.std.proofs.Math.Seq.{map-set_same}
+use Rattle.tc_model.specs.Connection.{Endpoint, user_at}
+use Rattle.tc_model.specs.Server.{Connection, Effect, call_effect, answer_effect, maintained}
+use Rattle.tc_grammar.specs.declared.command.Command.{Command}
+use Rattle.tc_plain.specs.UserCache.{UserCache, advance}
+use Rattle.tc_plain.specs.Doing.{act}
+use Rattle.tc_session.specs.Replies.{render}
+use Rattle.tc_session.specs.Talking.{talking}
+use Rattle.tc_core.specs.Serving.{serving}
+
+-- the user's cache is the one at the place before its number
+user_at-map : {C : Type 0} (settled : C → UserCache) (xs : List C) (i : ℕ) (d : C) → i < length xs → user_at (map settled xs) (suc i) ≡ Some (settled (get_or xs i d))
+user_at-map settled xs i d lt = slice_get-map settled xs i ∙ ap (option_map settled) (slice_get-get_or xs i d lt)
+
+same_connection : (e f : Endpoint talking) (xs ys : List ℕ) → e ≡ f → xs ≡ ys → ◌≡◌ {A = Connection serving} (record { endpoint = e; out = xs }) (record { endpoint = f; out = ys })
+same_connection e f xs ys p q = cc
+
+module _ {C : Type 0} (settled : C → UserCache) (xs : List C) (user : ℕ) (held : C) (clock : ℕ) (command : Command) (e : Endpoint talking) (out : List ℕ) (at : held ≡ get_or xs (user - 1) held) (positive : 0 < user) (within : user ≤ length xs) where
+  effect_at : call_effect serving clock (map settled xs) user command e out (user_at (map settled xs) user) ≡ answer_effect serving (map settled xs) (suc (user - 1)) command e out (act (settled held) clock command)
+  effect_at =
+      let number : user ≡ suc (user - 1) = omega arith in
+      let lt : user - 1 < length xs = omega arith in
+      let h : user_at (map settled xs) (suc (user - 1)) ≡ Some (settled held) = user_at-map settled xs (user - 1) held lt ∙ ap (λ q. Some (settled q)) (sym at) in
+      ap (λ n. call_effect serving clock (map settled xs) n command e out (user_at (map settled xs) n)) number ∙ ap (call_effect serving clock (map settled xs) (suc (user - 1)) command e out) h
+
+  pub call_effect-caches : (x : C) → settled x ≡ (act (settled held) clock command).1 → map settled (slice_set xs (user - 1) x) ≡ (call_effect serving clock (map settled xs) user command e out (user_at (map settled xs) user)).caches
+  call_effect-caches x same = map-set settled xs (user - 1) x ∙ (ap (slice_set (map settled xs) (user - 1)) same ∙ sym (ap (λ (q : Effect serving). q.caches) effect_at))
+
+  pub call_effect-connection : (q : Connection serving) → q.endpoint ≡ e → q.out ≡ out ++ render command (act (settled held) clock command).0 → Some q ≡ (call_effect serving clock (map settled xs) user command e out (user_at (map settled xs) user)).connection
+  call_effect-connection q same said =
+      let whole : q ≡ record { endpoint = e; out = out ++ render command (act (settled held) clock command).0 } = same_connection q.endpoint e q.out (out ++ render command (act (settled held) clock command).0) same said in
+      ap Some whole ∙ sym (ap (λ (d : Effect serving). d.connection) effect_at)
+
+-- writing back what stands for the same leaves all
+pub caches-same : {C : Type 0} (settled : C → UserCache) (xs : List C) (i : ℕ) (d x : C) → d ≡ get_or xs i d → settled x ≡ settled d → map settled (slice_set xs i x) ≡ map settled xs
+caches-same settled xs i d x at e = map-set_same settled xs i x d (e ∙ ap settled at)
+
+-- maintenance of one user's cache
+pub maintained-caches : {C : Type 0} (settled : C → UserCache) (xs : List C) (user : ℕ) (held x : C) (clock : ℕ) → held ≡ get_or xs (user - 1) held → 0 < user → user ≤ length xs
+    → settled x ≡ advance (settled held) clock → map settled (slice_set xs (user - 1) x) ≡ maintained serving clock (map settled xs) user (user_at (map settled xs) user)
+maintained-caches settled xs user held x clock at positive within e =
+    let number : user ≡ suc (user - 1) = omega arith in
+    let lt : user - 1 < length xs = omega arith in
+    let h : user_at (map settled xs) (suc (user - 1)) ≡ Some (settled held) = user_at-map settled xs (user - 1) held lt ∙ ap (λ q. Some (settled q)) (sym at) in
+    map-set settled xs (user - 1) x ∙ (ap (slice_set (map settled xs) (user - 1)) e
+    ∙ sym (ap (λ m. maintained serving clock (map settled xs) m (user_at (map settled xs) m)) number ∙ ap (maintained serving clock (map settled xs) (suc (user - 1))) h))

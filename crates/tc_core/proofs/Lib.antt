@@ -1,0 +1,4 @@
+pub mod Calls
+pub mod Sessions
+pub mod Table
+pub mod Promised

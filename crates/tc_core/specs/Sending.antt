@@ -1,0 +1,45 @@
+-- What a run gives out, and what is promised of it. Source: this project's own.
+use Rattle.std.specs.Prelude.{◌≡◌, ℕ, Bool, true, false, cond, List, [], ◌∷◌, map, filter, Option, Some, None, ◌==◌}
+use Rattle.tc_model.specs.Connection.{is_closed, user_at}
+use Rattle.tc_model.specs.Server.{Connection, Step, run, solo, sent, binds, kept_steps, is_of}
+use Rattle.tc_model.specs.Laws.{IsRising}
+use Rattle.tc_users.specs.declared.users.UserSpec.{UserSpec}
+use Rattle.tc_session.specs.Talking.{talking}
+use Rattle.tc_core.specs.Serving.{serving}
+use Rattle.tc_core.specs.declared.outputs.Output.{Output}
+
+-- what one connection was sent, and whether it is closed
+abbrev pub output_of : ℕ × Connection serving → Output
+output_of e = record { connection = e.0; closed = is_closed e.1.endpoint.phase; bytes = e.1.out }
+
+-- whether a connection is closed and what it was sent, if it was opened
+abbrev pub sent_by : List Output → ℕ → Option (Bool × List ℕ)
+sent_by [] c = None
+sent_by (o ∷ os) c = cond (o.connection == c) (Some (o.closed, o.bytes)) (sent_by os c)
+
+-- what connections were sent is what the machine sends them, by rising number
+pub record IsRun (users : List UserSpec) (steps : List Step) (outputs : List Output) : Type 0 where
+  pub sent : outputs ≡ map output_of (run serving users steps).connections
+  pub rising : IsRising (map (λ o. o.connection) outputs)
+
+-- each user's connections are sent what the machine of that user alone sends on those connections' steps and the clock's
+abbrev pub IsIsolatedRun : List UserSpec → List Step → List Output → Type 0
+IsIsolatedRun users steps outputs =
+    (user : ℕ) (row : UserSpec) → user_at users user ≡ Some row
+    → (c : ℕ) → binds talking users steps user c ≡ true
+    → sent_by outputs c ≡ sent serving (solo serving row (kept_steps talking users steps user)) c
+
+-- a connection that is bound to nobody is sent what its own steps alone have it sent
+abbrev pub IsUntouchedRun : List UserSpec → List Step → List Output → Type 0
+IsUntouchedRun users steps outputs =
+    (c : ℕ) → ((user : ℕ) → binds talking users steps user c ≡ false)
+    → sent_by outputs c ≡ sent serving (run serving users (filter (is_of c) steps)) c
+
+-- a user with the same row in another table, and the same steps there, is sent the same
+abbrev pub IsIndifferentRun : List UserSpec → List Step → List Output → Type 0
+IsIndifferentRun users steps outputs =
+    (others : List UserSpec) (ys : List Step) (user other : ℕ) (row : UserSpec)
+    → user_at users user ≡ Some row → user_at others other ≡ Some row
+    → kept_steps talking users steps user ≡ kept_steps talking others ys other
+    → (c : ℕ) → binds talking users steps user c ≡ true → binds talking others ys other c ≡ true
+    → sent_by outputs c ≡ sent serving (run serving others ys) c

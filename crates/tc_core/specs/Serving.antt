@@ -1,0 +1,22 @@
+-- The server's machine: the protocol over the cache of a user. Source: this project's own.
+use Rattle.std.specs.Prelude.{ℕ, List}
+use Rattle.tc_model.specs.Server.{Machine, World}
+use Rattle.tc_grammar.specs.declared.command.Command.{Command}
+use Rattle.tc_stats.specs.declared.outcome.Outcome.{Outcome}
+use Rattle.tc_users.specs.declared.users.UserSpec.{UserSpec}
+use Rattle.tc_plain.specs.UserCache.{UserCache, fresh}
+use Rattle.tc_plain.specs.Laws.{user_caching}
+use Rattle.tc_session.specs.Talking.{talking}
+
+-- the cache that a user begins with
+abbrev pub fresh_cache : UserSpec → UserCache
+fresh_cache row = fresh row.budget row.largest
+
+-- the server's machine
+abbrev pub serving : Machine
+serving = record { Command = Command; Outcome = Outcome; protocol = talking; cache = user_caching; fresh = fresh_cache }
+
+-- a server: the users' table and the machine's state
+pub record State : Type 0 where
+  pub users : List UserSpec
+  pub world : World serving

@@ -1,0 +1,137 @@
+//! What one connection's step does: small functions over the server's parts.
+ghost use Rattle.std.specs.Prelude.{◌≡◌, ◌⊎◌, ◌≤◌, ◌++◌, map, Some, OnOk, OnErr, ⊤};
+ghost use Rattle.tc_model.specs.Connection.{turn, user_at};
+ghost use Rattle.tc_model.specs.Server.{call_effect, turn_effect, effect, numbered, with_some};
+ghost use Rattle.tc_grammar.specs.declared.fault.Fault.TheVariants.{NoMemory as OutOfMemory};
+ghost use Rattle.tc_plain.specs.Doing.{act};
+ghost use Rattle.tc_session.specs.Texts.{fault_line, unless_quiet};
+ghost use Rattle.tc_session.specs.Replies.{is_quiet, render};
+ghost use Rattle.tc_session.specs.Talking.{talking};
+ghost use Rattle.tc_core.specs.Serving.{serving};
+ghost use Rattle.tc_core.specs.Steps.{connection_of, numbered_of, happening_of};
+ghost use Rattle.tc_core.specs.Refused.{IsRefusedAct, IsRefusedThere, IsRefusedOn};
+
+use crate::step::Event;
+use std::alloc::Global;
+use std::collections::BTreeMap;
+use tc_grammar::Command;
+use tc_item::{Moment, NoMemory};
+use tc_plain::Cache;
+use tc_session::{Session, Want};
+use tc_users::{UserNo, Users};
+
+/// Does a command in one cache, and says its reply.
+fn call_one<C: Cache>(
+    alloc: Global,
+    cache: &mut C,
+    clock: Moment,
+    session: &mut Session,
+    command: &Command,
+) -> Result<(), NoMemory>
+    requires { 64 ≤ session.old.room }
+    ensures cache { OnOk result (C.settled cache.new ≡ (act (C.settled cache.old) clock command.now).1) }
+    ensures endpoint { session.new.endpoint ≡ session.old.endpoint }
+    ensures said { OnOk result (session.new.out ≡ session.old.out ++ render command.now (act (C.settled cache.old) clock command.now).0) }
+    ensures refused { OnErr result (session.new.out ≡ session.old.out ++ unless_quiet (is_quiet command.now) (fault_line OutOfMemory)) }
+    ensures cache_on_err { OnErr result ((C.settled cache.new ≡ C.settled cache.old) ⊎ (C.settled cache.new ≡ (act (C.settled cache.old) clock command.now).1)) }
+{
+    match cache.act(alloc, clock, command) {
+        Ok((outcome, _kept)) => session.answer(command, &outcome),
+        Err(refused) => {
+            session.refuse(command);
+            Err(refused)
+        }
+    }
+}
+
+/// Does a user's command, and says its reply.
+fn call<C: Cache>(
+    alloc: Global,
+    caches: &mut Vec<C>,
+    clock: Moment,
+    session: &mut Session,
+    user: UserNo,
+    command: &Command,
+) -> Result<(), NoMemory>
+    requires { 64 ≤ session.old.room }
+    ensures caches { OnOk result (map C.settled caches.new.items ≡ (call_effect serving clock (map C.settled caches.old.items) user command.now session.old.endpoint session.old.out (user_at (map C.settled caches.old.items) user)).caches) }
+    ensures connection { OnOk result (Some (connection_of session.new) ≡ (call_effect serving clock (map C.settled caches.old.items) user command.now session.old.endpoint session.old.out (user_at (map C.settled caches.old.items) user)).connection) }
+    ensures endpoint { session.new.endpoint ≡ session.old.endpoint }
+    ensures refused { OnErr result (session.new.out ≡ session.old.out ++ unless_quiet (is_quiet command.now) (fault_line OutOfMemory)) }
+    ensures caches_on_err { OnErr result ((map C.settled caches.new.items ≡ map C.settled caches.old.items)
+        ⊎ (map C.settled caches.new.items ≡ (call_effect serving clock (map C.settled caches.old.items) user command.now session.old.endpoint session.old.out (user_at (map C.settled caches.old.items) user)).caches)) }
+{
+    let number = user.number() as usize;
+    if number == 0 || number > caches.len() {
+        return Ok(());
+    }
+    let cache = &mut caches[number - 1];
+    call_one(alloc, cache, clock, session, command)
+}
+
+/// Does the next request of a connection.
+fn act_on<C: Cache>(
+    alloc: Global,
+    users: &Users,
+    caches: &mut Vec<C>,
+    clock: Moment,
+    session: &mut Session,
+) -> Result<(), NoMemory>
+    ensures caches { OnOk result (map C.settled caches.new.items ≡ (turn_effect serving clock (map C.settled caches.old.items) session.old.out (turn talking users.now session.old.endpoint)).caches) }
+    ensures connection { OnOk result (Some (connection_of session.new) ≡ (turn_effect serving clock (map C.settled caches.old.items) session.old.out (turn talking users.now session.old.endpoint)).connection) }
+    ensures refused { OnErr result (IsRefusedAct clock (map C.settled caches.old.items) (connection_of session.old) (turn talking users.now session.old.endpoint) (map C.settled caches.new.items) (connection_of session.new)) }
+{
+    match session.next(alloc, users)? {
+        Want::Nothing | Want::Said | Want::Close => Ok(()),
+        Want::Call(user, command) => call(alloc, caches, clock, session, user, &command),
+    }
+}
+
+/// Does a step of an opened connection.
+fn do_on<C: Cache>(
+    alloc: Global,
+    users: &Users,
+    caches: &mut Vec<C>,
+    clock: Moment,
+    session: &mut Session,
+    event: Event,
+) -> Result<(), NoMemory>
+    ensures caches { OnOk result (map C.settled caches.new.items ≡ (effect serving users.now clock (map C.settled caches.old.items) (happening_of event.entry) (Some (connection_of session.old))).caches) }
+    ensures connection { OnOk result (Some (connection_of session.new) ≡ (effect serving users.now clock (map C.settled caches.old.items) (happening_of event.entry) (Some (connection_of session.old))).connection) }
+    ensures refused { OnErr result (IsRefusedThere (happening_of event.entry) users.now clock (map C.settled caches.old.items) (connection_of session.old) (map C.settled caches.new.items) (connection_of session.new)) }
+{
+    match event {
+        Event::Open => Ok(()),
+        Event::Piece(bytes) => session.push(bytes),
+        Event::Act => act_on(alloc, users, caches, clock, session),
+        Event::Shut => {
+            session.shut();
+            Ok(())
+        }
+    }
+}
+
+/// Does a step of a connection.
+pub(crate) fn do_for<C: Cache>(
+    alloc: Global,
+    users: &Users,
+    caches: &mut Vec<C>,
+    clock: Moment,
+    sessions: &mut BTreeMap<u32, Session>,
+    number: u32,
+    event: Event,
+) -> Result<(), NoMemory>
+    ensures caches { OnOk result (map C.settled caches.new.items ≡ (effect serving users.now clock (map C.settled caches.old.items) (happening_of event.entry) (numbered number (map numbered_of sessions.old.entries))).caches) }
+    ensures connections { OnOk result (map numbered_of sessions.new.entries ≡ with_some number (effect serving users.now clock (map C.settled caches.old.items) (happening_of event.entry) (numbered number (map numbered_of sessions.old.entries))).connection (map numbered_of sessions.old.entries)) }
+    ensures refused { OnErr result (IsRefusedOn (happening_of event.entry) users.now clock number (map C.settled caches.old.items) (map numbered_of sessions.old.entries) (map C.settled caches.new.items) (map numbered_of sessions.new.entries)) }
+{
+    match sessions.get_mut(&number) {
+        Some(session) => do_on(alloc, users, caches, clock, session, event),
+        None => {
+            if let Event::Open = event {
+                sessions.insert(number, Session::new(alloc))?;
+            }
+            Ok(())
+        }
+    }
+}

@@ -1,0 +1,98 @@
+//! What connections were sent.
+ghost use Rattle.std.specs.Prelude.{◌≡◌, map, IfOk};
+ghost use Rattle.tc_core.specs.Steps.{numbered_of};
+ghost use Rattle.tc_core.specs.Sending.{output_of};
+
+use std::alloc::Global;
+use std::collections::BTreeMap;
+use std::marker::Model;
+use tc_item::NoMemory;
+use tc_session::Session;
+
+/// All bytes that a connection was sent.
+#[derive(Debug, Drop)]
+pub struct Sent {
+    bytes: Vec<u8>,
+}
+
+impl Model for Sent {
+    ghost use Rattle.std.specs.Prelude.{ℕ, List};
+
+    ghost Value = { List ℕ };
+
+    ghost view = { λ s. s.bytes.items };
+}
+
+impl Sent {
+    /// A copy of these bytes.
+    pub(crate) fn copied(alloc: Global, bytes: &[u8]) -> Result<Sent, NoMemory>
+        ensures { IfOk result (λ sent. sent ≡ bytes.now) }
+    {
+        let bytes = Vec::from_slice(alloc, bytes)?;
+        Ok(Sent { bytes })
+    }
+
+    /// The bytes.
+    pub fn as_bytes(&self) -> &[u8]
+        ensures { result.now ≡ self.now }
+    {
+        &self.bytes
+    }
+}
+
+/// What one connection was sent, and whether it is closed.
+#[derive(Debug, Drop)]
+pub struct Output {
+    pub connection: u32,
+    pub closed: bool,
+    pub bytes: Sent,
+}
+
+/// What each opened connection was sent, by rising number.
+#[derive(Debug, Drop)]
+pub struct Outputs {
+    outputs: Vec<Output>,
+}
+
+impl Model for Outputs {
+    ghost use Rattle.std.specs.Prelude.{List};
+    ghost use Rattle.tc_core.specs.declared.outputs.Output.{Output};
+
+    ghost Value = { List Output };
+
+    ghost view = { λ o. o.outputs.items };
+}
+
+impl Outputs {
+    /// These outputs.
+    pub(crate) fn new(outputs: Vec<Output>) -> Outputs
+        ensures { result ≡ outputs.items }
+    {
+        Outputs { outputs }
+    }
+
+    /// The outputs.
+    pub fn as_slice(&self) -> &[Output]
+        ensures { result.now ≡ self.now }
+    {
+        &self.outputs
+    }
+}
+
+/// What each session was sent.
+pub(crate) fn outputs_of(
+    alloc: Global,
+    sessions: &BTreeMap<u32, Session>,
+) -> Result<Outputs, NoMemory>
+    ensures { IfOk result (λ outputs. outputs ≡ map output_of (map numbered_of sessions.now.entries)) }
+{
+    let mut outputs = Vec::with_capacity(alloc, sessions.len())?;
+    for (number, session) in sessions {
+        outputs.push(Output {
+            connection: *number,
+            closed: session.is_closed(),
+            bytes: Sent::copied(alloc, session.out())?,
+        })?;
+    }
+    Ok(Outputs::new(outputs))
+}

@@ -1,0 +1,112 @@
+//! A server: users, their caches, the clock and all connections.
+ghost use Rattle.std.specs.Prelude.{◌≡◌, ℕ, List, [], map, OnOk, OnErr, IfOk};
+ghost use Rattle.tc_model.specs.Connection.{user_at};
+ghost use Rattle.tc_model.specs.Server.{step as machine_step, maintained, On};
+ghost use Rattle.tc_core.specs.Serving.{State, serving};
+ghost use Rattle.tc_core.specs.Steps.{step_of, numbered_of, happening_of};
+ghost use Rattle.tc_core.specs.Refused.{IsRefusedStep};
+ghost use Rattle.tc_core.specs.Sending.{output_of};
+
+use crate::doing::do_for;
+use crate::outputs::{Outputs, outputs_of};
+use crate::step::{Event, Step};
+use std::alloc::Global;
+use std::collections::BTreeMap;
+use std::marker::Model;
+use tc_item::{Moment, NoMemory};
+use tc_plain::Cache;
+use tc_session::Session;
+use tc_users::Users;
+
+/// All connections, users and caches, and the clock.
+#[derive(Drop)]
+pub struct Server<C: Cache> {
+    users: Users,
+    caches: Vec<C>,
+    clock: Moment,
+    sessions: BTreeMap<u32, Session>,
+}
+
+impl<C: Cache> Model for Server<C> {
+    ghost use Rattle.std.specs.Prelude.{map};
+    ghost use Rattle.tc_core.specs.Serving.{State};
+    ghost use Rattle.tc_core.specs.Steps.{numbered_of};
+
+    ghost Value = { State };
+
+    ghost view = { λ s. record { users = s.users; world = record { clock = s.clock; caches = map C.settled s.caches.items; connections = map numbered_of s.sessions.entries } } };
+}
+
+/// Maintains a user's cache.
+fn maintain<C: Cache>(caches: &mut Vec<C>, clock: Moment, user: u32, limit: u32)
+    ensures { map C.settled caches.new.items ≡ maintained serving clock (map C.settled caches.old.items) user (user_at (map C.settled caches.old.items) user) }
+{
+    if user == 0 || user as usize > caches.len() {
+        return;
+    }
+    let cache = &mut caches[user as usize - 1];
+    cache.maintain(clock, limit);
+}
+
+impl<C: Cache> Server<C> {
+    /// A server of these users, each with the cache at its place; no connection is open, and the
+    /// clock is at 0.
+    pub fn new(alloc: Global, users: Users, caches: Vec<C>) -> Server<C>
+        ensures { result ≡ record { users = users; world = record { clock = 0; caches = map C.settled caches.items; connections = [] } } }
+    {
+        Server {
+            users,
+            caches,
+            clock: Moment::FIRST,
+            sessions: BTreeMap::new(alloc),
+        }
+    }
+
+    /// One step of the machine. Memory is refused to steps of connections alone, and what a refusal
+    /// leaves is said by kind: a piece or an opening changes nothing; an act leaves its request
+    /// unread, or writes out-of-memory in place of its reply.
+    pub fn step(&mut self, alloc: Global, step: &Step) -> Result<(), NoMemory>
+        ensures users { self.new.users ≡ self.old.users }
+        ensures world { OnOk result (self.new.world ≡ machine_step serving self.old.users self.old.world (step_of step.now)) }
+        ensures refused { OnErr result (IsRefusedStep self.old self.new (step_of step.now)) }
+    {
+        match step {
+            Step::Open(number) => self.on(alloc, *number, Event::Open),
+            Step::Piece(number, bytes) => self.on(alloc, *number, Event::Piece(bytes)),
+            Step::Act(number) => self.on(alloc, *number, Event::Act),
+            Step::Shut(number) => self.on(alloc, *number, Event::Shut),
+            Step::Tick(moment) => {
+                self.clock = self.clock.later(*moment);
+                Ok(())
+            }
+            Step::Maintain(user, limit) => {
+                maintain(&mut self.caches, self.clock, *user, *limit);
+                Ok(())
+            }
+        }
+    }
+
+    /// A step of a connection.
+    fn on(&mut self, alloc: Global, number: u32, event: Event) -> Result<(), NoMemory>
+        ensures users { self.new.users ≡ self.old.users }
+        ensures world { OnOk result (self.new.world ≡ machine_step serving self.old.users self.old.world (On number (happening_of event.entry))) }
+        ensures refused { OnErr result (IsRefusedStep self.old self.new (On number (happening_of event.entry))) }
+    {
+        do_for(
+            alloc,
+            &self.users,
+            &mut self.caches,
+            self.clock,
+            &mut self.sessions,
+            number,
+            event,
+        )
+    }
+
+    /// What each opened connection was sent, by rising number.
+    pub fn outputs(&self, alloc: Global) -> Result<Outputs, NoMemory>
+        ensures { IfOk result (λ outputs. outputs ≡ map output_of self.now.world.connections) }
+    {
+        outputs_of(alloc, &self.sessions)
+    }
+}

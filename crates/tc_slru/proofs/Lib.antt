@@ -1,0 +1,12 @@
+pub mod Dropped
+pub mod Gone
+pub mod Holding
+pub mod Lasts
+pub mod Members
+pub mod Outranked
+pub mod Put
+pub mod Reserved
+pub mod Standing
+pub mod Taken
+pub mod Walked
+pub mod Writes

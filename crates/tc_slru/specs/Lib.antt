@@ -1,0 +1,11 @@
+pub mod Bounded
+pub mod Dropping
+pub mod InAreas
+pub mod Kept
+pub mod Linked
+pub mod Links
+pub mod Nodes
+pub mod Sizes
+pub mod SlotLists
+pub mod Slots
+pub mod Victims

@@ -1,0 +1,229 @@
+//! Three lists of slots in one ring of nodes.
+//!
+//! Terms: a node is a number. 0, 1 and 2 are the marks of window, probation and protected, and slot n
+//! is node n + 3. A list's front stands behind its mark, and its last before the next mark, so no list
+//! is ever empty in the ring and no call has a case for one.
+//!
+//! What is always true (`AreNodes` in `specs/Kept.antt`):
+//! 1. `ring`: mark 0, the window's nodes, mark 1, probation's nodes, mark 2, protected's nodes and mark 0
+//!    again are linked in this order, both ways, and no node stands there twice.
+//! 2. `window`, `probation`, `protected`: a list's size says how many nodes stand in it and what they
+//!    weigh; each of them is a slot's, and this list is noted at it.
+//! 3. `free`: at the node of every other slot no list is noted.
+//! 4. `weights_long`, `areas_long`: each node has a place for its weight and its list.
+ghost use Rattle.std.specs.Prelude.{◌≡◌, ℕ, reverse, ◌+◌, ◌-◌, ◌<◌, ◌≤◌, ◌^◌, true, false, length, max, slice_index, is_ok, OnErr, sum_by, if◌then◌else◌};
+ghost use Rattle.tc_model.specs.Areas.{total};
+ghost use Rattle.tc_model.specs.Ring.{HasPlace};
+ghost use Rattle.tc_slru.specs.Links.{unlinked, linked_behind};
+ghost use Rattle.tc_slru.specs.Slots.{placed, weigh, holds, without_slot, taken_out, with_room};
+ghost use Rattle.tc_slru.specs.InAreas.{list_in, put_in, area_of, IsLast, IsSize, no_areas, mark_of, end_of};
+ghost use Rattle.tc_slru.specs.Victims.{Counts, left_over};
+
+use crate::area::{Area, Size, Sizes};
+use crate::nodes::{MARKS, Nodes};
+use crate::slot::Slot;
+use std::alloc::Global;
+use std::marker::Model;
+use tc_item::NoMemory;
+
+/// A slot of a list, and what it weighs.
+#[derive(Clone, Copy)]
+pub struct Held {
+    pub slot: Slot,
+    pub weight: u64,
+}
+
+/// The node before a list.
+fn mark_of(area: Area) -> usize
+    ensures { result ≡ mark_of area }
+{
+    match area {
+        Area::Window => 0,
+        Area::Probation => 1,
+        Area::Protected => 2,
+    }
+}
+
+/// The node behind a list.
+fn end_of(area: Area) -> usize
+    ensures { result ≡ end_of area }
+{
+    match area {
+        Area::Window => 1,
+        Area::Probation => 2,
+        Area::Protected => 0,
+    }
+}
+
+/// Takes a node out of the ring.
+fn unlink(nodes: &mut Nodes, at: usize)
+    requires { HasPlace nodes.old.next nodes.old.prev at }
+    ensures { nodes.new ≡ unlinked at nodes.old }
+{
+    let node = nodes.node(at);
+    nodes.set_next(node.prev, node.next);
+    nodes.set_prev(node.next, node.prev);
+}
+
+/// Puts a node into the ring, behind another.
+fn link_behind(nodes: &mut Nodes, before: usize, at: usize)
+    requires before { before < length nodes.old.next }
+    requires within { at < length nodes.old.next }
+    requires after { slice_index nodes.old.next before < length nodes.old.next }
+    ensures { nodes.new ≡ linked_behind before at nodes.old }
+{
+    let after = nodes.node(before).next;
+    nodes.set_next(before, at);
+    nodes.set_prev(at, before);
+    nodes.set_next(at, after);
+    nodes.set_prev(after, at);
+}
+
+/// Window, probation and protected. What each holds and weighs is kept, not added up.
+#[derive(Drop)]
+pub struct LinkedAreas {
+    nodes: Nodes,
+    sizes: Sizes,
+}
+
+impl Model for LinkedAreas {
+    ghost use Rattle.tc_slru.specs.Slots.{Shown};
+
+    ghost Value = { Shown };
+
+    ghost use Rattle.tc_slru.specs.Linked.{shown, IsLinked};
+
+    ghost view = { shown };
+
+    ghost invariant = { IsLinked };
+}
+
+impl LinkedAreas {
+    /// Empty lists, with room for no slot.
+    pub fn new(alloc: Global) -> LinkedAreas
+        ensures { result ≡ record { slots = 0; areas = no_areas } }
+    {
+        LinkedAreas {
+            nodes: Nodes::new(alloc),
+            sizes: Sizes {
+                window: Size::NONE,
+                probation: Size::NONE,
+                protected: Size::NONE,
+            },
+        }
+    }
+
+    /// Room for all slots below this. A refusal changes nothing.
+    pub fn reserve(&mut self, slots: usize) -> Result<(), NoMemory>
+        ensures reserved { self.new
+            ≡ (if is_ok result then with_room slots self.old else self.old) }
+        ensures refused { OnErr result (self.old.slots < slots) }
+    {
+        self.nodes.reserve(slots)
+    }
+
+    /// How many slots have room.
+    pub fn slots(&self) -> usize
+        ensures { result ≡ self.now.slots }
+    {
+        self.nodes.slots()
+    }
+
+    /// Whether the slot stands in a list.
+    pub fn holds(&self, slot: Slot) -> bool
+        ensures { result ≡ holds slot.0 self.now.areas }
+    {
+        if slot.0 >= self.nodes.slots() {
+            return false;
+        }
+        let at = self.nodes.place(slot);
+        self.nodes.node(at).area.is_some()
+    }
+
+    /// How many each list holds and what they weigh.
+    pub fn sizes(&self) -> Sizes
+        ensures window { IsSize result.window self.now.areas.window }
+        ensures probation { IsSize result.probation self.now.areas.probation }
+        ensures protected { IsSize result.protected self.now.areas.protected }
+    {
+        self.sizes
+    }
+
+    /// Puts a slot at the front of a list.
+    pub fn put(&mut self, area: Area, slot: Slot, weight: u64)
+        requires reserved { slot.0 < self.old.slots }
+        requires free { holds slot.0 self.old.areas ≡ false }
+        requires fits { total weigh self.old.areas + weight < 2 ^ 64 }
+        ensures { self.new ≡ put_in area (placed slot.0 weight) self.old }
+    {
+        let at = self.nodes.place(slot);
+        self.nodes.note(at, weight, area);
+        link_behind(&mut self.nodes, mark_of(area), at);
+        self.sizes.enter(area, weight);
+    }
+
+    /// Takes a slot out of its list, which it gives.
+    pub fn take(&mut self, slot: Slot) -> Area
+        requires { holds slot.0 self.old.areas ≡ true }
+        ensures taken { self.new ≡ taken_out slot.0 self.old }
+        ensures from { result ≡ area_of slot.0 self.old.areas }
+        ensures reserved { slot.0 < self.old.slots }
+    {
+        let at = self.nodes.place(slot);
+        let node = self.nodes.node(at);
+        let area = node.area.unwrap();
+        unlink(&mut self.nodes, at);
+        self.nodes.free(at);
+        self.sizes.leave(area, node.weight);
+        area
+    }
+
+    /// Moves a slot to the front of a list.
+    pub fn move_to(&mut self, area: Area, held: Held)
+        requires held { holds held.slot.0 self.old.areas ≡ true }
+        requires fits { total weigh (without_slot held.slot.0 self.old.areas) + held.weight
+            < 2 ^ 64 }
+        ensures { self.new
+            ≡ put_in area (placed held.slot.0 held.weight) (taken_out held.slot.0 self.old) }
+    {
+        self.take(held.slot);
+        self.put(area, held.slot, held.weight);
+    }
+
+    /// The last of a list.
+    pub fn last(&self, area: Area) -> Held
+        requires { 0 < length (list_in area self.now.areas) }
+        ensures { IsLast (placed result.slot.0 result.weight) area self.now.areas }
+    {
+        let at = self.nodes.node(end_of(area)).prev;
+        let node = self.nodes.node(at);
+        Held {
+            slot: Slot(at - MARKS),
+            weight: node.weight,
+        }
+    }
+
+    /// What is left of a need once the last of a list are counted, as few as there must be; `None` where one of them
+    /// was not seen less often than `level`.
+    pub fn shortfall<F>(&self, area: Area, freq: &F, level: u8, mut need: u64) -> Option<u64>
+    where
+        F: Fn(Slot) -> u8,
+        requires { F.IsAlwaysCallable freq.now }
+        ensures { (seen : ℕ → ℕ) → Counts (F.post freq.now) seen
+            → result ≡ left_over seen level need (reverse (list_in area self.now.areas)) }
+    {
+        let mut at = end_of(area);
+        for _victim in 0..self.sizes.of(area).count {
+            if need == 0 {
+                return Some(0);
+            }
+            at = self.nodes.node(at).prev;
+            let node = self.nodes.node(at);
+            if freq(Slot(at - MARKS)) >= level {
+                return None;
+            }
+            need = need.saturating_sub(node.weight);
+        }
+        Some(need)
+    }
+}

@@ -1,0 +1,144 @@
+//! The lists of slots under access and settle.
+ghost use Rattle.std.specs.Prelude.{◌≡◌, ℕ, ◌+◌, ◌<◌, ◌≤◌, ◌^◌, true, false, is_ok, OnErr, if◌then◌else◌};
+ghost use Rattle.tc_model.specs.Areas.{total};
+ghost use Rattle.tc_slru.specs.Slots.{weigh, holds, without_slot};
+ghost use Rattle.tc_slru.specs.Victims.{Counts};
+ghost use Rattle.tc_slru.specs.SlotLists.{fresh, reserved, pushed, removed, accessed_at, weights_of, DropsNext};
+
+use crate::area::Area;
+use crate::linked_areas::LinkedAreas;
+use crate::settle::{Limits, drop_next, hold_protected};
+use crate::slot::Slot;
+use std::alloc::Global;
+use std::marker::Model;
+use tc_item::NoMemory;
+
+/// What each area weighs.
+#[derive(Clone, Copy, Debug, PartialEq, Eq)]
+pub struct Weights {
+    pub window: u64,
+    pub probation: u64,
+    pub protected: u64,
+}
+
+/// The window, probation and protected of one partition, as lists of slots.
+#[derive(Drop)]
+pub struct Lists {
+    limits: Limits,
+    areas: LinkedAreas,
+}
+
+impl Model for Lists {
+    ghost use Rattle.tc_slru.specs.SlotLists.{SlotLists};
+
+    ghost Value = { SlotLists };
+
+    ghost use Rattle.tc_slru.specs.Bounded.{lists_of, AreFitLists};
+
+    ghost view = { lists_of };
+
+    ghost invariant = { AreFitLists };
+}
+
+impl Lists {
+    /// Empty lists with room for no slot: the window may weigh `window`, probation and protected together `main`, and
+    /// protected alone `protected`. Takes no memory.
+    pub fn new(alloc: Global, window: u64, main: u64, protected: u64) -> Lists
+        ensures { result ≡ fresh window main protected }
+    {
+        Lists {
+            limits: Limits {
+                window,
+                main,
+                protected,
+            },
+            areas: LinkedAreas::new(alloc),
+        }
+    }
+
+    /// Room for all slots below `slots`; never less than there was. A refusal changes nothing.
+    pub fn reserve(&mut self, slots: usize) -> Result<(), NoMemory>
+        ensures reserved { self.new
+            ≡ (if is_ok result then reserved slots self.old else self.old) }
+        ensures refused { OnErr result (self.old.slots < slots) }
+    {
+        self.areas.reserve(slots)
+    }
+
+    /// How many slots have room: all below this number.
+    pub fn slots(&self) -> usize
+        ensures { result ≡ self.now.slots }
+    {
+        self.areas.slots()
+    }
+
+    /// The most that one item may weigh: what main may.
+    pub fn heaviest(&self) -> u64
+        ensures { result ≡ self.now.limits.main }
+    {
+        self.limits.main
+    }
+
+    /// Whether the slot stands in one of the lists.
+    pub fn holds(&self, slot: Slot) -> bool
+        ensures { result ≡ holds slot.0 self.now.areas }
+    {
+        self.areas.holds(slot)
+    }
+
+    /// What each area weighs, kept and not added up.
+    pub fn weights(&self) -> Weights
+        ensures { result ≡ weights_of self.now.areas }
+    {
+        let sizes = self.areas.sizes();
+        Weights {
+            window: sizes.window.weight,
+            probation: sizes.probation.weight,
+            protected: sizes.protected.weight,
+        }
+    }
+
+    /// Puts a slot that is not held at the front of the window.
+    pub fn push_window(&mut self, slot: Slot, weight: u64)
+        requires reserved { slot.0 < self.old.slots }
+        requires free { holds slot.0 self.old.areas ≡ false }
+        requires light { weight ≤ self.old.limits.main }
+        requires fits { total weigh self.old.areas + weight < 2 ^ 64 }
+        ensures { self.new ≡ pushed slot.0 weight self.old }
+    {
+        self.areas.put(Area::Window, slot, weight);
+    }
+
+    /// Takes a held slot out of its list.
+    pub fn remove(&mut self, slot: Slot)
+        requires { holds slot.0 self.old.areas ≡ true }
+        ensures { self.new ≡ removed slot.0 self.old }
+    {
+        let _area = self.areas.take(slot);
+    }
+
+    /// An access: the slot weighs `weight` from now on, and goes to the front of its list, from probation to the front of
+    /// protected, which is then held to its limit.
+    pub fn access(&mut self, slot: Slot, weight: u64)
+        requires held { holds slot.0 self.old.areas ≡ true }
+        requires light { weight ≤ self.old.limits.main }
+        requires fits { total weigh (without_slot slot.0 self.old.areas) + weight < 2 ^ 64 }
+        ensures { self.new ≡ accessed_at slot.0 weight self.old }
+    {
+        let from = self.areas.take(slot);
+        self.areas.put(from.raised(), slot, weight);
+        hold_protected(&mut self.areas, self.limits.protected);
+    }
+
+    /// The next slot that settle drops, dropped, or `None` where nothing is left to drop. `freq` gives how often a slot
+    /// was seen.
+    pub fn settle_step<F: Fn(Slot) -> u8>(&mut self, freq: F) -> Option<Slot>
+        requires { F.IsAlwaysCallable freq }
+        ensures kept { self.new ≡ record self.old { areas = self.new.areas } }
+        ensures settled { (seen : ℕ → ℕ) → Counts (F.post freq) seen
+            → DropsNext result seen self.old self.new }
+    {
+        hold_protected(&mut self.areas, self.limits.protected);
+        drop_next(&mut self.areas, self.limits, &freq)
+    }
+}

@@ -1,0 +1,160 @@
+//! The nodes of the ring, by number. The first three are the marks before window, probation and
+//! protected; slot n is node n + 3.
+ghost use Rattle.std.specs.Prelude.{◌≡◌, ◌+◌, ◌<◌, ◌≤◌, ◌^◌, length, Some, None, slice_index, slice_set, is_ok, OnErr, if◌then◌else◌};
+ghost use Rattle.tc_slru.specs.Links.{area_at, marks_alone, grown, noted, freed};
+
+use crate::area::Area;
+use crate::slot::Slot;
+use std::alloc::Global;
+use std::marker::Model;
+use tc_item::NoMemory;
+
+/// The nodes that stand before the lists.
+pub const MARKS: usize = 3;
+
+/// A place in the ring, and what is noted of the slot there.
+#[derive(Clone, Copy)]
+pub struct Node {
+    pub next: usize,
+    pub prev: usize,
+    pub weight: u64,
+    /// The list that it stands in.
+    pub area: Option<Area>,
+}
+
+/// A node that is linked so, of no slot.
+const fn alone(next: usize, prev: usize) -> Node
+    ensures next { result.next ≡ next }
+    ensures prev { result.prev ≡ prev }
+    ensures weight { result.weight ≡ 0 }
+    ensures area { result.area ≡ None }
+{
+    Node {
+        next,
+        prev,
+        weight: 0,
+        area: None,
+    }
+}
+
+/// All nodes: the marks take no memory.
+#[derive(Drop)]
+pub struct Nodes {
+    marks: [Node; 3],
+    rest: Vec<Node>,
+}
+
+impl Model for Nodes {
+    ghost use Rattle.tc_slru.specs.Links.{Links};
+
+    ghost Value = { Links };
+
+    ghost use Rattle.tc_slru.specs.Nodes.{links_of, HasMarks};
+
+    ghost view = { links_of };
+
+    ghost invariant = { HasMarks };
+}
+
+impl Nodes {
+    /// The marks alone, in their ring.
+    pub fn new(alloc: Global) -> Nodes
+        ensures { result ≡ marks_alone }
+    {
+        Nodes {
+            marks: [alone(1, 2), alone(2, 0), alone(0, 1)],
+            rest: Vec::new(alloc),
+        }
+    }
+
+    /// Room for all slots below this. A refusal changes nothing.
+    pub fn reserve(&mut self, slots: usize) -> Result<(), NoMemory>
+        ensures nodes { self.new ≡
+            (if is_ok result then grown (slots + 3) self.old else self.old) }
+        ensures refused { OnErr result (length self.old.next < slots + 3) }
+    {
+        if self.rest.len() < slots {
+            let free = alone(0, 0);
+            self.rest.resize(slots, free)?;
+        }
+        Ok(())
+    }
+
+    /// How many slots have a node.
+    pub fn slots(&self) -> usize
+        ensures { result + 3 ≡ length self.now.next }
+    {
+        self.rest.len()
+    }
+
+    /// The node of a slot.
+    pub fn place(&self, slot: Slot) -> usize
+        requires { slot.0 + 3 < length self.now.next }
+        ensures node { result ≡ slot.0 + 3 }
+        ensures few { length self.now.next < 2 ^ 64 }
+    {
+        // The bytes of a slice fit a `usize`, so a number of nodes does with the marks added.
+        let places: &[Node] = self.rest.as_slice();
+        let _all = places.len() + MARKS;
+        slot.0 + MARKS
+    }
+
+    /// What a node is.
+    pub fn node(&self, at: usize) -> Node
+        requires { at < length self.now.next }
+        ensures next { result.next ≡ slice_index self.now.next at }
+        ensures prev { result.prev ≡ slice_index self.now.prev at }
+        ensures weight { result.weight ≡ slice_index self.now.weights at }
+        ensures area { result.area ≡ area_at self.now.areas at }
+    {
+        if at < MARKS {
+            self.marks[at]
+        } else {
+            self.rest[at - MARKS]
+        }
+    }
+
+    /// Links a node to the one behind it.
+    pub fn set_next(&mut self, at: usize, to: usize)
+        requires { at < length self.old.next }
+        ensures { self.new ≡ record self.old { next = slice_set self.old.next at to } }
+    {
+        if at < MARKS {
+            self.marks[at].next = to;
+        } else {
+            self.rest[at - MARKS].next = to;
+        }
+    }
+
+    /// Links a node to the one before it.
+    pub fn set_prev(&mut self, at: usize, to: usize)
+        requires { at < length self.old.next }
+        ensures { self.new ≡ record self.old { prev = slice_set self.old.prev at to } }
+    {
+        if at < MARKS {
+            self.marks[at].prev = to;
+        } else {
+            self.rest[at - MARKS].prev = to;
+        }
+    }
+
+    /// Notes what a slot weighs, and in which list it stands.
+    pub fn note(&mut self, at: usize, weight: u64, area: Area)
+        requires slot { 3 ≤ at }
+        requires within { at < length self.old.next }
+        ensures { self.new ≡ noted at weight area self.old }
+    {
+        let node = &mut self.rest[at - MARKS];
+        node.weight = weight;
+        node.area = Some(area);
+    }
+
+    /// Notes that a slot stands in no list.
+    pub fn free(&mut self, at: usize)
+        requires slot { 3 ≤ at }
+        requires within { at < length self.old.next }
+        ensures { self.new ≡ freed at self.old }
+    {
+        self.rest[at - MARKS].area = None;
+    }
+}

@@ -1,0 +1,166 @@
+//! The settings of a server, read from a TOML text.
+ghost use Rattle.std.specs.Prelude.{◌≡◌, ◌<◌, ◌^◌, [], length, map, is_some, IfOk, IfErr, OnOk};
+ghost use Rattle.std.specs.Result.{result_err};
+ghost use Rattle.std.specs.List.{list_all};
+ghost use Rattle.toml.specs.Data.{as_table};
+ghost use Rattle.toml.specs.Parse.{parse_document};
+ghost use Rattle.toml.specs.View.{view};
+ghost use Rattle.tc_users.specs.Fields.{field_in};
+ghost use Rattle.tc_users.specs.SettingsTable.{row_in, tables_fault, user_field_fault, users_in, workers_fault_in, journal_fault_in, settings_fault, settings_in, IsFirstOrRefused, IsAnswer, AreSoundNumbers};
+
+use crate::fields::{find_field, found_of, read_number, read_text};
+use crate::user_table::read_rows;
+use crate::{Field, Found, SettingsFault, Users};
+use std::alloc::Global;
+use std::marker::Model;
+use tc_item::NoMemory;
+use toml::Value;
+
+/// An address and a port to listen on, as they are written in the settings. Any text is one here:
+/// what it means is found when it is listened on.
+#[derive(Debug, Drop)]
+pub struct Address {
+    text: String,
+}
+
+impl Model for Address {
+    ghost use Rattle.std.specs.Prelude.{ℕ, List, string_bytes};
+
+    ghost Value = { List ℕ };
+
+    ghost view = { λ a. string_bytes a.text };
+}
+
+impl Address {
+    /// A copy of this text.
+    pub fn copy(alloc: Global, text: &str) -> Result<Address, NoMemory>
+        ensures { IfOk result (λ address. address ≡ text.now) }
+    {
+        let text = String::from_str(alloc, text)?;
+        Ok(Address { text })
+    }
+
+    /// The text.
+    pub fn as_str(&self) -> &str
+        ensures { result.now ≡ self.now }
+    {
+        self.text.as_str()
+    }
+}
+
+/// The settings of a server.
+#[derive(Debug, Drop)]
+pub struct Settings {
+    /// Where the server listens.
+    pub listen: Address,
+    /// How many threads serve connections, 1 to 64.
+    pub workers: usize,
+    /// How many entries a journal's page has, 16 to 65,536.
+    pub journal: usize,
+    /// At least one user.
+    pub users: Users,
+}
+
+fn read_workers(table: &Value) -> Result<usize, SettingsFault>
+    ensures fault { result_err result ≡ workers_fault_in (view table.now) }
+    ensures workers { IfOk result (λ workers. workers ≡ (settings_in (view table.now)).workers) }
+{
+    let found = read_number(Field::Workers, table)?;
+    if found >= 1 && found <= 64 {
+        return Ok(found as usize);
+    }
+    Err(SettingsFault::WorkersRange { found })
+}
+
+fn read_journal(table: &Value) -> Result<usize, SettingsFault>
+    ensures fault { result_err result ≡ journal_fault_in (view table.now) }
+    ensures journal { IfOk result (λ journal. journal ≡ (settings_in (view table.now)).journal) }
+{
+    let found = read_number(Field::Journal, table)?;
+    if found >= 16 && found <= 65_536 {
+        return Ok(found as usize);
+    }
+    Err(SettingsFault::JournalRange { found })
+}
+
+fn are_tables(values: &[Value]) -> bool
+    ensures { result ≡ list_all (λ value. is_some (as_table (view value))) values.now }
+{
+    values.iter().all(|value| value.is_table())
+}
+
+/// Whether there are users, each a table, and few enough to be numbered.
+fn check_tables(tables: &[Value]) -> Result<(), SettingsFault>
+    ensures fault { result_err result ≡ tables_fault (map view tables.now) }
+    ensures few { OnOk result (length tables.now < 2 ^ 32) }
+{
+    if tables.is_empty() {
+        return Err(SettingsFault::NoUser);
+    }
+    if !are_tables(tables) {
+        let field = Field::Users;
+        let found = Found::Array;
+        return Err(SettingsFault::Missing { field, found });
+    }
+    let found = tables.len();
+    if found > u32::MAX as usize {
+        return Err(SettingsFault::TooManyUsers { found });
+    }
+    Ok(())
+}
+
+/// The users' tables.
+fn read_tables(table: &Value) -> Result<&[Value], SettingsFault>
+    ensures fault { result_err result ≡ user_field_fault (field_in Field.Users (view table.now)) }
+    ensures tables { IfOk result (λ tables. map view tables.now ≡ users_in (field_in Field.Users (view table.now))) }
+    ensures few { IfOk result (λ tables. length tables.now < 2 ^ 32) }
+{
+    let Some(value) = find_field(Field::Users, table) else {
+        return Err(SettingsFault::NoUser);
+    };
+    match value.as_array() {
+        Some(tables) => {
+            check_tables(tables)?;
+            Ok(tables)
+        }
+        None => Err(SettingsFault::Missing {
+            field: Field::Users,
+            found: found_of(value),
+        }),
+    }
+}
+
+/// The settings that a table holds.
+fn read_settings(alloc: Global, table: &Value) -> Result<Settings, SettingsFault>
+    ensures settings { IfOk result (λ settings. settings ≡ settings_in (view table.now)) }
+    ensures faultless { OnOk result (settings_fault (view table.now) ≡ None) }
+    ensures fault { IfErr result (IsFirstOrRefused (settings_fault (view table.now))) }
+{
+    let listen = read_text(Field::Listen, table)?;
+    let workers = read_workers(table)?;
+    let journal = read_journal(table)?;
+    let tables = read_tables(table)?;
+    let rows = read_rows(alloc, tables)?;
+    let listen = Address::copy(alloc, listen)?;
+    Ok(Settings {
+        listen,
+        workers,
+        journal,
+        users: Users::from_good_rows(rows),
+    })
+}
+
+impl Settings {
+    /// The settings that a TOML text holds, or the first fault in the order of the fields. Memory
+    /// is wanted for the table and the rows; where it is refused the fault says so.
+    pub fn from_toml(alloc: Global, text: &str) -> Result<Settings, SettingsFault>
+        ensures answer { IsAnswer (parse_document text.now) result }
+        ensures sound { IfOk result AreSoundNumbers }
+    {
+        match toml::table_from_str(alloc, text) {
+            Ok(table) => read_settings(alloc, &Value::Table(table)),
+            Err(error) if error.is_memory() => Err(SettingsFault::NoMemory),
+            Err(error) => Err(SettingsFault::NotToml(error)),
+        }
+    }
+}
