@@ -1,6 +1,6 @@
 -- What a call of one user's cache, or its maintenance, does to all caches.
 use Rattle.std.specs.Prelude.{map, slice_set, option_map}
-use Rattle.std.proofs.Common.{◌≡◌, ℕ, zero, suc, ◌+◌, ◌-◌, ◌<◌, ◌≤◌, List, [], ◌∷◌, ◌++◌, length, get_or, Some, slice_get, refl, sym, ◌∙◌, ap, arith}
+use Rattle.std.proofs.Common.{◌≡◌, ℕ, suc, ◌-◌, ◌<◌, ◌≤◌, List, ◌++◌, length, get_or, Some, sym, ◌∙◌, ap, arith}
 use Rattle.std.proofs.lemmas.Option.{slice_get-map, slice_get-get_or}
 use Rattle.std.proofs.lemmas.List.{map-set}
 use Rattle.std.proofs.Math.Seq.{map-set_same}

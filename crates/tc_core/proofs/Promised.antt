@@ -1,6 +1,6 @@
 -- What a run gives out is what the theorems on the machine speak of.
-use Rattle.std.specs.Prelude.{map, option_map, ◌==◌, filter}
-use Rattle.std.proofs.Common.{◌≡◌, ℕ, Bool, true, false, cond, List, [], ◌∷◌, Option, Some, None, refl, sym, ◌∙◌, ap, subst}
+use Rattle.std.specs.Prelude.{map, option_map, ◌==◌}
+use Rattle.std.proofs.Common.{◌≡◌, ℕ, Bool, true, false, cond, List, [], ◌∷◌, Some, refl, sym, ◌∙◌, ap, subst}
 use Rattle.tc_model.specs.Caching.{IsLawful}
 use Rattle.tc_model.specs.Connection.{is_closed}
 use Rattle.tc_model.specs.Server.{Connection, Step, World, numbered, run, sent}
@@ -11,7 +11,6 @@ use Rattle.tc_model.proofs.Ordered.{ordered}
 use Rattle.tc_users.specs.declared.users.UserSpec.{UserSpec}
 use Rattle.tc_plain.specs.Laws.{user_caching, AdvancesOnce, ActsAdvanced}
 use Rattle.tc_core.specs.Serving.{serving}
-use Rattle.tc_core.specs.declared.outputs.Output.{Output}
 use Rattle.tc_core.specs.Sending.{output_of, sent_by, IsRun, IsIsolatedRun, IsUntouchedRun, IsIndifferentRun}
 
 -- the cache of the server is lawful

@@ -4,9 +4,9 @@ use Rattle.std.specs.Ordering.{nat_cmp}
 use Rattle.std.specs.Map.{lookup, set_value, keys_of}
 use Rattle.std.specs.BTreeMap.{is_at, insert_entry}
 use Rattle.std.specs.List.Sorted.{IsStrictlySortedBy}
-use Rattle.std.proofs.Common.{◌≡◌, ℕ, List, [], ◌∷◌, Option, Some, None, refl, sym, ◌∙◌, ap}
-use Rattle.tc_model.specs.Connection.{Happening, Open, Piece, Act, Shut, new_endpoint}
-use Rattle.tc_model.specs.Server.{Connection, Effect, effect, numbered, with_numbered, with_some}
+use Rattle.std.proofs.Common.{◌≡◌, ℕ, List, [], Some, None, refl, sym, ◌∙◌, ap}
+use Rattle.tc_model.specs.Connection.{Happening, Open, new_endpoint}
+use Rattle.tc_model.specs.Server.{Effect, effect, numbered, with_numbered, with_some}
 use Rattle.tc_users.specs.declared.users.UserSpec.{UserSpec}
 use Rattle.tc_plain.specs.UserCache.{UserCache}
 use Rattle.tc_session.specs.Linked.{Linked}
@@ -15,7 +15,7 @@ use Rattle.tc_core.specs.declared.step.Event.{Event}
 use Rattle.tc_core.specs.declared.step.Event.TheVariants.{Open as OpenEvent, Piece as PieceEvent, Act as ActEvent, Shut as ShutEvent}
 use Rattle.tc_core.specs.Serving.{serving}
 use Rattle.tc_core.specs.Steps.{connection_of, numbered_of, happening_of}
-use Rattle.tc_core.specs.Refused.{IsRefusedThere, IsRefusedOn, There, Unopened}
+use Rattle.tc_core.specs.Refused.{IsRefusedThere, IsRefusedOn, There}
 use Rattle.tc_core.proofs.Sessions.{numbered-sessions, with_numbered-insert, with_numbered-set}
 
 -- a step of a connection that is there

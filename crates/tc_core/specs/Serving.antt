@@ -1,5 +1,5 @@
 -- The server's machine: the protocol over the cache of a user. Source: this project's own.
-use Rattle.std.specs.Prelude.{ℕ, List}
+use Rattle.std.specs.Prelude.{List}
 use Rattle.tc_model.specs.Server.{Machine, World}
 use Rattle.tc_grammar.specs.declared.command.Command.{Command}
 use Rattle.tc_stats.specs.declared.outcome.Outcome.{Outcome}

@@ -1,11 +1,10 @@
 -- A candidate whose victims all stand in probation may enter before they are dropped: they are then main's last.
 use Rattle.std.specs.Prelude.{nat_lt, reverse, sum_by, ◌==◌}
 use Rattle.std.specs.List.{list_all}
-use Rattle.std.proofs.Common.{◌≡◌, ℕ, zero, suc, ◌+◌, ◌-◌, ◌<◌, ◌≤◌, Bool, true, false, cond, List, [], ◌∷◌, ◌++◌, length, take, refl, sym, ◌∙◌, ap, arith, append_assoc}
+use Rattle.std.proofs.Common.{◌≡◌, ℕ, suc, ◌+◌, ◌-◌, ◌<◌, ◌≤◌, Bool, true, false, cond, List, [], ◌∷◌, ◌++◌, length, take, refl, sym, ◌∙◌, ap, arith, append_assoc}
 use Rattle.std.proofs.lemmas.List.{reverse-append, length-reverse}
 use Rattle.std.proofs.lemmas.List.Sums.{sum_by-cons}
-use Rattle.std.proofs.lemmas.Bool.{eqb-true}
-use Rattle.tc_model.specs.Areas.{Areas, Limits, Settled, fitting, beyond, shortest, trimmed, victims, admitted, all_admitted, and_then, entered, narrowed, without_last, from_tail, main_weight, settle}
+use Rattle.tc_model.specs.Areas.{Areas, Limits, fitting, shortest, trimmed, victims, admitted, entered, without_last, from_tail, main_weight, settle}
 use Rattle.tc_model.proofs.Within.{sum-reverse}
 use Rattle.tc_model.proofs.Steps.{areas_by, settled_by, candidates_of, first_of, settle_trimmed, settle_main, candidate, none_shortest}
 

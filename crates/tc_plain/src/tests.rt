@@ -5,7 +5,7 @@ use std::alloc::Global;
 use std::process::Abort;
 use std::test::Fail;
 use tc_grammar::{Command, Form, Head, StoreKind};
-use tc_item::{Blob, Key, Keys, Moment};
+use tc_item::{Blob, Key, Keys, Moment, NoMemory};
 use tc_stats::{Hits, Outcome};
 
 fn empty(alloc: Global) -> Result<Plain, Fail> {
@@ -48,7 +48,8 @@ fn get(alloc: Global, key: &[u8]) -> Result<Command, Fail> {
     })
 }
 
-/// Does a command at a second below 2^40.
+/// Does a command at a second below 2^40, and once more where memory was refused, since a refusal
+/// leaves the cache as it was.
 fn done(
     rt: &impl Abort,
     alloc: Global,
@@ -57,7 +58,12 @@ fn done(
     command: Command,
 ) -> Result<Outcome, Fail> {
     assert!(rt; second < 1 << 40);
-    let (outcome, _kept) = cache.act(alloc, Moment::new(second), &command)?;
+    let now = Moment::new(second);
+    let both = cache.act(alloc, now, &command);
+    let (outcome, _kept) = match both {
+        Ok(both) => both,
+        Err(NoMemory) => cache.act(alloc, now, &command)?,
+    };
     Ok(outcome)
 }
 

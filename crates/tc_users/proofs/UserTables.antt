@@ -1,8 +1,8 @@
 -- Users' tables without a fault hold good rows, and a loop over the tables finds their first fault.
-use Rattle.std.specs.Prelude.{nat_abs, int_le, not, nat_le, ◌&&◌, ◌==◌, ◌^◌, if◌then◌else◌, is_some}
+use Rattle.std.specs.Prelude.{nat_abs, not, nat_le, ◌&&◌, ◌==◌, ◌^◌, if◌then◌else◌, is_some}
 use Rattle.std.specs.List.{list_all}
 use Rattle.std.specs.Option.{option_or}
-use Rattle.std.proofs.Common.{◌≡◌, ℕ, ℤ, pos, negsuc, zero, suc, ◌+◌, ◌<◌, Bool, List, [], ◌∷◌, ◌++◌, length, map, get_or, drop, Option, Some, None, refl, sym, ◌∙◌, ap, arith, append_assoc, append-nil}
+use Rattle.std.proofs.Common.{◌≡◌, ℕ, ℤ, pos, negsuc, ◌+◌, ◌<◌, Bool, List, [], ◌∷◌, ◌++◌, length, map, get_or, drop, Option, Some, None, refl, sym, ◌∙◌, ap, arith, append_assoc, append-nil}
 use Rattle.std.proofs.lemmas.List.{drop_more, length-map}
 use Rattle.toml.specs.Data.{Data, string, integer, float, boolean, datetime, array, table, Items, as_array, as_table}
 use Rattle.toml.specs.View.{view, items_view}
@@ -12,7 +12,7 @@ use Rattle.tc_users.specs.declared.settings_fault.Field.TheVariants.{Users, Name
 use Rattle.tc_users.specs.declared.settings_fault.Found.TheVariants.{Array}
 use Rattle.tc_users.specs.declared.settings_fault.SettingsFault.TheVariants.{Missing, BudgetRange, NoUser, LargestRange, TooManyUsers}
 use Rattle.tc_users.specs.declared.users.UserSpec.{UserSpec}
-use Rattle.tc_users.specs.Faults.{first_of, range_fault, second_fault, largest_fault, same_name_fault, row_fault, user_fault, fault_after}
+use Rattle.tc_users.specs.Faults.{first_of, range_fault, second_fault, largest_fault, same_name_fault, user_fault, fault_after}
 use Rattle.tc_users.specs.Fields.{field_in, number_in, missing_text_in, missing_number_in, if_there, list_of}
 use Rattle.tc_users.specs.SettingsTable.{row_in, second_in, largest_in, name_fault_in, token_fault_in, budget_fault_in, second_fault_in, largest_fault_in, user_fault_at, user_fault_in, users_fault_after, tables_fault, user_field_fault, users_in}
 use Rattle.tc_users.proofs.FirstFault.{option_or-none}
@@ -55,12 +55,12 @@ user_fault-row_in before user e =
     let own = option_or-none (same_name_fault before (row_in user).name) _ h.1 in
     let budget = option_or-none (missing_number_in (Budget n) user) _ f.0 in
     first_of_six-none _ _ _ _ _ _
-        (option_or-none (missing_text_in (Name n) user) _ a.0).1
-        (option_or-none (missing_text_in (Token n) user) _ b.0).1
-        (range_fault-nat_abs 65536 1073741824 (BudgetRange n) (number_in (field_in (Budget n) user)) budget.1)
-        (second_fault-none n (row_in user).token (missing_text_in (SecondToken n) user) (field_in (SecondToken n) user) g.0)
-        (largest_fault-none n (missing_number_in (Largest n) user) (field_in (Largest n) user) h.0)
-        own.0
+    (option_or-none (missing_text_in (Name n) user) _ a.0).1
+    (option_or-none (missing_text_in (Token n) user) _ b.0).1
+    (range_fault-nat_abs 65536 1073741824 (BudgetRange n) (number_in (field_in (Budget n) user)) budget.1)
+    (second_fault-none n (row_in user).token (missing_text_in (SecondToken n) user) (field_in (SecondToken n) user) g.0)
+    (largest_fault-none n (missing_number_in (Largest n) user) (field_in (Largest n) user) h.0)
+    own.0
 
 -- one more row
 pub fault_after-push : (before rows : List UserSpec) (row : UserSpec) → fault_after before rows ≡ None → user_fault (before ++ rows) row ≡ None → fault_after before (rows ++ row ∷ []) ≡ None

@@ -1,8 +1,8 @@
 -- What a settings table holds, and its first fault. Source: docs/OPERATING.md, 'Settings': the fields are looked at in the order of its table, then user by user, each first for being there and then for its range.
-use Rattle.std.specs.Prelude.{◌≡◌, ℕ, ◌+◌, ◌^◌, ◌≤◌, ◌==◌, ◌⊎◌, ℤ, pos, nat_abs, not, nat_le, if◌then◌else◌, is_some, List, [], ◌∷◌, ◌++◌, length, map, Option, Some, None, option_map, Result, Ok, Err}
+use Rattle.std.specs.Prelude.{◌≡◌, ℕ, ◌+◌, ◌^◌, ◌≤◌, ◌==◌, ◌⊎◌, ℤ, pos, nat_abs, not, nat_le, if◌then◌else◌, is_some, List, [], ◌∷◌, ◌++◌, length, map, Option, Some, None, Result, Ok, Err}
 use Rattle.std.specs.List.{list_all}
 use Rattle.std.specs.Option.{option_or}
-use Rattle.toml.specs.Data.{Data, string, integer, float, boolean, datetime, array, table, as_table, Members}
+use Rattle.toml.specs.Data.{Data, array, table, as_table, Members}
 use Rattle.tc_users.specs.declared.settings.Settings.{Settings}
 use Rattle.tc_users.specs.declared.settings_fault.Field.TheVariants.{Listen, Workers, Journal, Users, Name, Token, Budget, SecondToken, Largest}
 use Rattle.tc_users.specs.declared.settings_fault.Found.TheVariants.{Array}
@@ -25,43 +25,47 @@ largest_in (Some d) = number_in (Some d)
 -- the row that a user's table holds
 abbrev pub row_in : Data → UserSpec
 row_in user = record {
-    name = text_in (field_in (Name 0) user);
-    token = text_in (field_in (Token 0) user);
-    second = second_in (field_in (SecondToken 0) user);
-    budget = nat_abs (number_in (field_in (Budget 0) user));
-    largest = nat_abs (largest_in (field_in (Largest 0) user))
+  name = text_in (field_in (Name 0) user);
+  token = text_in (field_in (Token 0) user);
+  second = second_in (field_in (SecondToken 0) user);
+  budget = nat_abs (number_in (field_in (Budget 0) user));
+  largest = nat_abs (largest_in (field_in (Largest 0) user));
 }
 
--- a user's name is there, and then good; so for the other fields
+-- a user's name is there, and then good
 abbrev pub name_fault_in : ℕ → Data → Option SettingsFault
 name_fault_in n user = option_or (missing_text_in (Name n) user) (name_fault n (row_in user).name)
 
+-- a user's token is there, and then good
 abbrev pub token_fault_in : ℕ → Data → Option SettingsFault
 token_fault_in n user = option_or (missing_text_in (Token n) user) (token_fault (Token n) (row_in user).token)
 
+-- a user's budget is there, and then in its range
 abbrev pub budget_fault_in : ℕ → Data → Option SettingsFault
 budget_fault_in n user = option_or (missing_number_in (Budget n) user) (budget_fault n (number_in (field_in (Budget n) user)))
 
--- a field that may be left out
+-- a second token may be left out; where it is there, it is a text, and then good
 abbrev pub second_fault_in : ℕ → Data → Option SettingsFault
 second_fault_in n user =
     if_there (field_in (SecondToken n) user) (option_or (missing_text_in (SecondToken n) user) (second_fault n (row_in user).token (row_in user).second))
 
+-- a largest item may be left out; where it is there, it is a whole number, and then in its range
 abbrev pub largest_fault_in : ℕ → Data → Option SettingsFault
 largest_fault_in n user =
     if_there (field_in (Largest n) user) (option_or (missing_number_in (Largest n) user) (largest_fault n (number_in (field_in (Largest n) user))))
 
--- the first fault of a user's table that comes after these rows, field by field
+-- the first fault of the table of user n, field by field
 abbrev pub user_fault_at : ℕ → List UserSpec → Data → Option SettingsFault
 user_fault_at n before user =
     first_of (name_fault_in n user
-        ∷ token_fault_in n user
-        ∷ budget_fault_in n user
-        ∷ second_fault_in n user
-        ∷ largest_fault_in n user
-        ∷ same_name_fault before (row_in user).name
-        ∷ [])
+    ∷ token_fault_in n user
+    ∷ budget_fault_in n user
+    ∷ second_fault_in n user
+    ∷ largest_fault_in n user
+    ∷ same_name_fault before (row_in user).name
+    ∷ [])
 
+-- the first fault of a user's table that comes after these rows
 abbrev pub user_fault_in : List UserSpec → Data → Option SettingsFault
 user_fault_in before user = user_fault_at (length before + 1) before user
 
@@ -101,10 +105,10 @@ journal_fault_in d = option_or (missing_number_in Journal d) (range_fault 16 655
 abbrev pub fields_fault : Data → Option SettingsFault
 fields_fault d =
     first_of (missing_text_in Listen d
-        ∷ workers_fault_in d
-        ∷ journal_fault_in d
-        ∷ user_field_fault (field_in Users d)
-        ∷ [])
+    ∷ workers_fault_in d
+    ∷ journal_fault_in d
+    ∷ user_field_fault (field_in Users d)
+    ∷ [])
 
 -- the first fault of a settings table: of its own fields, then of its users
 abbrev pub settings_fault : Data → Option SettingsFault
@@ -113,10 +117,10 @@ settings_fault d = option_or (fields_fault d) (users_fault_after [] (users_in (f
 -- the settings that a table holds
 abbrev pub settings_in : Data → Settings
 settings_in d = record {
-    listen = text_in (field_in Listen d);
-    workers = nat_abs (number_in (field_in Workers d));
-    journal = nat_abs (number_in (field_in Journal d));
-    users = map row_in (users_in (field_in Users d))
+  listen = text_in (field_in Listen d);
+  workers = nat_abs (number_in (field_in Workers d));
+  journal = nat_abs (number_in (field_in Journal d));
+  users = map row_in (users_in (field_in Users d));
 }
 
 -- it is the first fault, or memory was refused

@@ -1,14 +1,21 @@
-//! The users of a server, and who a login's data is.
+//! The settings of a server, its users, and who a login's data is.
 //!
 //! A user's row is plain data; a `Text` is seen as its bytes, a `UserNo` as its number, `Users` as
-//! the list of the rows, whose users are numbered from 1 in that order. `Users::login` is the first
-//! row that the data opens (`specs/Login.antt`).
+//! the list of the rows, whose users are numbered from 1 in that order. `Users::build` takes rows
+//! that have no fault, else gives the first one (`specs/Faults.antt`); `Users::login` is the first
+//! row that the data opens (`specs/Login.antt`). `Settings::from_toml` answers by the table that a
+//! text is for the TOML reader (`specs/SettingsTable.antt`): its contract is `IsAnswer`. No clause
+//! says where a text that is not TOML is wrong, nor that memory suffices.
 #![tactic(auto)]
 
 mod checks;
+#[cfg(test)]
+mod fault_tests;
 mod fields;
 mod settings;
 mod settings_fault;
+#[cfg(test)]
+mod tests;
 mod text;
 mod user_no;
 mod user_table;

@@ -140,7 +140,7 @@ pub enum SettingsFault {
     Missing { field: Field, found: Found },
     #[error("`name` of user {user} {fault}; wanted: {wanted}", wanted = Field::Name(0).wanted())]
     BadName { user: u32, fault: TextFault },
-    #[error("`name` of user {user} is that of user {first}; wanted: a name of its own for each user")]
+    #[error("`name` of user {user} is that of user {first}; wanted: another name for each user")]
     SameName { user: u32, first: u32 },
     #[error("`budget` of user {user} is {found}; wanted: {wanted}", wanted = Field::Budget(0).wanted())]
     BudgetRange { user: u32, found: i128 },

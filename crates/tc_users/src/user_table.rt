@@ -86,11 +86,7 @@ fn copy_second(alloc: Global, second: Option<&str>) -> Result<Option<Text>, NoMe
 }
 
 /// The row of a user's table that comes after these rows.
-fn read_user(
-    alloc: Global,
-    before: &[UserSpec],
-    table: &Value,
-) -> Result<UserSpec, SettingsFault>
+fn read_user(alloc: Global, before: &[UserSpec], table: &Value) -> Result<UserSpec, SettingsFault>
     requires { length before.now + 1 < 2 ^ 32 }
     ensures row { IfOk result (λ row. row ≡ row_in (view table.now)) }
     ensures faultless { OnOk result (user_fault_in before.now (view table.now) ≡ None) }

@@ -124,7 +124,7 @@ impl Users {
         ensures rows { result.now ≡ self.now }
         ensures sound { All IsSoundRow self.now }
     {
-        &self.rows
+        self.rows.as_slice()
     }
 
     /// The user whose name, one space and either token are the data, and nothing else; `None` only

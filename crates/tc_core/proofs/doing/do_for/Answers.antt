@@ -5,7 +5,7 @@ use Rattle.std.specs.BTreeMap.{BTreeMap, is_at, insert_entry}
 use Rattle.std.proofs.Common.{◌≡◌, ℕ, Some, None, sym, ◌∙◌, ap}
 use Rattle.std.proofs.lemmas.Result.{on_ok_weaker, on_err_weaker}
 use Rattle.tc_session.specs.Linked.{Linked}
-use Rattle.tc_core.proofs.Table.{there-caches, there-connections, there-refused, opened-caches, opened-connections, absent-caches, absent-connections}
+use Rattle.tc_core.proofs.Table.{there-caches, there-connections, there-refused, opened-connections, absent-caches, absent-connections}
 use Rattle.tc_core.specs.Steps.{happening_of}
 use Rattle.tc_core.proofs.doing.do_for.Goals as goal
 

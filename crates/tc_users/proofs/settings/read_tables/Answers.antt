@@ -1,4 +1,3 @@
-use Rattle.std.specs.Result.{result_err}
 use Rattle.std.proofs.Common.{map, sym, ◌∙◌, ap}
 use Rattle.std.proofs.lemmas.Result.{err_from_is_err_and}
 use Rattle.toml.specs.View.{view}

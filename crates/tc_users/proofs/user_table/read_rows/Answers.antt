@@ -1,4 +1,4 @@
-use Rattle.std.proofs.Common.{◌+◌, [], map, drop, length, sym, ◌∙◌, ap, arith, length-append}
+use Rattle.std.proofs.Common.{◌+◌, [], map, drop, sym, ◌∙◌, ap, arith, length-append}
 use Rattle.tc_users.specs.SettingsTable.{user_fault_in}
 use Rattle.toml.specs.View.{view}
 use Rattle.tc_users.proofs.UserTables.{map-view-drop, users_fault_after-past, rows-past, fault_after-push, user_fault-row_in}
@@ -14,8 +14,8 @@ loop-table-preserved c =
     let more = map-view-drop tables i c.table-item.result c.loop-table-test.true c.table-item.is in
     let good = ap (λ b. user_fault_in b user) (sym c.deref.ensures.value) ∙ c.in_ok-row.ensures.faultless in
     rw (c.in_ok-push_row.ensures, c.in_ok-row.ensures.row) (record {
-        fault = c.loop-table.invariant.fault ∙ users_fault_after-past rows user rest _ more good;
-        rows = c.loop-table.invariant.rows ∙ rows-past rows user rest _ more;
-        good = fault_after-push [] rows _ c.loop-table.invariant.good (user_fault-row_in rows user good);
-        count = simp length-append (omega arith)
+      fault = c.loop-table.invariant.fault ∙ users_fault_after-past rows user rest _ more good;
+      rows = c.loop-table.invariant.rows ∙ rows-past rows user rest _ more;
+      good = fault_after-push [] rows _ c.loop-table.invariant.good (user_fault-row_in rows user good);
+      count = simp length-append (omega arith);
     })

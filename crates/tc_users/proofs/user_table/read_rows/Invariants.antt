@@ -6,8 +6,8 @@ use Rattle.tc_users.proofs.user_table.read_rows.Given as goal
 
 abbrev pub invariant-loop-table : goal.invariant-loop-table
 invariant-loop-table l = record {
-    fault : users_fault_after [] (map view l.tables) ≡ users_fault_after l.rows.items (map view (drop l.table-index l.tables));
-    rows : map row_in (map view l.tables) ≡ l.rows.items ++ map row_in (map view (drop l.table-index l.tables));
-    good : fault_after [] l.rows.items ≡ None;
-    count : length l.rows.items ≡ l.table-index
+  fault : users_fault_after [] (map view l.tables) ≡ users_fault_after l.rows.items (map view (drop l.table-index l.tables));
+  rows : map row_in (map view l.tables) ≡ l.rows.items ++ map row_in (map view (drop l.table-index l.tables));
+  good : fault_after [] l.rows.items ≡ None;
+  count : length l.rows.items ≡ l.table-index;
 }
