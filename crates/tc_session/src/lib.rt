@@ -10,6 +10,8 @@ mod ending;
 mod output;
 mod reply;
 mod session;
+#[cfg(test)]
+mod tests;
 mod want;
 
 pub use session::Session;

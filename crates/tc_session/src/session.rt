@@ -1,6 +1,6 @@
 //! A connection.
 ghost use Rattle.std.specs.Prelude.{◌≡◌, ◌≤◌, ◌++◌, ℕ, [], false, codes, drop, length, IsOk, IfOk, OnOk, OnErr};
-ghost use Rattle.tc_model.specs.Connection.{turn, login, login_turn, unbound_turn, bound_turn, with_piece, shut_endpoint, new_endpoint, Unbound, Bound, is_closed};
+ghost use Rattle.tc_model.specs.Connection.{turn, login, login_turn, unbound_turn, bound_turn, with_piece, shut_endpoint, new_endpoint, Unbound, Bound, Close, is_closed};
 ghost use Rattle.tc_grammar.specs.declared.fault.Fault.TheVariants.{AuthenticationFailure, NoMemory as OutOfMemory};
 ghost use Rattle.tc_session.specs.Texts.{fault_line, unless_quiet};
 ghost use Rattle.tc_session.specs.Replies.{is_quiet, render, is_values};
@@ -146,10 +146,7 @@ impl Session {
     {
         match command {
             Command::Store(head, blob) => self.greet_store(users, head, blob.as_slice()),
-            Command::Quit => {
-                self.stage = Stage::Closed;
-                Want::Close
-            }
+            Command::Quit => self.close(),
             _ => {
                 self.say_fault(Fault::Unauthenticated, is_quiet(command));
                 Want::Said
@@ -216,10 +213,7 @@ impl Session {
         ensures room { 64 ≤ self.new.room }
     {
         match command {
-            Command::Quit => {
-                self.stage = Stage::Closed;
-                Want::Close
-            }
+            Command::Quit => self.close(),
             command => self.serve_other(user, command),
         }
     }
@@ -252,10 +246,7 @@ impl Session {
     {
         self.say_fault(fault, quiet);
         match fault {
-            Fault::LineTooLong => {
-                self.stage = Stage::Closed;
-                Want::Close
-            }
+            Fault::LineTooLong => self.close(),
             _ => Want::Said,
         }
     }
@@ -339,6 +330,17 @@ impl Session {
         ensures endpoint { self.new.endpoint ≡ shut_endpoint talking self.old.endpoint }
         ensures out { self.new.out ≡ self.old.out }
     {
+        let _ = self.close();
+    }
+
+    /// Ends the connection, which is to be closed once its output is sent.
+    fn close(&mut self) -> Want
+        ensures want { want_of result ≡ Close }
+        ensures endpoint { self.new.endpoint ≡ shut_endpoint talking self.old.endpoint }
+        ensures out { self.new.out ≡ self.old.out }
+        ensures room { self.new.room ≡ self.old.room }
+    {
         self.stage = Stage::Closed;
+        Want::Close
     }
 }
