@@ -1,6 +1,6 @@
 -- Where a line ends, what a request takes, and what a longer stream begins with.
-use Rattle.std.specs.Prelude.{◌==◌, option_map, nat_lt, slice_index, ◌&&◌, min, IfSome}
-use Rattle.std.proofs.Common.{◌≡◌, ◌≢◌, ℕ, zero, suc, ◌+◌, ◌-◌, ◌<◌, ◌≤◌, Bool, true, false, cond, List, [], ◌∷◌, ◌++◌, length, get_or, take, drop, Option, Some, None, refl, sym, ◌∙◌, ap, subst, arith, add-one, append_assoc, length-append, length-take, length-drop}
+use Rattle.std.specs.Prelude.{◌==◌, option_map, nat_lt, min, IfSome}
+use Rattle.std.proofs.Common.{◌≡◌, ◌≢◌, ℕ, zero, suc, ◌+◌, ◌-◌, ◌<◌, ◌≤◌, Bool, true, false, cond, List, [], ◌∷◌, ◌++◌, length, get_or, take, drop, Option, Some, None, refl, sym, ◌∙◌, ap, subst, arith, append_assoc, length-append, length-take, length-drop}
 use Rattle.std.proofs.lemmas.Bool.Decides.{nat_tests}
 use Rattle.std.proofs.Math.Nat.{zero-sub, sub-zero, zero-min, min-zero, suc-min-suc}
 use Rattle.std.proofs.lemmas.Bool.{ltb-true, ltb-false, le-ltb, lt-ltb}
@@ -12,7 +12,7 @@ use Rattle.tc_grammar.specs.declared.line.Line.TheVariants.{Ready, NeedsBlock, R
 use Rattle.tc_grammar.specs.Reading.{reading}
 use Rattle.tc_feed.specs.declared.request.Request.TheVariants.{Refused}
 use Rattle.tc_feed.specs.declared.request.Taken.{Taken}
-use Rattle.tc_feed.specs.Stream.{Reader, more, line_length, line_room, ends_line, block_request, block_of, line_request, first_by, first, trimmed}
+use Rattle.tc_feed.specs.Stream.{Reader, line_length, line_room, block_request, block_of, line_request, first_by, first, trimmed}
 use Rattle.tc_feed.specs.CutStream.{IsFoundInMore, IsCutAnywhere}
 use Rattle.tc_feed.specs.Looking.{needed_of}
 use Rattle.tc_feed.specs.Scanned.{IsScanned, IsAwaited}

@@ -2,7 +2,6 @@
 use Rattle.std.specs.Prelude.{ℕ, suc, ◌+◌, ◌-◌, false, cond, nat_lt, ◌&&◌, Bool, slice_index, List, [], ◌∷◌, ◌++◌, length, take, drop, Option, Some, None, ◌==◌, option_map}
 use Rattle.tc_grammar.specs.declared.command.Head.{Head}
 use Rattle.tc_grammar.specs.declared.command.Command.TheVariants.{Store}
-use Rattle.tc_grammar.specs.declared.fault.Fault.{Fault}
 use Rattle.tc_grammar.specs.declared.fault.Fault.TheVariants.{BadChunk, LineTooLong}
 use Rattle.tc_grammar.specs.declared.line.Line.{Line}
 use Rattle.tc_grammar.specs.declared.line.Line.TheVariants.{Ready, NeedsBlock, Refused as RefusedLine}

@@ -1,6 +1,6 @@
 -- The first row that a login opens is the first place whose row passes the test.
 use Rattle.std.specs.Prelude.{option_map, suc}
-use Rattle.std.proofs.Common.{◌≡◌, ℕ, zero, Bool, true, false, cond, List, [], ◌∷◌, Option, Some, refl, ap}
+use Rattle.std.proofs.Common.{◌≡◌, ℕ, zero, cond, List, [], ◌∷◌, Some, refl, ap}
 use Rattle.tc_model.specs.Connection.{first_row}
 use Rattle.tc_model.specs.Place.{first_place}
 use Rattle.tc_users.specs.declared.users.UserSpec.{UserSpec}

@@ -1,6 +1,6 @@
 -- A connection as contracts see it. Source: this project's own.
-use Rattle.std.specs.Prelude.{ℕ, List, ◌++◌}
-use Rattle.tc_model.specs.Connection.{Phase, Unbound, Bound, Closed, Endpoint, Want, Nothing, Said, Call, Close, Turn}
+use Rattle.std.specs.Prelude.{ℕ, List}
+use Rattle.tc_model.specs.Connection.{Phase, Unbound, Bound, Closed, Endpoint, Want, Nothing, Said, Call, Close}
 use Rattle.tc_grammar.specs.declared.command.Command.{Command}
 use Rattle.tc_session.specs.declared.session.Stage.{Stage}
 use Rattle.tc_session.specs.declared.session.Stage.TheVariants.{Unbound as IsUnbound, Bound as IsBound, Closed as IsClosed}

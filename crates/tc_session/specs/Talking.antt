@@ -2,12 +2,12 @@
 use Rattle.std.specs.Prelude.{ℕ, Bool, true, false, List, [], codes, Option, None, Some}
 use Rattle.tc_model.specs.Connection.{Protocol, Asks, Idle, Tell, Login, Leave, Wants, Rest, Reply, Run, Quit as Parting}
 use Rattle.tc_grammar.specs.declared.command.StoreKind.{StoreKind}
-use Rattle.tc_grammar.specs.declared.command.StoreKind.TheVariants.{Set, Add, Replace, Append, Prepend, Cas}
+use Rattle.tc_grammar.specs.declared.command.StoreKind.TheVariants.{Set}
 use Rattle.tc_grammar.specs.declared.command.Head.{Head}
 use Rattle.tc_grammar.specs.declared.command.Command.{Command}
-use Rattle.tc_grammar.specs.declared.command.Command.TheVariants.{Store, Get, Gat, Delete, Count, Touch, Flush, Stats, Version, Verbosity, Quit}
+use Rattle.tc_grammar.specs.declared.command.Command.TheVariants.{Store, Get, Version, Verbosity, Quit}
 use Rattle.tc_grammar.specs.declared.fault.Fault.{Fault}
-use Rattle.tc_grammar.specs.declared.fault.Fault.TheVariants.{UnknownCommand, BadFormat, BadChunk, LineTooLong, TooLarge, NoMemory, NotNumeric, BadDelta, Unauthenticated, AuthenticationFailure, CasWorn}
+use Rattle.tc_grammar.specs.declared.fault.Fault.TheVariants.{UnknownCommand, LineTooLong, Unauthenticated, AuthenticationFailure}
 use Rattle.tc_feed.specs.declared.request.Request.{Request}
 use Rattle.tc_feed.specs.declared.request.Request.TheVariants.{Ask, Refused}
 use Rattle.tc_feed.specs.Stream.{Reader, more, empty, found, after_first}

@@ -1,5 +1,5 @@
 -- What is said without a cache. Source: memcached's doc/protocol.txt, "Error strings" and "Authentication".
-use Rattle.std.specs.Prelude.{ℕ, Bool, cond, List, [], ◌∷◌, ◌++◌, codes}
+use Rattle.std.specs.Prelude.{ℕ, Bool, cond, List, [], ◌∷◌, ◌++◌}
 use Rattle.tc_grammar.specs.declared.fault.Fault.{Fault}
 use Rattle.tc_grammar.specs.Faults.{fault_text}
 

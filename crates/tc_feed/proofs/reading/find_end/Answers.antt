@@ -1,4 +1,4 @@
-use Rattle.std.specs.Prelude.{min, IfSome}
+use Rattle.std.specs.Prelude.{min}
 use Rattle.std.proofs.Common.{◌≡◌, length, take, sym, ◌∙◌, ap}
 use Rattle.tc_feed.specs.Stream.{line_length, line_room}
 use Rattle.tc_feed.proofs.Lines.{take_seen, line_room-is, end_within, end_below}

@@ -1,4 +1,4 @@
-use Rattle.std.proofs.Common.{sym, ◌∙◌}
+use Rattle.std.proofs.Common.{sym}
 use Rattle.tc_feed.proofs.Lines.{scanned_none, scanned_line, awaited_line}
 use Rattle.tc_feed.proofs.reading.look.Goals as goal
 
