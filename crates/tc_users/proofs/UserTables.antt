@@ -2,19 +2,21 @@
 use Rattle.std.specs.Prelude.{nat_abs, not, nat_le, ◌&&◌, ◌==◌, ◌^◌, if◌then◌else◌, is_some}
 use Rattle.std.specs.List.{list_all}
 use Rattle.std.specs.Option.{option_or}
-use Rattle.std.proofs.Common.{◌≡◌, ℕ, ℤ, pos, negsuc, ◌+◌, ◌<◌, Bool, List, [], ◌∷◌, ◌++◌, length, map, get_or, drop, Option, Some, None, refl, sym, ◌∙◌, ap, arith, append_assoc, append-nil}
+use Rattle.std.proofs.Common.{◌≡◌, ℕ, ℤ, pos, negsuc, ◌+◌, ◌<◌, Bool, List, [], ◌∷◌, ◌++◌, length, map, get_or, drop, Option, Some, None, refl, sym, ◌∙◌, ap, arith, append_assoc, append-nil, inl, inr}
 use Rattle.std.proofs.lemmas.List.{drop_more, length-map}
-use Rattle.toml.specs.Data.{Data, string, integer, float, boolean, datetime, array, table, Items, as_array, as_table}
+use Rattle.toml.specs.Data.{Data, string, integer, float, boolean, datetime, array, table, Items, no_members, as_array, as_table}
+use Rattle.toml.specs.Errors.{IsBlank}
+use Rattle.toml.specs.Parse.{parse_document, lines}
 use Rattle.toml.specs.View.{view, items_view}
 use Rattle.toml.specs.declared.value.Value.{Value}
 use Rattle.tc_users.specs.declared.settings_fault.SettingsFault.{SettingsFault}
 use Rattle.tc_users.specs.declared.settings_fault.Field.TheVariants.{Users, Name, Token, Budget, SecondToken, Largest}
 use Rattle.tc_users.specs.declared.settings_fault.Found.TheVariants.{Array}
-use Rattle.tc_users.specs.declared.settings_fault.SettingsFault.TheVariants.{Missing, BudgetRange, NoUser, LargestRange, TooManyUsers}
+use Rattle.tc_users.specs.declared.settings_fault.SettingsFault.TheVariants.{Missing, BudgetRange, NoUser, NoMemory, LargestRange, TooManyUsers}
 use Rattle.tc_users.specs.declared.users.UserSpec.{UserSpec}
 use Rattle.tc_users.specs.Faults.{first_of, range_fault, second_fault, largest_fault, same_name_fault, user_fault, fault_after}
 use Rattle.tc_users.specs.Fields.{field_in, number_in, missing_text_in, missing_number_in, if_there, list_of}
-use Rattle.tc_users.specs.SettingsTable.{row_in, second_in, largest_in, name_fault_in, token_fault_in, budget_fault_in, second_fault_in, largest_fault_in, user_fault_at, user_fault_in, users_fault_after, tables_fault, user_field_fault, users_in}
+use Rattle.tc_users.specs.SettingsTable.{row_in, second_in, largest_in, name_fault_in, token_fault_in, budget_fault_in, second_fault_in, largest_fault_in, user_fault_at, user_fault_in, users_fault_after, tables_fault, user_field_fault, users_in, fields_fault, settings_fault, IsFaultOfTable}
 use Rattle.tc_users.proofs.FirstFault.{option_or-none}
 
 -- a name that another user has is the first fault where nothing else is wrong
@@ -120,3 +122,13 @@ pub tables_fault-view : (values : List Value) → tables_fault (map view values)
     else if nat_le (2 ^ 32) (length values) then Some (TooManyUsers (length values))
     else None)
 tables_fault-view values = simp (length-map, list_all-view (λ d. is_some (as_table d)) values)
+
+-- a text of white space and comments is an empty table
+pub parse_document-blank : (text : List ℕ) → IsBlank text → parse_document text ≡ Some no_members
+unfolding parse_document lines
+parse_document-blank text e = rw e
+
+-- memory is not wanted for an empty table
+pub empty_table-not_refused : (d : Data) → d ≡ table no_members → IsFaultOfTable d NoMemory → ⊥
+empty_table-not_refused d e (inl first) = let h : settings_fault (table no_members) ≡ Some NoMemory = rw e at first in cc
+empty_table-not_refused d e (inr refused) = let h : fields_fault (table no_members) ≡ None = rw e at refused.1 in cc

@@ -93,6 +93,14 @@ abbrev pub users_in : Option Data → List Data
 users_in (Some (array items)) = list_of items
 users_in other = []
 
+-- the users' tables of a settings table
+abbrev pub tables_in : Data → List Data
+tables_in d = users_in (field_in Users d)
+
+-- what is wrong with the field that should hold them
+abbrev pub tables_fault_in : Data → Option SettingsFault
+tables_fault_in d = user_field_fault (field_in Users d)
+
 -- the number of workers is there, and then in its range
 abbrev pub workers_fault_in : Data → Option SettingsFault
 workers_fault_in d = option_or (missing_number_in Workers d) (range_fault 1 64 WorkersRange (number_in (field_in Workers d)))
@@ -107,12 +115,12 @@ fields_fault d =
     first_of (missing_text_in Listen d
     ∷ workers_fault_in d
     ∷ journal_fault_in d
-    ∷ user_field_fault (field_in Users d)
+    ∷ tables_fault_in d
     ∷ [])
 
 -- the first fault of a settings table: of its own fields, then of its users
 abbrev pub settings_fault : Data → Option SettingsFault
-settings_fault d = option_or (fields_fault d) (users_fault_after [] (users_in (field_in Users d)))
+settings_fault d = option_or (fields_fault d) (users_fault_after [] (tables_in d))
 
 -- the settings that a table holds
 abbrev pub settings_in : Data → Settings
@@ -120,12 +128,16 @@ settings_in d = record {
   listen = text_in (field_in Listen d);
   workers = nat_abs (number_in (field_in Workers d));
   journal = nat_abs (number_in (field_in Journal d));
-  users = map row_in (users_in (field_in Users d));
+  users = map row_in (tables_in d);
 }
 
 -- it is the first fault, or memory was refused
 abbrev pub IsFirstOrRefused : Option SettingsFault → SettingsFault → Type 0
 IsFirstOrRefused first fault = (first ≡ Some fault) ⊎ (fault ≡ NoMemory)
+
+-- it is the first fault of the table, or memory was refused once the table's own fields were found good
+abbrev pub IsFaultOfTable : Data → SettingsFault → Type 0
+IsFaultOfTable d fault = (settings_fault d ≡ Some fault) ⊎ ((fault ≡ NoMemory) × (fields_fault d ≡ None))
 
 -- the text is not TOML, or memory was refused
 abbrev pub IsNotTomlOrRefused : SettingsFault → Type 0

@@ -17,21 +17,24 @@ fn a_fault_says_what_was_found_and_what_is_wanted(rt: HostRuntime) -> Result<(),
         ),
         (
             SettingsFault::Missing { field, found },
-            "`token2` of user 3 is a table; wanted: 1 to 128 printable ASCII characters without a space, in quotes",
+            "`token2` of user 3 is a table; wanted: 1 to 128 printable ASCII characters without a space, \
+                in quotes",
         ),
         (
             SettingsFault::BadName {
                 user: 2,
                 fault: TextFault::BadByte { place: 1, byte: 32 },
             },
-            "`name` of user 2 has the byte 32 (0x20) after 1 good ones; wanted: 1 to 64 letters, digits, `_`, `-` and `.` in quotes",
+            "`name` of user 2 has the byte 32 (0x20) after 1 good ones; \
+                wanted: 1 to 64 letters, digits, `_`, `-` and `.` in quotes",
         ),
         (
             SettingsFault::BadToken {
                 field: Field::Token(1),
                 fault: TextFault::TooLong { length: 129 },
             },
-            "`token` of user 1 has 129 bytes; wanted: 1 to 128 printable ASCII characters without a space, in quotes",
+            "`token` of user 1 has 129 bytes; wanted: 1 to 128 printable ASCII characters without a space, \
+                in quotes",
         ),
     ] {
         assert_eq!(rt; format!(in rt.alloc(); "{fault}")?.as_str(), want);

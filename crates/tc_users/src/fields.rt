@@ -50,7 +50,7 @@ pub fn read_text(field: Field, table: &Value) -> Result<&str, SettingsFault>
 /// The whole number in the field.
 pub fn read_number(field: Field, table: &Value) -> Result<i64, SettingsFault>
     ensures fault { result_err result ≡ missing_number_in field (view table.now) }
-    ensures number { IfOk result (λ number. number ≡ number_in (field_in field (view table.now))) }
+    ensures number { IfOk result (λ n. n ≡ number_in (field_in field (view table.now))) }
 {
     let Some(value) = find_field(field, table) else {
         let found = Found::Nothing;

@@ -5,7 +5,8 @@
 //! that have no fault, else gives the first one (`specs/Faults.antt`); `Users::login` is the first
 //! row that the data opens (`specs/Login.antt`). `Settings::from_toml` answers by the table that a
 //! text is for the TOML reader (`specs/SettingsTable.antt`): its contract is `IsAnswer`. No clause
-//! says where a text that is not TOML is wrong, nor that memory suffices.
+//! says where a text that is not TOML is wrong, nor, of a text with more than white space and
+//! comments, that memory suffices.
 #![tactic(auto)]
 
 mod checks;

@@ -1,12 +1,12 @@
 //! The settings of a server, read from a TOML text.
-ghost use Rattle.std.specs.Prelude.{◌≡◌, ◌<◌, ◌^◌, [], length, map, is_some, IfOk, IfErr, OnOk};
+ghost use Rattle.std.specs.Prelude.{◌≡◌, ◌<◌, ◌^◌, [], length, map, is_some, IfOk, IsErrOf, IfErr, OnOk};
 ghost use Rattle.std.specs.Result.{result_err};
 ghost use Rattle.std.specs.List.{list_all};
 ghost use Rattle.toml.specs.Data.{as_table};
+ghost use Rattle.toml.specs.Errors.{IsBlank};
 ghost use Rattle.toml.specs.Parse.{parse_document};
 ghost use Rattle.toml.specs.View.{view};
-ghost use Rattle.tc_users.specs.Fields.{field_in};
-ghost use Rattle.tc_users.specs.SettingsTable.{row_in, tables_fault, user_field_fault, users_in, workers_fault_in, journal_fault_in, settings_fault, settings_in, IsFirstOrRefused, IsAnswer, AreSoundNumbers};
+ghost use Rattle.tc_users.specs.SettingsTable.{row_in, tables_fault, tables_fault_in, tables_in, workers_fault_in, journal_fault_in, settings_fault, settings_in, IsFaultOfTable, IsAnswer, AreSoundNumbers};
 
 use crate::fields::{find_field, found_of, read_number, read_text};
 use crate::user_table::read_rows;
@@ -111,8 +111,8 @@ fn check_tables(tables: &[Value]) -> Result<(), SettingsFault>
 
 /// The users' tables.
 fn read_tables(table: &Value) -> Result<&[Value], SettingsFault>
-    ensures fault { result_err result ≡ user_field_fault (field_in Field.Users (view table.now)) }
-    ensures tables { IfOk result (λ tables. map view tables.now ≡ users_in (field_in Field.Users (view table.now))) }
+    ensures fault { result_err result ≡ tables_fault_in (view table.now) }
+    ensures tables { IfOk result (λ tables. map view tables.now ≡ tables_in (view table.now)) }
     ensures few { IfOk result (λ tables. length tables.now < 2 ^ 32) }
 {
     let Some(value) = find_field(Field::Users, table) else {
@@ -134,7 +134,7 @@ fn read_tables(table: &Value) -> Result<&[Value], SettingsFault>
 fn read_settings(alloc: Global, table: &Value) -> Result<Settings, SettingsFault>
     ensures settings { IfOk result (λ settings. settings ≡ settings_in (view table.now)) }
     ensures faultless { OnOk result (settings_fault (view table.now) ≡ None) }
-    ensures fault { IfErr result (IsFirstOrRefused (settings_fault (view table.now))) }
+    ensures fault { IfErr result (IsFaultOfTable (view table.now)) }
 {
     let listen = read_text(Field::Listen, table)?;
     let workers = read_workers(table)?;
@@ -156,6 +156,7 @@ impl Settings {
     pub fn from_toml(alloc: Global, text: &str) -> Result<Settings, SettingsFault>
         ensures answer { IsAnswer (parse_document text.now) result }
         ensures sound { IfOk result AreSoundNumbers }
+        ensures memory { IsErrOf result SettingsFault.NoMemory → ¬ IsBlank text.now }
     {
         match toml::table_from_str(alloc, text) {
             Ok(table) => read_settings(alloc, &Value::Table(table)),

@@ -136,26 +136,26 @@ impl fmt::Display for TextFault {
 pub enum SettingsFault {
     #[error("the settings are not TOML: {0}")]
     NotToml(toml::de::Error),
-    #[error("{field} {found}; wanted: {wanted}", wanted = .field.wanted())]
+    #[error("{field} {found}; wanted: {want}", want = .field.wanted())]
     Missing { field: Field, found: Found },
-    #[error("`name` of user {user} {fault}; wanted: {wanted}", wanted = Field::Name(0).wanted())]
+    #[error("`name` of user {user} {fault}; wanted: {want}", want = Field::Name(0).wanted())]
     BadName { user: u32, fault: TextFault },
     #[error("`name` of user {user} is that of user {first}; wanted: another name for each user")]
     SameName { user: u32, first: u32 },
-    #[error("`budget` of user {user} is {found}; wanted: {wanted}", wanted = Field::Budget(0).wanted())]
+    #[error("`budget` of user {user} is {found}; wanted: {want}", want = Field::Budget(0).wanted())]
     BudgetRange { user: u32, found: i128 },
-    #[error("there is no user; wanted: {wanted}", wanted = Field::Users.wanted())]
+    #[error("there is no user; wanted: {want}", want = Field::Users.wanted())]
     NoUser,
-    #[error("`workers` is {found}; wanted: {wanted}", wanted = Field::Workers.wanted())]
+    #[error("`workers` is {found}; wanted: {want}", want = Field::Workers.wanted())]
     WorkersRange { found: i64 },
-    #[error("`journal` is {found}; wanted: {wanted}", wanted = Field::Journal.wanted())]
+    #[error("`journal` is {found}; wanted: {want}", want = Field::Journal.wanted())]
     JournalRange { found: i64 },
     #[error("out of memory")]
     NoMemory,
     /// The field is a user's token or second token.
-    #[error("{field} {fault}; wanted: {wanted}", wanted = .field.wanted())]
+    #[error("{field} {fault}; wanted: {want}", want = .field.wanted())]
     BadToken { field: Field, fault: TextFault },
-    #[error("`largest` of user {user} is {found}; wanted: {wanted}", wanted = Field::Largest(0).wanted())]
+    #[error("`largest` of user {user} is {found}; wanted: {want}", want = Field::Largest(0).wanted())]
     LargestRange { user: u32, found: i128 },
     #[error("`token2` of user {user} is its `token`; wanted: another token, or no `token2`")]
     SameToken { user: u32 },

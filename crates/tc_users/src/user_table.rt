@@ -52,7 +52,7 @@ fn read_second<'a>(
 ) -> Result<Option<&'a str>, SettingsFault>
     requires { token.now ≡ (row_in (view table.now)).token }
     ensures fault { result_err result ≡ second_fault_in user (view table.now) }
-    ensures second { IfOk result (λ second. option_copied second ≡ (row_in (view table.now)).second) }
+    ensures second { IfOk result (λ t. option_copied t ≡ (row_in (view table.now)).second) }
 {
     let field = Field::SecondToken(user);
     if find_field(field, table).is_none() {
