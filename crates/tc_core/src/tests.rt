@@ -75,13 +75,15 @@ fn a_stream_is_answered(rt: HostRuntime) -> Result<(), Fail> {
 #[test]
 fn a_stream_cut_into_bytes_is_answered_alike(rt: HostRuntime) -> Result<(), Fail> {
     let alloc = rt.alloc();
-    let mut steps = Vec::new(alloc);
-    steps.push(Step::Open(1))?;
+    let users = both(alloc)?;
+    let caches = fresh_caches(alloc, &users)?;
+    let mut server = Server::new(alloc, users, caches);
+    server.step(alloc, &Step::Open(1))?;
     for place in 0..STREAM.len() {
-        steps.push(Step::Piece(1, &STREAM[place..place + 1]))?;
-        steps.push(Step::Act(1))?;
+        server.step(alloc, &Step::Piece(1, &STREAM[place..place + 1]))?;
+        server.step(alloc, &Step::Act(1))?;
     }
-    let outputs = ran(alloc, &steps)?;
+    let outputs = server.outputs(alloc)?;
     let [only] = outputs.as_slice() else {
         return Err("not one connection".into());
     };
