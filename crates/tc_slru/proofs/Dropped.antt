@@ -18,7 +18,7 @@ use Rattle.tc_slru.specs.declared.area.Area.{Area}
 use Rattle.tc_slru.specs.declared.area.Area.TheVariants.{Window, Probation, Protected}
 use Rattle.tc_slru.specs.declared.settle.Limits.{Limits as CodeLimits}
 use Rattle.tc_slru.specs.declared.settle.Verdict.TheVariants.{Enters, Waits, Refused}
-use Rattle.tc_slru.specs.declared.slot.Slot.{Slot}
+use Rattle.tc_item.specs.declared.slot.Slot.{Slot}
 use Rattle.tc_slru.proofs.Put.{areas_by}
 
 -- main's last

@@ -15,7 +15,7 @@ use Rattle.tc_slru.specs.Kept.{placed_of, nodes_by, shown_by, AreAt, AreNodes}
 use Rattle.tc_slru.specs.Victims.{Counts, left_over}
 use Rattle.tc_slru.specs.declared.area.Area.{Area}
 use Rattle.tc_slru.specs.declared.area.Sizes.{Sizes}
-use Rattle.tc_slru.specs.declared.slot.Slot.{Slot}
+use Rattle.tc_item.specs.declared.slot.Slot.{Slot}
 use Rattle.tc_slru.proofs.Standing.{Standing, standing, placed_in}
 
 -- a node of a slot

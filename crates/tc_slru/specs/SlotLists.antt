@@ -2,7 +2,7 @@
 use Rattle.std.specs.Prelude.{◌≡◌, ℕ, ◌<◌, ◌≤◌, ◌^◌, max, Option, Some, None, List, [], ◌∷◌, sum_by}
 use Rattle.tc_model.specs.Areas.{Areas, Limits, Settled, total, accessed, settle, and_then}
 use Rattle.tc_slru.specs.Slots.{Placed, placed, weigh, is_slot, without_slot}
-use Rattle.tc_slru.specs.declared.slot.Slot.{Slot}
+use Rattle.tc_item.specs.declared.slot.Slot.{Slot}
 use Rattle.tc_slru.specs.declared.lists.Weights.{Weights}
 
 -- the limits of the areas, how many slots have room, and the three lists, front to back

@@ -1,7 +1,7 @@
 -- What a candidate meets on its way through main, from the tail on.
 use Rattle.std.specs.Prelude.{◌≡◌, ℕ, ◌-◌, ◌<◌, ◌^◌, ◌==◌, nat_lt, cond, Option, Some, None, List, [], ◌∷◌}
 use Rattle.tc_slru.specs.Slots.{Placed}
-use Rattle.tc_slru.specs.declared.slot.Slot.{Slot}
+use Rattle.tc_item.specs.declared.slot.Slot.{Slot}
 
 -- the closure gives how often each slot was seen
 abbrev pub Counts : (Slot → ℕ → Type 0) → (ℕ → ℕ) → Type 0

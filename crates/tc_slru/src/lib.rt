@@ -18,9 +18,8 @@ mod linked_areas;
 mod lists;
 mod nodes;
 mod settle;
-mod slot;
 #[cfg(test)]
 mod tests;
 
 pub use lists::{Lists, Weights};
-pub use slot::Slot;
+pub use tc_item::Slot;

@@ -21,10 +21,9 @@ ghost use Rattle.tc_slru.specs.Victims.{Counts, left_over};
 
 use crate::area::{Area, Size, Sizes};
 use crate::nodes::{MARKS, Nodes};
-use crate::slot::Slot;
 use std::alloc::Global;
 use std::marker::Model;
-use tc_item::NoMemory;
+use tc_item::{NoMemory, Slot};
 
 /// A slot of a list, and what it weighs.
 #[derive(Clone, Copy)]

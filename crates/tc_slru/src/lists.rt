@@ -8,10 +8,9 @@ ghost use Rattle.tc_slru.specs.SlotLists.{fresh, reserved, pushed, removed, acce
 use crate::area::Area;
 use crate::linked_areas::LinkedAreas;
 use crate::settle::{Limits, drop_next, hold_protected};
-use crate::slot::Slot;
 use std::alloc::Global;
 use std::marker::Model;
-use tc_item::NoMemory;
+use tc_item::{NoMemory, Slot};
 
 /// What each area weighs.
 #[derive(Clone, Copy, Debug, PartialEq, Eq)]

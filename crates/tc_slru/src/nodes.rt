@@ -4,10 +4,9 @@ ghost use Rattle.std.specs.Prelude.{◌≡◌, ◌+◌, ◌<◌, ◌≤◌, ◌^
 ghost use Rattle.tc_slru.specs.Links.{area_at, marks_alone, grown, noted, freed};
 
 use crate::area::Area;
-use crate::slot::Slot;
 use std::alloc::Global;
 use std::marker::Model;
-use tc_item::NoMemory;
+use tc_item::{NoMemory, Slot};
 
 /// The nodes that stand before the lists.
 pub const MARKS: usize = 3;

@@ -8,7 +8,7 @@ ghost use Rattle.tc_slru.specs.Dropping.{IsMainsLast, ranks_above, verdict_of, h
 
 use crate::area::Area;
 use crate::linked_areas::{Held, LinkedAreas};
-use crate::slot::Slot;
+use tc_item::Slot;
 
 /// What each area may weigh.
 #[derive(Clone, Copy)]
