@@ -1,0 +1,97 @@
+//! The ring of records that wait.
+ghost use Rattle.std.specs.Prelude.{◌≡◌, ◌↔◌, ◌≤◌, ◌∷◌, ◌++◌, [], length, IfOk, IsErr, OnErr, OnOk, IsTrue, MatchOption};
+
+use crate::noted::Noted;
+use circular_buffer::HeapCircularBuffer;
+use std::alloc::Global;
+use std::error::Error;
+use std::fmt;
+use std::marker::Model;
+use tc_item::{Moment, NoMemory};
+
+/// How many records may wait.
+pub const PLACES: usize = 128;
+
+/// As many records wait as there are places. Nothing was changed.
+#[derive(Clone, Copy, Debug, PartialEq, Eq)]
+pub struct Full;
+
+impl fmt::Display for Full {
+    fn fmt<W: fmt::Write>(&self, f: &mut fmt::Formatter<W>) -> fmt::Result {
+        write!(f, "{PLACES} records wait already")
+    }
+}
+
+impl Error for Full {}
+
+/// Up to 128 records that wait, each what was noted and its moment, in the order noted.
+#[derive(Drop)]
+pub struct ReadBuf {
+    ring: HeapCircularBuffer<(Noted, Moment)>,
+}
+
+impl Model for ReadBuf {
+    ghost use Rattle.std.specs.Prelude.{◌≡◌, ◌≤◌, ℕ, List, length};
+    ghost use Rattle.tc_readbuf.specs.declared.noted.Noted.{Noted};
+
+    ghost Value = { List (Noted × ℕ) };
+
+    ghost view = { λ b. b.ring.items };
+
+    ghost invariant = { λ b. record {
+      places : b.ring.capacity ≡ 128;
+      within : length b.ring.items ≤ 128;
+    } };
+}
+
+impl ReadBuf {
+    /// No record, and room for 128. It alone takes memory.
+    pub fn new(alloc: Global) -> Result<ReadBuf, NoMemory>
+        ensures { IfOk result (λ b. b ≡ []) }
+    {
+        let ring = HeapCircularBuffer::with_capacity(alloc, PLACES)?;
+        Ok(ReadBuf { ring })
+    }
+
+    /// Notes what a look-up found at a moment, behind the records that wait. `Full` where 128 wait, and nothing changes.
+    pub fn note(&mut self, noted: Noted, moment: Moment) -> Result<(), Full>
+        ensures noted { OnOk result (self.new ≡ self.old ++ (noted, moment) ∷ []) }
+        ensures full { IsErr result ↔ (length self.old ≡ 128) }
+        ensures unchanged_on_err { OnErr result (self.new ≡ self.old) }
+    {
+        match self.ring.try_push_back((noted, moment)) {
+            Ok(()) => Ok(()),
+            Err(_record) => Err(Full),
+        }
+    }
+
+    /// Takes the record that was noted first, if one waits.
+    pub fn take(&mut self) -> Option<(Noted, Moment)>
+        ensures { MatchOption result ((self.old ≡ []) × (self.new ≡ []))
+            (λ first. self.old ≡ first ∷ self.new) }
+    {
+        self.ring.pop_front()
+    }
+
+    /// Whether as many records wait as there are places.
+    pub fn is_full(&self) -> bool
+        ensures { IsTrue result ↔ (length self.now ≡ 128) }
+    {
+        self.ring.is_full()
+    }
+
+    /// How many records wait.
+    pub fn len(&self) -> usize
+        ensures count { result ≡ length self.now }
+        ensures at_most { result ≤ 128 }
+    {
+        self.ring.len()
+    }
+
+    /// Whether no record waits.
+    pub fn is_empty(&self) -> bool
+        ensures { IsTrue result ↔ (self.now ≡ []) }
+    {
+        self.ring.is_empty()
+    }
+}
