@@ -1,0 +1,161 @@
+-- The marks alone, and more room.
+use Rattle.std.specs.Prelude.{Option, None, Some, ◌-◌, ◌%◌, replicate, map, slice_index}
+use Rattle.std.proofs.Common.{◌≡◌, ◌⊎◌, inl, inr, ℕ, zero, suc, ◌+◌, ◌<◌, ◌≤◌, true, false, List, [], ◌∷◌, ◌++◌, length, refl, sym, ◌∙◌, ap, subst, arith, length-append}
+use Rattle.std.proofs.lemmas.Bool.{cases_lt}
+use Rattle.tc_model.specs.Ring.{Linked, IsAway, AreDistinct, AreBelow, IsRing}
+use Rattle.tc_model.specs.Chains.{marked, IsLoop, AreChained, is_among}
+use Rattle.tc_model.proofs.Chained.{ring_grown, index-grown}
+use Rattle.tc_wheel.specs.Dues.{due_at, is_due}
+use Rattle.tc_wheel.specs.Links.{Links, AreMarks, grown}
+use Rattle.tc_wheel.specs.Nodes.{links}
+use Rattle.tc_wheel.specs.Kept.{list_at, stands_in, AreKept, IsSwept}
+use Rattle.tc_wheel.specs.declared.nodes.Node.{Node}
+use Rattle.tc_wheel.proofs.Writes.{length-map_own}
+use Rattle.tc_wheel.proofs.Held.{stands_none}
+
+-- the marks from m on
+abbrev upto : ℕ → ℕ → List ℕ
+upto m zero = []
+upto m (suc n) = m ∷ upto (suc m) n
+
+marked_alone : (m n : ℕ) → marked m (replicate n []) ≡ upto m n
+marked_alone m zero = refl
+marked_alone m (suc n) = ap (λ t. m ∷ t) (marked_alone (suc m) n)
+
+upto_away : (x m n : ℕ) → x < m → IsAway x (upto m n)
+upto_away x m zero h = tt
+upto_away x m (suc n) h = (omega arith, upto_away x (suc m) n (omega arith))
+
+upto_distinct : (m n : ℕ) → AreDistinct (upto m n)
+upto_distinct m zero = tt
+upto_distinct m (suc n) = (upto_away m (suc m) n (omega arith), upto_distinct (suc m) n)
+
+upto_below : (b m n : ℕ) → m + n ≤ b → AreBelow b (upto m n)
+upto_below b m zero h = tt
+upto_below b m (suc n) h = (omega arith, upto_below b (suc m) n (omega arith))
+
+upto_linked : (k : ℕ) (l : Links) (a n : ℕ) → suc a + n ≡ k → AreMarks k l → Linked l.next l.prev a (upto (suc a) n) 0
+upto_linked k l a zero e h = (h.last a (omega arith), h.first a (omega arith))
+upto_linked k l a (suc n) e h = (h.next a (omega arith), h.prev a (omega arith), upto_linked k l (suc a) n (omega arith) h)
+
+list_at-alone : (i n : ℕ) → list_at i (replicate n []) ≡ []
+list_at-alone i zero = refl
+list_at-alone zero (suc n) = refl
+list_at-alone (suc i) (suc n) = list_at-alone i n
+
+length-alone : (n : ℕ) → length (replicate n (let none : List ℕ = [] in none)) ≡ n
+length-alone zero = refl
+length-alone (suc n) = ap suc (length-alone n)
+
+marks_ring : (k : ℕ) (l : Links) → AreMarks (suc k) l → IsRing l.next l.prev 0 (upto 1 k)
+marks_ring k l h = record {
+  linked = upto_linked (suc k) l 0 k (omega arith) h;
+  distinct = upto_distinct 0 (suc k);
+  below = upto_below (length l.next) 0 (suc k) (omega (arith, h.next_long));
+  long = h.prev_long ∙ sym h.next_long;
+}
+
+kept_alone : (k moment left : ℕ) (l : Links) → AreMarks (suc k) l → AreKept k moment left l (replicate (suc k) [])
+kept_alone k moment left l h = record {
+  count = length-alone (suc k);
+  ring = subst (λ xs. IsLoop l.next l.prev xs) (sym (marked_alone 0 (suc k))) (marks_ring k l h);
+  dues_long = h.dues_long ∙ sym h.next_long;
+  marks = λ n small. h.dues n;
+  kept = λ i n small. none_at n i ∙ sym (ap (λ o. stands_in k i (is_among n (list_at k (replicate (suc k) []))) o) (h.dues n) ∙ stands_none k i (is_among n (list_at k (replicate (suc k) []))));
+  late = λ n among. absurd (let f : false ≡ true = sym (none_at n k) ∙ among in cc);
+  rest = λ n d out noted_is early. absurd (let f : None ≡ Some d = sym (h.dues n) ∙ noted_is in cc);
+}
+  where
+    none_at : (n i : ℕ) → is_among n (list_at i (replicate (suc k) [])) ≡ false
+    none_at n i = ap (λ xs. is_among n xs) (list_at-alone i (suc k))
+
+pub swept_alone : (k moment left : ℕ) (l : Links) → AreMarks (suc k) l → IsSwept k moment left l
+swept_alone k moment left l h = record { lists = replicate (suc k) []; kept = kept_alone k moment left l h }
+
+-- the first m marks of k, as they are made
+pub record AreFirst (k m : ℕ) (ns : List Node) : Type 0 where
+  pub long : length ns ≡ m
+  pub next : (n : ℕ) → n < m → slice_index (map (λ (x : Node). x.next) ns) n ≡ (n + 1) % k
+  pub prev : (n : ℕ) → n < m → slice_index (map (λ (x : Node). x.prev) ns) n ≡ (n + (k - 1)) % k
+  pub dues : (n : ℕ) → due_at (map (λ (x : Node). x.due) ns) n ≡ None
+
+map-append : {A B : Type 0} (f : A → B) (xs ys : List A) → map f (xs ++ ys) ≡ map f xs ++ map f ys
+map-append f [] ys = refl
+map-append f (x ∷ xs) ys = ap (λ t. f x ∷ t) (map-append f xs ys)
+
+index_last : (xs : List ℕ) (x n : ℕ) → n ≡ length xs → slice_index (xs ++ x ∷ []) n ≡ x
+index_last [] x zero e = refl
+index_last [] x (suc n) e = absurd (omega arith)
+index_last (y ∷ xs) x zero e = absurd (omega arith)
+index_last (y ∷ xs) x (suc n) e = index_last xs x n (omega arith)
+
+none_behind : (dues : List (Option ℕ)) (n : ℕ) → ((i : ℕ) → due_at dues i ≡ None) → due_at (dues ++ None ∷ []) n ≡ None
+none_behind [] zero h = refl
+none_behind [] (suc n) h = refl
+none_behind (d ∷ dues) zero h = h 0
+none_behind (d ∷ dues) (suc n) h = none_behind dues n (λ i. h (suc i))
+
+index_pushed : (f : Node → ℕ) (g : ℕ → ℕ) (m : ℕ) (ns : List Node) (x : Node) → length ns ≡ m → f x ≡ g m → ((n : ℕ) → n < m → slice_index (map f ns) n ≡ g n) → (n : ℕ) → n < m + 1 → slice_index (map f (ns ++ x ∷ [])) n ≡ g n
+index_pushed f g m ns x long e h n small = ap (λ xs. slice_index xs n) (map-append f ns (x ∷ [])) ∙ go (cases_lt n m)
+  where
+    go : (n < m) ⊎ (m ≤ n) → slice_index (map f ns ++ f x ∷ []) n ≡ g n
+    go (inl less) = index-grown (map f ns) (f x ∷ []) n (omega (arith, length-map_own f ns)) ∙ h n less
+    go (inr more) = let same : m ≡ n = omega arith in index_last (map f ns) (f x) n (omega (arith, length-map_own f ns)) ∙ e ∙ ap g same
+
+pub first_pushed : (k m : ℕ) (ns all : List Node) (x : Node) → all ≡ ns ++ x ∷ [] → x.next ≡ (m + 1) % k → x.prev ≡ (m + (k - 1)) % k → x.due ≡ None → AreFirst k m ns → AreFirst k (m + 1) all
+first_pushed k m ns all x e en ep ed h = subst (λ ys. AreFirst k (m + 1) ys) (sym e) (record {
+  long = omega (arith, length-append ns (x ∷ []), h.long);
+  next = index_pushed (λ (y : Node). y.next) (λ i. (i + 1) % k) m ns x h.long en h.next;
+  prev = index_pushed (λ (y : Node). y.prev) (λ i. (i + (k - 1)) % k) m ns x h.long ep h.prev;
+  dues = λ n. ap (λ ds. due_at ds n) (map-append (λ (y : Node). y.due) ns (x ∷ [])) ∙ ap (λ d. due_at (map (λ (y : Node). y.due) ns ++ d ∷ []) n) ed ∙ none_behind (map (λ (y : Node). y.due) ns) n h.dues;
+})
+
+pub marks_of : (ns : List Node) → AreFirst 4097 4097 ns → AreMarks 4097 (links ns)
+marks_of ns h = record {
+  next_long = length-map_own (λ (x : Node). x.next) ns ∙ h.long;
+  prev_long = length-map_own (λ (x : Node). x.prev) ns ∙ h.long;
+  dues_long = length-map_own (λ (x : Node). x.due) ns ∙ h.long;
+  next = λ n small. h.next n (omega arith) ∙ omega arith;
+  last = λ n e. h.next n (omega arith) ∙ omega arith;
+  prev = λ n small. h.prev (suc n) small ∙ omega arith;
+  first = λ n e. h.prev 0 (omega arith) ∙ omega arith;
+  dues = h.dues;
+}
+
+-- more room
+
+due_at-none : (n i : ℕ) → due_at (replicate n None) i ≡ None
+due_at-none zero i = refl
+due_at-none (suc n) zero = refl
+due_at-none (suc n) (suc i) = due_at-none n i
+
+due_at-grown : (dues : List (Option ℕ)) (n i : ℕ) → due_at (dues ++ replicate n None) i ≡ due_at dues i
+due_at-grown [] n i = due_at-none n i
+due_at-grown (d ∷ dues) n zero = refl
+due_at-grown (d ∷ dues) n (suc i) = due_at-grown dues n i
+
+length-room : {A : Type 0} (n : ℕ) (x : A) → length (replicate n x) ≡ n
+length-room zero x = refl
+length-room (suc n) x = ap suc (length-room n x)
+
+chained_grown : (next prev : List ℕ) (n : ℕ) (lists : List (List ℕ)) → AreChained next prev lists → AreChained (next ++ replicate n 0) (prev ++ replicate n 0) lists
+chained_grown next prev n [] h = tt
+chained_grown next prev n (xs ∷ xss) h = ring_grown next prev (replicate n 0) (replicate n 0) 0 (xs ++ marked 1 xss) refl h
+
+pub swept_grown : (k moment left all : ℕ) (l : Links) → IsSwept k moment left l → IsSwept k moment left (grown all l)
+swept_grown k moment left all l s =
+    let a : AreKept k moment left l s.lists = s.kept in
+    let n : ℕ = all - length l.next in
+    let same : (i : ℕ) → due_at (l.dues ++ replicate n None) i ≡ due_at l.dues i = λ i. due_at-grown l.dues n i in
+    record {
+      lists = s.lists;
+      kept = record {
+        count = a.count;
+        ring = chained_grown l.next l.prev n s.lists a.ring;
+        dues_long = omega (arith, a.dues_long, length-append l.dues (replicate n None), length-append l.next (replicate n 0), length-room {A = Option ℕ} n None, length-room {A = ℕ} n 0);
+        marks = λ i small. same i ∙ a.marks i small;
+        kept = λ i m small. a.kept i m small ∙ sym (ap (λ o. stands_in k i (is_among m (list_at k s.lists)) o) (same m));
+        late = λ m among. ap (λ o. is_due moment o) (same m) ∙ a.late m among;
+        rest = λ m d out noted_is early. a.rest m d out (sym (same m) ∙ noted_is) early;
+      };
+    }

@@ -1,0 +1,8 @@
+use Rattle.tc_wheel.proofs.Turned.{fresh}
+use Rattle.tc_wheel.proofs.wheel.Wheel.new.Goals as goal
+
+pub invariant_of-result-2 : goal.invariant_of-result-2
+invariant_of-result-2 c = (fresh c.in_ok-nodes.nodes c.in_ok-nodes.ensures).0
+
+pub returns : goal.returns
+returns c = (fresh c.in_ok-nodes.nodes c.in_ok-nodes.ensures).1

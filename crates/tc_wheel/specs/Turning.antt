@@ -1,0 +1,17 @@
+-- The wheel as callers see it, and what is always true of it.
+use Rattle.std.specs.Prelude.{Option, ℕ, List, drop}
+use Rattle.tc_wheel.specs.Dues.{Dues}
+use Rattle.tc_wheel.specs.Kept.{IsSwept}
+use Rattle.tc_wheel.specs.declared.wheel.Wheel.TheInside.{Inside}
+
+-- the dues of slots: those of the nodes behind the marks
+unfoldable pub slot_dues : List (Option ℕ) → List (Option ℕ)
+slot_dues dues = drop 4097 dues
+
+-- what callers see
+abbrev pub dues_of : Inside → Dues
+dues_of w = record { moment = w.moment; dues = slot_dues w.nodes.dues }
+
+-- no second up to the wheel's moment is left to walk
+abbrev pub IsTurning : Inside → Type 0
+IsTurning w = IsSwept 4096 w.moment 0 w.nodes

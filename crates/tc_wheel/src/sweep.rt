@@ -1,0 +1,104 @@
+//! What is due moves from its bucket to the list of what is due.
+ghost use Rattle.std.specs.Prelude.{◌≡◌, ◌+◌, ◌-◌, ◌%◌, ◌<◌, ◌≤◌, length, slice_index, min, ℕ, false, true, MatchOption};
+ghost use Rattle.tc_model.specs.Ring.{HasPlace};
+ghost use Rattle.tc_wheel.specs.Links.{unlinked, linked_behind};
+ghost use Rattle.tc_wheel.specs.Kept.{list_of, IsSwept, IsNext};
+
+use crate::nodes::{BUCKETS, DUE, MARKS, Nodes};
+use tc_item::Moment;
+
+/// The bucket of the slots that are due at a second.
+fn bucket_of(second: u64) -> usize
+    ensures { result ≡ second % 4096 }
+{
+    (second % BUCKETS as u64) as usize
+}
+
+/// The list of what is due then, by the number of its mark.
+pub fn list_of(due: Moment, moment: Moment) -> usize
+    ensures { result ≡ list_of 4096 moment due }
+{
+    if due <= moment {
+        DUE
+    } else {
+        bucket_of(due.seconds())
+    }
+}
+
+/// Takes a node out of the ring.
+pub fn unlink(nodes: &mut Nodes, at: usize)
+    requires { HasPlace nodes.old.next nodes.old.prev at }
+    ensures { nodes.new ≡ unlinked at nodes.old }
+{
+    let node = nodes.node(at);
+    nodes.set_next(node.prev, node.next);
+    nodes.set_prev(node.next, node.prev);
+}
+
+/// Puts a node into the ring, behind another.
+pub fn link_behind(nodes: &mut Nodes, before: usize, at: usize)
+    requires before { before < length nodes.old.next }
+    requires within { at < length nodes.old.next }
+    requires after { slice_index nodes.old.next before < length nodes.old.next }
+    ensures { nodes.new ≡ linked_behind before at nodes.old }
+{
+    let after = nodes.node(before).next;
+    nodes.set_next(before, at);
+    nodes.set_prev(at, before);
+    nodes.set_next(at, after);
+    nodes.set_prev(after, at);
+}
+
+/// Walks the bucket of the second so many before a moment, and moves what is due at that moment.
+fn walk_bucket(nodes: &mut Nodes, moment: Moment, back: u64)
+    requires passed { back ≤ moment }
+    requires swept { IsSwept 4096 moment (back + 1) nodes.old }
+    ensures swept { IsSwept 4096 moment back nodes.new }
+    ensures dues { nodes.new.dues ≡ nodes.old.dues }
+{
+    let mut at = nodes.node(bucket_of(moment.seconds() - back)).next;
+    for _step in 0..nodes.slots() {
+        if at < MARKS {
+            return;
+        }
+        let next = nodes.node(at).next;
+        if nodes.is_due(at, moment) {
+            unlink(nodes, at);
+            link_behind(nodes, DUE, at);
+        }
+        at = next;
+    }
+}
+
+/// Walks the buckets of the seconds between two moments, each once: 4,096 at most.
+pub fn sweep(nodes: &mut Nodes, since: Moment, moment: Moment)
+    requires order { since ≤ moment }
+    requires swept { IsSwept 4096 since 0 nodes.old }
+    ensures swept { IsSwept 4096 moment 0 nodes.new }
+    ensures dues { nodes.new.dues ≡ nodes.old.dues }
+{
+    let passed = moment.seconds() - since.seconds();
+    let mut left = passed.min(BUCKETS as u64);
+    while left > 0 {
+        left -= 1;
+        walk_bucket(nodes, moment, left);
+    }
+}
+
+/// A node of the list of what is due at the wheel's moment that is due at another moment too.
+pub fn next_due(nodes: &Nodes, moment: Moment) -> Option<usize>
+    requires { (now : ℕ) × (moment ≤ now) × IsSwept 4096 now 0 nodes.now }
+    ensures { IsNext result moment nodes.now }
+{
+    let mut at = nodes.node(DUE).next;
+    for _step in 0..nodes.slots() {
+        if at < MARKS {
+            return None;
+        }
+        if nodes.is_due(at, moment) {
+            return Some(at);
+        }
+        at = nodes.node(at).next;
+    }
+    None
+}
