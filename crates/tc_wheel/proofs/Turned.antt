@@ -23,7 +23,7 @@ shown l moment = record { moment = moment; dues = slot_dues l.dues }
 pub dues_long : (moment left : ℕ) (l : Links) → IsSwept 4096 moment left l → 4097 ≤ length l.dues
 dues_long moment left l s = omega (arith, chain_length l.next l.prev s.lists s.kept.ring, s.kept.count, s.kept.dues_long)
 
-pub room_of : (l : Links) (moment : ℕ) (w : Dues) (slots : ℕ) → shown l moment ≡ w → IsSwept 4096 moment 0 l → slots + 4097 ≡ length l.next → slots ≡ length w.dues
+pub room_of : {left : ℕ} (l : Links) (moment : ℕ) (w : Dues) (slots : ℕ) → shown l moment ≡ w → IsSwept 4096 moment left l → slots + 4097 ≡ length l.next → slots ≡ length w.dues
 room_of l moment w slots e s long =
     let here : slots ≡ length (slot_dues l.dues) = omega (arith, length-slot_dues l.dues, s.kept.dues_long) in
     here ∙ ap (λ (v : Dues). length v.dues) e
@@ -34,7 +34,7 @@ due_at-beyond [] n h = refl
 due_at-beyond (d ∷ dues) zero h = absurd (omega arith)
 due_at-beyond (d ∷ dues) (suc n) h = due_at-beyond dues n (omega arith)
 
-pub beyond_held : (l : Links) (moment : ℕ) (w : Dues) (slot : ℕ) → shown l moment ≡ w → IsSwept 4096 moment 0 l → length l.next ≤ slot + 4097 → false ≡ holds slot w
+pub beyond_held : {left : ℕ} (l : Links) (moment : ℕ) (w : Dues) (slot : ℕ) → shown l moment ≡ w → IsSwept 4096 moment left l → length l.next ≤ slot + 4097 → false ≡ holds slot w
 beyond_held l moment w slot e s big =
     sym (ap is_some (due_at-slot_dues l.dues slot ∙ due_at-beyond l.dues (slot + 4097) (omega (arith, s.kept.dues_long)))) ∙ ap (λ (v : Dues). holds slot v) e
 
@@ -44,19 +44,19 @@ some_held l moment w slot at due b e ea ed eb =
 
 -- more room
 
-pub refused_if : (r : Result Unit NoMemory) (slots : ℕ) (l : Links) (moment : ℕ) (w : Dues) → OnErr r (length l.next < slots + 4097) → shown l moment ≡ w → IsSwept 4096 moment 0 l → OnErr r (length w.dues < slots)
+pub refused_if : {left : ℕ} (r : Result Unit NoMemory) (slots : ℕ) (l : Links) (moment : ℕ) (w : Dues) → OnErr r (length l.next < slots + 4097) → shown l moment ≡ w → IsSwept 4096 moment left l → OnErr r (length w.dues < slots)
 refused_if (Ok u) slots l moment w h v s = tt
-refused_if (Err e) slots l moment w h v s = omega (arith, h, length-slot_dues l.dues, s.kept.dues_long, dues_long moment 0 l s, ap (λ (x : Dues). length x.dues) v)
+refused_if (Err e) slots l moment w h v s = omega (arith, h, length-slot_dues l.dues, s.kept.dues_long, dues_long moment _ l s, ap (λ (x : Dues). length x.dues) v)
 
-pub reserved_if : (b : Bool) (slots : ℕ) (l m : Links) (moment : ℕ) (w : Dues) → m ≡ (if b then grown (slots + 4097) l else l) → shown l moment ≡ w → IsSwept 4096 moment 0 l
-    → IsSwept 4096 moment 0 m × (shown m moment ≡ (if b then reserved slots w else w))
-reserved_if false slots l m moment w e v s = (subst (λ (x : Links). IsSwept 4096 moment 0 x) (sym e) s, ap (λ (x : Links). shown x moment) e ∙ v)
-reserved_if true slots l m moment w e v s =
+pub reserved_if : {left : ℕ} (b : Bool) (slots : ℕ) (l m : Links) (moment : ℕ) (w : Dues) → m ≡ (if b then grown (slots + 4097) l else l) → shown l moment ≡ w → IsSwept 4096 moment left l
+    → IsSwept 4096 moment left m × (shown m moment ≡ (if b then reserved slots w else w))
+reserved_if {left} false slots l m moment w e v s = (subst (λ (x : Links). IsSwept 4096 moment left x) (sym e) s, ap (λ (x : Links). shown x moment) e ∙ v)
+reserved_if {left} true slots l m moment w e v s =
     let n : ℕ = slots + 4097 - length l.next in
-    let more : n ≡ slots - length (slot_dues l.dues) = omega (arith, length-slot_dues l.dues, s.kept.dues_long, dues_long moment 0 l s) in
+    let more : n ≡ slots - length (slot_dues l.dues) = omega (arith, length-slot_dues l.dues, s.kept.dues_long, dues_long moment _ l s) in
     let dues : slot_dues (l.dues ++ replicate n None) ≡ slot_dues l.dues ++ replicate (slots - length (slot_dues l.dues)) None
-    = slot_dues-append l.dues (replicate n None) (dues_long moment 0 l s) ∙ ap (λ i. slot_dues l.dues ++ replicate i None) more in (
-      subst (λ (x : Links). IsSwept 4096 moment 0 x) (sym e) (swept_grown 4096 moment 0 (slots + 4097) l s),
+    = slot_dues-append l.dues (replicate n None) (dues_long moment _ l s) ∙ ap (λ i. slot_dues l.dues ++ replicate i None) more in (
+      subst (λ (x : Links). IsSwept 4096 moment left x) (sym e) (swept_grown 4096 moment _ (slots + 4097) l s),
       ap (λ (x : Links). shown x moment) e ∙ ap (λ ds. (let d : Dues = record { moment = moment; dues = ds } in d)) dues ∙ ap (λ (x : Dues). reserved slots x) v,
     )
 
@@ -69,28 +69,28 @@ held_free l moment slot w v h = none_of (due_at l.dues (slot + 4097)) (ap is_som
     none_of None e = refl
     none_of (Some d) e = absurd (cc)
 
-pub slot_within : (l : Links) (moment slot : ℕ) (w : Dues) → shown l moment ≡ w → slot < length w.dues → IsSwept 4096 moment 0 l → slot + 4097 < length l.next
+pub slot_within : {left : ℕ} (l : Links) (moment slot : ℕ) (w : Dues) → shown l moment ≡ w → slot < length w.dues → IsSwept 4096 moment left l → slot + 4097 < length l.next
 slot_within l moment slot w v h s = omega (arith, h, length-slot_dues l.dues, s.kept.dues_long, ap (λ (x : Dues). length x.dues) v)
 
-pub list_place : (moment due list : ℕ) (l : Links) → list ≡ list_of 4096 moment due → IsSwept 4096 moment 0 l → HasPlace l.next l.prev list
+pub list_place : {left : ℕ} (moment due list : ℕ) (l : Links) → list ≡ list_of 4096 moment due → IsSwept 4096 moment left l → HasPlace l.next l.prev list
 list_place moment due list l e s = mark_place l.next l.prev list s.lists (omega (arith, s.kept.count, small (nat_le due moment), e)) s.kept.ring
   where
     small : (b : Bool) → cond b 4096 (due % 4096) ≤ 4096
     small true = omega arith
     small false = omega arith
 
-swept_added : (moment due at : ℕ) (l : Links) → 4096 < at → at < length l.next → due_at l.dues at ≡ None → IsSwept 4096 moment 0 l → IsSwept 4096 moment 0 (linked_behind (list_of 4096 moment due) at (noted at due l))
-swept_added moment due at l big within none s = go (nat_le due moment) refl
+swept_added : (left moment due at : ℕ) (l : Links) → 4096 < at → at < length l.next → due_at l.dues at ≡ None → IsSwept 4096 moment left l → IsSwept 4096 moment left (linked_behind (list_of 4096 moment due) at (noted at due l))
+swept_added left moment due at l big within none s = go (nat_le due moment) refl
   where
-    go : (b : Bool) → nat_le due moment ≡ b → IsSwept 4096 moment 0 (linked_behind (cond b 4096 (due % 4096)) at (noted at due l))
-    go true e = record { lists = fronted 4096 at s.lists; kept = kept_come 4096 moment 0 l s.lists at due big within none (leb-true due moment e) s.kept }
-    go false e = record { lists = fronted (due % 4096) at s.lists; kept = kept_later 4096 moment 0 l s.lists at due (omega arith) big within none (leb-false due moment e) s.kept }
+    go : (b : Bool) → nat_le due moment ≡ b → IsSwept 4096 moment left (linked_behind (cond b 4096 (due % 4096)) at (noted at due l))
+    go true e = record { lists = fronted 4096 at s.lists; kept = kept_come 4096 moment _ l s.lists at due big within none (leb-true due moment e) s.kept }
+    go false e = record { lists = fronted (due % 4096) at s.lists; kept = kept_later 4096 moment _ l s.lists at due (omega arith) big within none (leb-false due moment e) s.kept }
 
-pub added_by : (l m n : Links) (moment slot due list at : ℕ) (w : Dues) → at ≡ slot + 4097 → list ≡ list_of 4096 moment due → m ≡ noted at due l → n ≡ linked_behind list at m → shown l moment ≡ w → slot < length w.dues → holds slot w ≡ false → IsSwept 4096 moment 0 l
-    → IsSwept 4096 moment 0 n × (shown n moment ≡ added slot due w)
-added_by l m n moment slot due list at w ea g em en v room free s =
+pub added_by : {left : ℕ} (l m n : Links) (moment slot due list at : ℕ) (w : Dues) → at ≡ slot + 4097 → list ≡ list_of 4096 moment due → m ≡ noted at due l → n ≡ linked_behind list at m → shown l moment ≡ w → slot < length w.dues → holds slot w ≡ false → IsSwept 4096 moment left l
+    → IsSwept 4096 moment left n × (shown n moment ≡ added slot due w)
+added_by {left} l m n moment slot due list at w ea g em en v room free s =
     let is : n ≡ linked_behind (list_of 4096 moment due) (slot + 4097) (noted (slot + 4097) due l) = en ∙ ap (λ (x : Links). linked_behind list at x) em ∙ ap (λ i. linked_behind list i (noted i due l)) ea ∙ ap (λ j. linked_behind j (slot + 4097) (noted (slot + 4097) due l)) g in (
-      subst (λ (x : Links). IsSwept 4096 moment 0 x) (sym is) (swept_added moment due (slot + 4097) l (omega arith) (slot_within l moment slot w v room s) (held_free l moment slot w v free) s),
+      subst (λ (x : Links). IsSwept 4096 moment left x) (sym is) (swept_added _ moment due (slot + 4097) l (omega arith) (slot_within l moment slot w v room s) (held_free l moment slot w v free) s),
       ap (λ (x : Links). shown x moment) is ∙ ap (λ ds. (let d : Dues = record { moment = moment; dues = ds } in d)) (slot_dues-set l.dues slot (Some due)) ∙ ap (λ (x : Dues). added slot due x) v,
     )
 
@@ -100,21 +100,21 @@ pub record Holds (slot due : ℕ) (l : Links) : Type 0 where
   pub place : HasPlace l.next l.prev (slot + 4097)
   pub noted : due_at l.dues (slot + 4097) ≡ Some due
 
-pub held_due : (l : Links) (moment slot : ℕ) (w : Dues) → shown l moment ≡ w → holds slot w ≡ true → IsSwept 4096 moment 0 l → (due : ℕ) × Holds slot due l
+pub held_due : {left : ℕ} (l : Links) (moment slot : ℕ) (w : Dues) → shown l moment ≡ w → holds slot w ≡ true → IsSwept 4096 moment left l → (due : ℕ) × Holds slot due l
 held_due l moment slot w v h s = go (due_at l.dues (slot + 4097)) refl (ap is_some (sym (due_at-slot_dues l.dues slot)) ∙ ap (λ (x : Dues). holds slot x) v ∙ h)
   where
     go : (o : Option ℕ) → due_at l.dues (slot + 4097) ≡ o → is_some (due_at l.dues (slot + 4097)) ≡ true → (due : ℕ) × Holds slot due l
     go None e b = absurd (let f : false ≡ true = sym (ap is_some e) ∙ b in cc)
-    go (Some due) e b = (due, record { place = held_place 4096 moment 0 l s.lists (slot + 4097) due (omega arith) s.kept e; noted = e })
+    go (Some due) e b = (due, record { place = held_place 4096 moment _ l s.lists (slot + 4097) due (omega arith) s.kept e; noted = e })
 
 pub cut_within : (l m : Links) (at : ℕ) → m ≡ unlinked at l → at < length l.next → at < length m.next
 cut_within l m at e h = omega (arith, ap (λ (x : Links). length x.next) e, length-cut l.next l.prev at)
 
-pub removed_by : (l m n : Links) (moment slot due at : ℕ) → at ≡ slot + 4097 → m ≡ unlinked at l → n ≡ freed at m → due_at l.dues (slot + 4097) ≡ Some due → IsSwept 4096 moment 0 l
-    → IsSwept 4096 moment 0 n × (shown n moment ≡ removed slot (shown l moment))
-removed_by l m n moment slot due at ea em en e s =
+pub removed_by : {left : ℕ} (l m n : Links) (moment slot due at : ℕ) → at ≡ slot + 4097 → m ≡ unlinked at l → n ≡ freed at m → due_at l.dues (slot + 4097) ≡ Some due → IsSwept 4096 moment left l
+    → IsSwept 4096 moment left n × (shown n moment ≡ removed slot (shown l moment))
+removed_by {left} l m n moment slot due at ea em en e s =
     let is : n ≡ freed (slot + 4097) (unlinked (slot + 4097) l) = en ∙ ap (λ (x : Links). freed at x) em ∙ ap (λ i. freed i (unlinked i l)) ea in (
-      subst (λ (x : Links). IsSwept 4096 moment 0 x) (sym is) (record { lists = map (without_node (slot + 4097)) s.lists; kept = kept_removed 4096 moment 0 l s.lists (slot + 4097) due (omega arith) e s.kept }),
+      subst (λ (x : Links). IsSwept 4096 moment left x) (sym is) (record { lists = map (without_node (slot + 4097)) s.lists; kept = kept_removed 4096 moment _ l s.lists (slot + 4097) due (omega arith) e s.kept }),
       ap (λ (x : Links). shown x moment) is ∙ ap (λ ds. (let d : Dues = record { moment = moment; dues = ds } in d)) (slot_dues-set l.dues slot None),
     )
 
@@ -160,18 +160,18 @@ pub record Found (now at : ℕ) (m : Links) : Type 0 where
   pub slot : 4096 < at
   pub place : HasPlace m.next m.prev at
 
-pub found : (now moment at : ℕ) (m : Links) → IsNext (Some at) moment m → IsSwept 4096 now 0 m → Found now at m
+pub found : {left : ℕ} (now moment at : ℕ) (m : Links) → IsNext (Some at) moment m → IsSwept 4096 now left m → Found now at m
 found now moment at m e s =
     let d = some_due moment (due_at m.dues at) e in
     record {
       due = d.0;
       noted = d.1;
-      slot = behind_marks 4096 now 0 m s.lists at d.0 s.kept d.1;
-      place = held_place 4096 now 0 m s.lists at d.0 (omega arith) s.kept d.1;
+      slot = behind_marks 4096 now _ m s.lists at d.0 s.kept d.1;
+      place = held_place 4096 now _ m s.lists at d.0 (omega arith) s.kept d.1;
     }
 
-pub gives_some : (l m n o : Links) (since now moment at : ℕ) (w : Dues) → now ≡ max since moment → m.dues ≡ l.dues → IsNext (Some at) moment m → n ≡ unlinked at m → o ≡ freed at n → shown l since ≡ w → IsSwept 4096 now 0 m
-    → IsSwept 4096 now 0 o × Gives (Some (record { 0 = at - 4097 })) moment w (shown o now)
+pub gives_some : {left : ℕ} (l m n o : Links) (since now moment at : ℕ) (w : Dues) → now ≡ max since moment → m.dues ≡ l.dues → IsNext (Some at) moment m → n ≡ unlinked at m → o ≡ freed at n → shown l since ≡ w → IsSwept 4096 now left m
+    → IsSwept 4096 now left o × Gives (Some (record { 0 = at - 4097 })) moment w (shown o now)
 gives_some l m n o since now moment at w en em e un fr v s =
     let f : Found now at m = found now moment at m e s in
     let slot : ℕ = at - 4097 in

@@ -8,7 +8,7 @@ use Rattle.tc_model.proofs.Rings.{linked_split, IsSplit, split}
 use Rattle.tc_model.proofs.Chained.{among-append, without-found, append_nil, mark_place}
 use Rattle.tc_wheel.specs.Dues.{due_at, is_due}
 use Rattle.tc_wheel.specs.Links.{Links, linked_behind, unlinked, freed}
-use Rattle.tc_wheel.specs.Kept.{list_at, in_bucket, stands_in, Awaits, AreKept, IsSwept, IsNext}
+use Rattle.tc_wheel.specs.Kept.{list_at, in_bucket, stands_in, Awaits, AreKept, IsSwept, IsListed, IsNext}
 use Rattle.tc_wheel.proofs.Listed.{fronted_there, list_at-without, list_short, list_distinct, bucket_linked, last_linked, place_at}
 use Rattle.tc_wheel.proofs.Held.{kept_moved, kept_removed, length-cut, behind_marks, free_at}
 
@@ -276,33 +276,35 @@ walk_ends moment back slots step was l at all w =
     let low : (moment - back) % 4096 < 4096 = omega arith in
     bucket_done 4096 moment back (back + 1) ((moment - back) % 4096) slots step l at w.along (no_length w.along.ahead (omega (arith, w.along.short))) refl low refl
 
--- the walk of the list of what is due, by the steps of the code
+-- the walk of the list of what is due, by the steps of the code, whatever moment the nodes are kept for
 
 pub record Seeks (by slots step : ℕ) (l : Links) (at : ℕ) : Type 0 where
-  pub now : ℕ
-  pub order : by ≤ now
-  pub along : Along 4096 now 0 by 4096 0 slots step l at
+  pub along : (now left : ℕ) → IsSwept 4096 now left l → Along 4096 now left by 4096 0 slots step l at
 
-pub seek_starts : (by at slots : ℕ) (l : Links) → ((now : ℕ) × (by ≤ now) × IsSwept 4096 now 0 l) → at ≡ slice_index l.next 4096 → slots + 4097 ≡ length l.next → Seeks by slots 0 l at
-seek_starts by at slots l s e long = record { now = s.0; order = s.1; along = starts_last 4096 s.0 0 by slots at l long e s.2 }
+pub seek_starts : (by at slots : ℕ) (l : Links) → at ≡ slice_index l.next 4096 → slots + 4097 ≡ length l.next → Seeks by slots 0 l at
+seek_starts by at slots l e long = record { along = λ now left s. starts_last 4096 now left by slots at l long e s }
 
-pub seek_place : (by slots step : ℕ) (l : Links) (at : ℕ) → 4097 ≤ at → Seeks by slots step l at → HasPlace l.next l.prev at
-seek_place by slots step l at big s = ahead_place 4096 s.now 0 by 4096 0 slots step l at (omega arith) (omega arith) (omega arith) (omega arith) s.along
+pub seek_place : (now left by slots step : ℕ) (l : Links) (at : ℕ) → 4097 ≤ at → IsSwept 4096 now left l → Seeks by slots step l at → HasPlace l.next l.prev at
+seek_place now left by slots step l at big s h = ahead_place 4096 now left by 4096 0 slots step l at (omega arith) (omega arith) (omega arith) (omega arith) (h.along now left s)
 
 pub seek_over : (by slots step next : ℕ) (l : Links) (at : ℕ) → 4097 ≤ at → next ≡ slice_index l.next at → is_due by (due_at l.dues at) ≡ false → Seeks by slots step l at → Seeks by slots (step + 1) l next
-seek_over by slots step next l at big e late s = record {
-  now = s.now;
-  order = s.order;
-  along = along_over 4096 s.now 0 by 4096 0 slots step next l at e late (ahead_of 4096 s.now 0 by 4096 0 slots step l at (omega arith) (omega arith) s.along);
-}
+seek_over by slots step next l at big e late h =
+    record { along = λ now left s. along_over 4096 now left by 4096 0 slots step next l at e late (ahead_of 4096 now left by 4096 0 slots step l at (omega arith) (omega arith) (h.along now left s)) }
 
-pub seek_done : (by slots step : ℕ) (l : Links) (at : ℕ) → at < 4097 → Seeks by slots step l at → IsNext None by l
-seek_done by slots step l at small s =
-    let a = empty_ahead 4096 s.now 0 by 4096 0 slots step l at (omega arith) (omega arith) s.along in
-    none_due 4096 s.now by slots step l at a.0 a.1 s.order
+pub seek_done : (by slots step : ℕ) (l : Links) (at : ℕ) → at < 4097 → Seeks by slots step l at → IsListed None by l
+seek_done by slots step l at small h = λ now order s.
+    let a = empty_ahead 4096 now 0 by 4096 0 slots step l at (omega arith) (omega arith) (h.along now 0 s) in
+    none_due 4096 now by slots step l at a.0 a.1 order
 
-pub seek_ends : (by slots step : ℕ) (l : Links) (at : ℕ) → slots ≤ step → Seeks by slots step l at → IsNext None by l
-seek_ends by slots step l at all s = none_due 4096 s.now by slots step l at s.along (no_length s.along.ahead (omega (arith, s.along.short))) s.order
+pub seek_ends : (by slots step : ℕ) (l : Links) (at : ℕ) → slots ≤ step → Seeks by slots step l at → IsListed None by l
+seek_ends by slots step l at all h = λ now order s.
+    let a : Along 4096 now 0 by 4096 0 slots step l at = h.along now 0 s in
+    none_due 4096 now by slots step l at a (no_length a.ahead (omega (arith, a.short))) order
 
 pub mark_within : (k moment left : ℕ) (l : Links) (i : ℕ) → i < suc k → IsSwept k moment left l → i < length l.next
 mark_within k moment left l i small s = (mark_place l.next l.prev i s.lists (omega (arith, s.kept.count)) s.kept.ring).own
+
+-- all seconds are walked
+pub listed_next : (now by left : ℕ) (l : Links) (r : Option ℕ) → left ≡ 0 → by ≤ now → IsSwept 4096 now left l → IsListed r by l → IsNext r by l
+listed_next now by left l None e order s h = h now order (subst (λ n. IsSwept 4096 now n l) e s)
+listed_next now by left l (Some n) e order s h = h

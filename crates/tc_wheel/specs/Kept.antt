@@ -45,6 +45,11 @@ pub record IsSwept (k moment left : ℕ) (l : Links) : Type 0 where
   pub lists : List (List ℕ)
   pub kept : AreKept k moment left l lists
 
+-- a node that is due at a moment; or none, and none is due then once all seconds up to that moment are walked
+abbrev pub IsListed : Option ℕ → ℕ → Links → Type 0
+IsListed None moment l = (now : ℕ) → moment ≤ now → IsSwept 4096 now 0 l → (n : ℕ) → is_due moment (due_at l.dues n) ≡ false
+IsListed (Some n) moment l = is_due moment (due_at l.dues n) ≡ true
+
 -- a node that is due at a moment, or none where none is
 abbrev pub IsNext : Option ℕ → ℕ → Links → Type 0
 IsNext None moment l = (n : ℕ) → is_due moment (due_at l.dues n) ≡ false

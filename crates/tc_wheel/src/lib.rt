@@ -2,9 +2,9 @@
 //!
 //! Callers see a `Wheel` as a moment and, for each slot that has room, its due or nothing (`specs/Dues.antt`); the
 //! contracts are the equations of that file. All but `new` and `reserve` take no memory. `add` and `remove` are a fixed
-//! number of steps. `advance` walks a bucket once a revolution for each second that passed since the call before, so at
-//! most 4,096 buckets, and then takes the slot that it gives from a list of what is due. Nothing is said of which due
-//! slot comes first, nor of how the slots lie.
+//! number of steps. `advance` walks the buckets of the seconds that passed, the oldest first, each once and 4,096 at
+//! most, until one held what is due; the next call goes on from there. Nothing is said of which due slot comes first,
+//! nor of how the slots lie.
 #![tactic(auto)]
 
 mod nodes;

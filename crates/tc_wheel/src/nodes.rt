@@ -56,7 +56,7 @@ impl Nodes {
     pub fn new(alloc: Global) -> Result<Nodes, NoMemory>
         ensures { IfOk result (AreMarks 4097) }
     {
-        let mut nodes = Vec::new(alloc);
+        let mut nodes = Vec::with_capacity(alloc, MARKS)?;
         for mark in 0..MARKS {
             nodes.push(Node {
                 next: (mark + 1) % MARKS,

@@ -2,7 +2,7 @@
 ghost use Rattle.std.specs.Prelude.{◌≡◌, ◌+◌, ◌-◌, ◌%◌, ◌<◌, ◌≤◌, length, slice_index, min, ℕ, false, true, MatchOption};
 ghost use Rattle.tc_model.specs.Ring.{HasPlace};
 ghost use Rattle.tc_wheel.specs.Links.{unlinked, linked_behind};
-ghost use Rattle.tc_wheel.specs.Kept.{list_of, IsSwept, IsNext};
+ghost use Rattle.tc_wheel.specs.Kept.{list_of, IsSwept, IsListed, IsNext};
 
 use crate::nodes::{BUCKETS, DUE, MARKS, Nodes};
 use tc_item::Moment;
@@ -70,25 +70,10 @@ fn walk_bucket(nodes: &mut Nodes, moment: Moment, back: u64)
     }
 }
 
-/// Walks the buckets of the seconds between two moments, each once: 4,096 at most.
-pub fn sweep(nodes: &mut Nodes, since: Moment, moment: Moment)
-    requires order { since ≤ moment }
-    requires swept { IsSwept 4096 since 0 nodes.old }
-    ensures swept { IsSwept 4096 moment 0 nodes.new }
-    ensures dues { nodes.new.dues ≡ nodes.old.dues }
-{
-    let passed = moment.seconds() - since.seconds();
-    let mut left = passed.min(BUCKETS as u64);
-    while left > 0 {
-        left -= 1;
-        walk_bucket(nodes, moment, left);
-    }
-}
-
-/// A node of the list of what is due at the wheel's moment that is due at another moment too.
-pub fn next_due(nodes: &Nodes, moment: Moment) -> Option<usize>
-    requires { (now : ℕ) × (moment ≤ now) × IsSwept 4096 now 0 nodes.now }
-    ensures { IsNext result moment nodes.now }
+/// A node of the list of what is due that is due at a moment.
+fn next_due(nodes: &Nodes, moment: Moment) -> Option<usize>
+    requires { (now : ℕ) × (left : ℕ) × IsSwept 4096 now left nodes.now }
+    ensures { IsListed result moment nodes.now }
 {
     let mut at = nodes.node(DUE).next;
     for _step in 0..nodes.slots() {
@@ -101,4 +86,26 @@ pub fn next_due(nodes: &Nodes, moment: Moment) -> Option<usize>
         at = nodes.node(at).next;
     }
     None
+}
+
+/// A node that is due at a moment, not later than `now`, or `None` where none is. The buckets of the seconds up to `now`
+/// that are left to walk are walked until there is one. Between two of them the list of what is due is looked at: where
+/// the moment is `now`, its first is due, and else all of it is gone through.
+pub fn find_due(nodes: &mut Nodes, now: Moment, left: &mut u64, moment: Moment) -> Option<usize>
+    requires order { moment ≤ now }
+    requires passed { left.old ≤ now }
+    requires swept { IsSwept 4096 now left.old nodes.old }
+    ensures fewer { left.new ≤ left.old }
+    ensures swept { IsSwept 4096 now left.new nodes.new }
+    ensures dues { nodes.new.dues ≡ nodes.old.dues }
+    ensures found { IsNext result moment nodes.new }
+{
+    while *left > 0 {
+        if let Some(at) = next_due(nodes, moment) {
+            return Some(at);
+        }
+        *left -= 1;
+        walk_bucket(nodes, now, *left);
+    }
+    next_due(nodes, moment)
 }

@@ -4,18 +4,18 @@
 //! slot n is node n + 4,097. A list's front stands behind its mark, and its last before the next mark, so no list is
 //! ever empty in the ring and no call has a case for one.
 //!
-//! What is always true (`IsSwept` in `specs/Kept.antt`, where no second is left to walk):
+//! What is always true (`AreKept` in `specs/Kept.antt`):
 //! 1. `ring`: the marks, each with the nodes of its list behind it, are linked in this order, both ways.
 //! 2. `dues_long`: each node has a place for its due.
 //! 3. `marks`: no due is noted at a mark.
 //! 4. `kept`: a held slot stands in the list of what is due, or else in the bucket of its due modulo 4,096.
 //! 5. `late`: what stands in the list of what is due is due at the wheel's moment.
-//! 6. `rest`: what stands in a bucket is due later.
+//! 6. `rest`: what stands in a bucket is due later, or awaits one of the last seconds, whose buckets are left to walk.
 ghost use Rattle.std.specs.Prelude.{◌≡◌, ◌<◌, length, None, false, is_ok, IfOk, OnErr, if◌then◌else◌};
 ghost use Rattle.tc_wheel.specs.Dues.{no_dues, reserved, added, removed, holds, Gives};
 
-use crate::nodes::{MARKS, Nodes};
-use crate::sweep::{link_behind, list_of, next_due, sweep, unlink};
+use crate::nodes::{BUCKETS, MARKS, Nodes};
+use crate::sweep::{find_due, link_behind, list_of, unlink};
 use std::alloc::Global;
 use std::marker::Model;
 use tc_item::{Moment, NoMemory, Slot};
@@ -25,6 +25,8 @@ use tc_item::{Moment, NoMemory, Slot};
 pub struct Wheel {
     nodes: Nodes,
     moment: Moment,
+    /// How many of the last seconds are left to walk: 4,096 at most.
+    left: u64,
 }
 
 impl Model for Wheel {
@@ -48,6 +50,7 @@ impl Wheel {
         Ok(Wheel {
             nodes,
             moment: Moment::FIRST,
+            left: 0,
         })
     }
 
@@ -106,9 +109,10 @@ impl Wheel {
         ensures { Gives result moment self.old self.new }
     {
         let now = self.moment.later(moment);
-        sweep(&mut self.nodes, self.moment, now);
+        let passed = now.seconds() - self.moment.seconds();
+        self.left = (self.left + passed).min(BUCKETS as u64);
         self.moment = now;
-        match next_due(&self.nodes, moment) {
+        match find_due(&mut self.nodes, now, &mut self.left, moment) {
             Some(at) => {
                 unlink(&mut self.nodes, at);
                 self.nodes.free(at);

@@ -1,11 +1,11 @@
 use Rattle.std.proofs.Common.{◌≡◌, ◌≤◌}
 use Rattle.tc_wheel.specs.Kept.{IsSwept}
-use Rattle.tc_wheel.proofs.sweep.sweep.Given as goal
+use Rattle.tc_wheel.proofs.sweep.find_due.Given as goal
 
 abbrev pub invariant-loop-left : goal.invariant-loop-left
 invariant-loop-left l = record {
-  order : l.left ≤ l.moment;
-  swept : IsSwept 4096 l.moment l.left l.nodes;
+  fewer : l.left ≤ l.fn.left;
+  swept : IsSwept 4096 l.now l.left l.nodes;
   dues : l.nodes.dues ≡ l.fn.nodes.dues;
 }
 
