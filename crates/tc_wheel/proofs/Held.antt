@@ -13,6 +13,10 @@ use Rattle.tc_wheel.specs.Links.{Links, linked_behind, unlinked, noted, freed}
 use Rattle.tc_wheel.specs.Kept.{list_at, in_bucket, stands_in, Awaits, AreKept}
 use Rattle.tc_wheel.proofs.Listed.{fronted_here, fronted_there, length-fronted, list_at-without, length-without_all, among_own, among_other, away_marked, cut_at, place_at}
 
+-- it is the other number, or it is not
+abbrev Compared : ℕ → ℕ → Type 0
+Compared n m = (((n == m) ≡ true) × (n ≡ m)) ⊎ (((n == m) ≡ false) × (n ≢ m))
+
 -- writes to the dues
 
 pub due_own : (dues : List (Option ℕ)) (at : ℕ) (x : Option ℕ) → at < length dues → due_at (slice_set dues at x) at ≡ x
@@ -138,15 +142,15 @@ kept_removed k moment left l lists at due some e a =
     other : (i n : ℕ) → n ≢ at → is_among n (list_at i M) ≡ is_among n (list_at i lists)
     other i n ne = ap (λ xs. is_among n xs) (list_at-without i at lists) ∙ among_other at n (list_at i lists) ne
 
-    kept_one : (i n : ℕ) → i < k → (((n == at) ≡ true) × (n ≡ at)) ⊎ (((n == at) ≡ false) × (n ≢ at)) → is_among n (list_at i M) ≡ stands_in k i (is_among n (list_at k M)) (due_at D n)
+    kept_one : (i n : ℕ) → i < k → Compared n at → is_among n (list_at i M) ≡ stands_in k i (is_among n (list_at k M)) (due_at D n)
     kept_one i n small (inl p) = subst (λ z. is_among z (list_at i M) ≡ stands_in k i (is_among z (list_at k M)) (due_at D z)) (sym p.1) (own i ∙ sym (ap (λ o. stands_in k i (is_among at (list_at k M)) o) (due_freed l.dues at) ∙ stands_none k i (is_among at (list_at k M))))
     kept_one i n small (inr p) = other i n p.1 ∙ a.kept i n small ∙ sym (ap (λ b. stands_in k i b (due_at D n)) (other k n p.1) ∙ ap (λ o. stands_in k i (is_among n (list_at k lists)) o) (due_other l.dues at n None p.1))
 
-    late_one : (n : ℕ) → is_among n (list_at k M) ≡ true → (((n == at) ≡ true) × (n ≡ at)) ⊎ (((n == at) ≡ false) × (n ≢ at)) → is_due moment (due_at D n) ≡ true
+    late_one : (n : ℕ) → is_among n (list_at k M) ≡ true → Compared n at → is_due moment (due_at D n) ≡ true
     late_one n among (inl p) = absurd (let f : false ≡ true = sym (own k) ∙ sym (ap (λ z. is_among z (list_at k M)) p.1) ∙ among in cc)
     late_one n among (inr p) = ap (λ o. is_due moment o) (due_other l.dues at n None p.1) ∙ a.late n (sym (other k n p.1) ∙ among)
 
-    rest_one : (n d : ℕ) → is_among n (list_at k M) ≡ false → due_at D n ≡ Some d → d ≤ moment → (((n == at) ≡ true) × (n ≡ at)) ⊎ (((n == at) ≡ false) × (n ≢ at)) → Awaits k moment left d
+    rest_one : (n d : ℕ) → is_among n (list_at k M) ≡ false → due_at D n ≡ Some d → d ≤ moment → Compared n at → Awaits k moment left d
     rest_one n d out noted_is early (inl p) = absurd (let f : None ≡ Some d = sym (due_freed l.dues at) ∙ sym (ap (λ z. due_at D z) p.1) ∙ noted_is in cc)
     rest_one n d out noted_is early (inr p) = a.rest n d (sym (other k n p.1) ∙ out) (sym (due_other l.dues at n None p.1) ∙ noted_is) early
 
@@ -181,15 +185,15 @@ kept_come k moment left l lists at due big within none early a = record {
     other : (n : ℕ) → n ≢ at → is_among n (list_at k F) ≡ is_among n (list_at k lists)
     other n ne = ap (λ xs. is_among n xs) here ∙ among_behind n at (list_at k lists) ne
 
-    kept_one : (i n : ℕ) → i < k → (((n == at) ≡ true) × (n ≡ at)) ⊎ (((n == at) ≡ false) × (n ≢ at)) → is_among n (list_at i F) ≡ stands_in k i (is_among n (list_at k F)) (due_at D n)
+    kept_one : (i n : ℕ) → i < k → Compared n at → is_among n (list_at i F) ≡ stands_in k i (is_among n (list_at k F)) (due_at D n)
     kept_one i n small (inl p) = subst (λ z. is_among z (list_at i F) ≡ stands_in k i (is_among z (list_at k F)) (due_at D z)) (sym p.1) (ap (λ xs. is_among at xs) (there i small) ∙ free_at k moment left l lists at i a none (omega arith) ∙ sym (ap (λ b. stands_in k i b (due_at D at)) own))
     kept_one i n small (inr p) = ap (λ xs. is_among n xs) (there i small) ∙ a.kept i n small ∙ sym (ap (λ b. stands_in k i b (due_at D n)) (other n p.1) ∙ ap (λ o. stands_in k i (is_among n (list_at k lists)) o) (due_other l.dues at n (Some due) p.1))
 
-    late_one : (n : ℕ) → is_among n (list_at k F) ≡ true → (((n == at) ≡ true) × (n ≡ at)) ⊎ (((n == at) ≡ false) × (n ≢ at)) → is_due moment (due_at D n) ≡ true
+    late_one : (n : ℕ) → is_among n (list_at k F) ≡ true → Compared n at → is_due moment (due_at D n) ≡ true
     late_one n among (inl p) = subst (λ z. is_due moment (due_at D z) ≡ true) (sym p.1) (ap (λ o. is_due moment o) (due_own l.dues at (Some due) (omega (arith, a.dues_long))) ∙ le-leb due moment early)
     late_one n among (inr p) = ap (λ o. is_due moment o) (due_other l.dues at n (Some due) p.1) ∙ a.late n (sym (other n p.1) ∙ among)
 
-    rest_one : (n d : ℕ) → is_among n (list_at k F) ≡ false → due_at D n ≡ Some d → d ≤ moment → (((n == at) ≡ true) × (n ≡ at)) ⊎ (((n == at) ≡ false) × (n ≢ at)) → Awaits k moment left d
+    rest_one : (n d : ℕ) → is_among n (list_at k F) ≡ false → due_at D n ≡ Some d → d ≤ moment → Compared n at → Awaits k moment left d
     rest_one n d out noted_is early (inl p) = absurd (let f : true ≡ false = sym own ∙ sym (ap (λ z. is_among z (list_at k F)) p.1) ∙ out in cc)
     rest_one n d out noted_is early (inr p) = a.rest n d (sym (other n p.1) ∙ out) (sym (due_other l.dues at n (Some due) p.1) ∙ noted_is) early
 
@@ -206,9 +210,6 @@ kept_later k moment left l lists at due some big within none later a = record {
   rest = λ n d out noted_is early. rest_one n d out noted_is early (eqb_tells n at);
 }
   where
-    j : ℕ
-    j = due % k
-
     low : due % k < k
     low = omega arith
 
@@ -233,23 +234,23 @@ kept_later k moment left l lists at due some big within none later a = record {
     out_of_last : is_among at (list_at k F) ≡ false
     out_of_last = ap (λ xs. is_among at xs) last ∙ free_at k moment left l lists at k a none (omega arith)
 
-    own : (i : ℕ) → i < k → ((i == due % k) ≡ true) × (i ≡ due % k) ⊎ (((i == due % k) ≡ false) × (i ≢ due % k)) → is_among at (list_at i F) ≡ (due % k == i)
+    own : (i : ℕ) → i < k → Compared i (due % k) → is_among at (list_at i F) ≡ (due % k == i)
     own i small (inl p) = subst (λ z. is_among at (list_at z F) ≡ (due % k == z)) (sym p.1) (ap (λ xs. is_among at xs) here ∙ among_first at (list_at (due % k) lists) ∙ sym (eq-eqb (due % k) (due % k) refl))
     own i small (inr p) = ap (λ xs. is_among at xs) (there i p.1) ∙ free_at k moment left l lists at i a none (omega arith) ∙ sym (ne_eqb (due % k) i (λ e. p.1 (sym e)))
 
-    other : (i n : ℕ) → n ≢ at → ((i == due % k) ≡ true) × (i ≡ due % k) ⊎ (((i == due % k) ≡ false) × (i ≢ due % k)) → is_among n (list_at i F) ≡ is_among n (list_at i lists)
+    other : (i n : ℕ) → n ≢ at → Compared i (due % k) → is_among n (list_at i F) ≡ is_among n (list_at i lists)
     other i n ne (inl p) = subst (λ z. is_among n (list_at z F) ≡ is_among n (list_at z lists)) (sym p.1) (ap (λ xs. is_among n xs) here ∙ among_behind n at (list_at (due % k) lists) ne)
     other i n ne (inr p) = ap (λ xs. is_among n xs) (there i p.1)
 
-    kept_one : (i n : ℕ) → i < k → (((n == at) ≡ true) × (n ≡ at)) ⊎ (((n == at) ≡ false) × (n ≢ at)) → is_among n (list_at i F) ≡ stands_in k i (is_among n (list_at k F)) (due_at D n)
+    kept_one : (i n : ℕ) → i < k → Compared n at → is_among n (list_at i F) ≡ stands_in k i (is_among n (list_at k F)) (due_at D n)
     kept_one i n small (inl p) = subst (λ z. is_among z (list_at i F) ≡ stands_in k i (is_among z (list_at k F)) (due_at D z)) (sym p.1) (own i small (eqb_tells i (due % k)) ∙ sym (ap (λ b. stands_in k i b (due_at D at)) out_of_last ∙ ap (λ o. in_bucket k i o) new_due))
     kept_one i n small (inr p) = other i n p.1 (eqb_tells i (due % k)) ∙ a.kept i n small ∙ sym (ap (λ b. stands_in k i b (due_at D n)) (ap (λ xs. is_among n xs) last) ∙ ap (λ o. stands_in k i (is_among n (list_at k lists)) o) (due_other l.dues at n (Some due) p.1))
 
-    late_one : (n : ℕ) → is_among n (list_at k F) ≡ true → (((n == at) ≡ true) × (n ≡ at)) ⊎ (((n == at) ≡ false) × (n ≢ at)) → is_due moment (due_at D n) ≡ true
+    late_one : (n : ℕ) → is_among n (list_at k F) ≡ true → Compared n at → is_due moment (due_at D n) ≡ true
     late_one n among (inl p) = absurd (let f : false ≡ true = sym out_of_last ∙ sym (ap (λ z. is_among z (list_at k F)) p.1) ∙ among in cc)
     late_one n among (inr p) = ap (λ o. is_due moment o) (due_other l.dues at n (Some due) p.1) ∙ a.late n (sym (ap (λ xs. is_among n xs) last) ∙ among)
 
-    rest_one : (n d : ℕ) → is_among n (list_at k F) ≡ false → due_at D n ≡ Some d → d ≤ moment → (((n == at) ≡ true) × (n ≡ at)) ⊎ (((n == at) ≡ false) × (n ≢ at)) → Awaits k moment left d
+    rest_one : (n d : ℕ) → is_among n (list_at k F) ≡ false → due_at D n ≡ Some d → d ≤ moment → Compared n at → Awaits k moment left d
     rest_one n d out noted_is early (inl p) = absurd (let f : Some due ≡ Some d = sym new_due ∙ sym (ap (λ z. due_at D z) p.1) ∙ noted_is in let same : due ≡ d = cc in omega arith)
     rest_one n d out noted_is early (inr p) = a.rest n d (sym (ap (λ xs. is_among n xs) last) ∙ out) (sym (due_other l.dues at n (Some due) p.1) ∙ noted_is) early
 
