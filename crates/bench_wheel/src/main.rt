@@ -88,7 +88,11 @@ fn turn(wheel: &mut Wheel, second: u32, slots: u32) -> u32 {
     let now = moment(u64::from(second));
     for given in 0..slots {
         match wheel.advance(now) {
-            Some(slot) => add(wheel, slot, later(second, slot.0 as u64 ^ u64::from(second))),
+            Some(slot) => add(
+                wheel,
+                slot,
+                later(second, slot.0 as u64 ^ u64::from(second)),
+            ),
             None => return given,
         }
     }

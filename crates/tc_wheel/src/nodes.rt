@@ -1,5 +1,5 @@
 //! The nodes of the ring, by number. The first 4,097 are marks; slot n is node n + 4,097.
-ghost use Rattle.std.specs.Prelude.{◌≡◌, ◌+◌, ◌<◌, ◌≤◌, ◌^◌, length, Some, slice_index, slice_set, is_ok, IfOk, OnErr, if◌then◌else◌};
+ghost use Rattle.std.specs.Prelude.{◌≡◌, ◌+◌, ◌<◌, ◌^◌, length, slice_index, slice_set, is_ok, IfOk, OnErr, if◌then◌else◌};
 ghost use Rattle.tc_wheel.specs.Dues.{due_at, is_due};
 ghost use Rattle.tc_wheel.specs.Links.{grown, noted, freed, AreMarks};
 

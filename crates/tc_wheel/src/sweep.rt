@@ -1,5 +1,5 @@
 //! What is due moves from its bucket to the list of what is due.
-ghost use Rattle.std.specs.Prelude.{◌≡◌, ◌+◌, ◌-◌, ◌%◌, ◌<◌, ◌≤◌, length, slice_index, min, ℕ, false, true, MatchOption};
+ghost use Rattle.std.specs.Prelude.{◌≡◌, ℕ, ◌+◌, ◌%◌, ◌<◌, ◌≤◌, length, slice_index};
 ghost use Rattle.tc_model.specs.Ring.{HasPlace};
 ghost use Rattle.tc_wheel.specs.Links.{unlinked, linked_behind};
 ghost use Rattle.tc_wheel.specs.Kept.{list_of, IsSwept, IsListed, IsNext};

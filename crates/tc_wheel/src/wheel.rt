@@ -11,7 +11,7 @@
 //! 4. `kept`: a held slot stands in the list of what is due, or else in the bucket of its due modulo 4,096.
 //! 5. `late`: what stands in the list of what is due is due at the wheel's moment.
 //! 6. `rest`: what stands in a bucket is due later, or awaits one of the last seconds, whose buckets are left to walk.
-ghost use Rattle.std.specs.Prelude.{◌≡◌, ◌<◌, length, None, false, is_ok, IfOk, OnErr, if◌then◌else◌};
+ghost use Rattle.std.specs.Prelude.{◌≡◌, ◌<◌, length, false, is_ok, IfOk, OnErr, if◌then◌else◌};
 ghost use Rattle.tc_wheel.specs.Dues.{no_dues, reserved, added, removed, holds, Gives};
 
 use crate::nodes::{BUCKETS, MARKS, Nodes};
