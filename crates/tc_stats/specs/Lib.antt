@@ -1,1 +1,2 @@
 pub mod HitLists
+pub mod Counting
