@@ -2,13 +2,19 @@
 //! spare. A call that meets a refused allocation is made again.
 ghost use Rattle.std.specs.Prelude.{◌≤◌, OnOk};
 
+mod table;
+
 use super::*;
 use std::alloc::Global;
 use std::process::Abort;
 use std::test::Fail;
+use table::{
+    ANSWERED, BEFORE_A_LOGIN, COUNTERS, FAULTS, LOGINS, LOOK_UPS, NOT_DONE, REFUSALS, REPLIES,
+    ROWS, STREAM,
+};
 use tc_grammar::{Command, Line, parse_line};
 use tc_item::{Blob, Key, NoMemory};
-use tc_stats::{Hit, Hits, Outcome};
+use tc_stats::{Hit, Hits, Outcome, Statistics};
 use tc_users::{Text, UserSpec, Users};
 
 /// A row of a user.
@@ -95,6 +101,20 @@ fn talk(alloc: Global, session: &mut Session, users: &Users) -> Result<Want, NoM
     Ok(Want::Nothing)
 }
 
+/// Says a piece and all that the connection answers on its own; the first call or end is what is given.
+fn expect_said(
+    rt: &(impl AllocGlobal + Abort),
+    session: &mut Session,
+    users: &Users,
+    said: &str,
+    reply: &str,
+) -> Result<Want, NoMemory> {
+    push(session, said)?;
+    let want = talk(rt.alloc(), session, users)?;
+    assert_eq!(rt; session.out(), reply.as_bytes(), "{said:?}");
+    Ok(want)
+}
+
 /// An outcome that a command can come to, where nothing is held.
 fn outcome_of(command: &Command) -> Outcome {
     match command {
@@ -168,26 +188,10 @@ fn expect_reply(
 #[test]
 fn a_login_binds_to_the_user_whose_name_and_token_it_has(rt: HostRuntime) -> Result<(), Fail> {
     let users = users(rt.alloc())?;
-    let failure = "CLIENT_ERROR authentication failure\r\n";
-    for (said, reply, user) in [
-        ("set x 0 0 9\r\nalice one\r\n", "STORED\r\n", 1),
-        ("set y 7 -1 7\r\nbob two\r\n", "STORED\r\n", 2),
-        ("set y 7 -1 8\r\nbob zwei\r\n", "STORED\r\n", 2),
-        ("set x 0 0 9 noreply\r\nalice one\r\n", "", 1),
-        ("set x 0 0 9\r\nalice two\r\n", failure, 0),
-        ("set x 0 0 9\r\ncarol one\r\n", failure, 0),
-        ("set x 0 0 10\r\nalice zwei\r\n", failure, 0),
-        ("set x 0 0 10\r\nalice one \r\n", failure, 0),
-        ("set x 0 0 10\r\nalice  one\r\n", failure, 0),
-        ("set x 0 0 5\r\nalice\r\n", failure, 0),
-        ("set x 0 0 0\r\n\r\n", failure, 0),
-        ("set x 0 0 9 noreply\r\nalice two\r\n", "", 0),
-    ] {
+    for (said, reply, user) in &LOGINS {
         let mut session = Session::new(rt.alloc());
-        push(&mut session, said)?;
-        let _ = talk(rt.alloc(), &mut session, &users)?;
-        assert_eq!(rt; session.out(), reply.as_bytes(), "{said:?}");
-        assert_eq!(rt; owner(rt.alloc(), &mut session, &users)?, user, "{said:?}");
+        let _ = expect_said(&rt, &mut session, &users, said, reply)?;
+        assert_eq!(rt; owner(rt.alloc(), &mut session, &users)?, *user, "{said:?}");
     }
     Ok(())
 }
@@ -195,34 +199,9 @@ fn a_login_binds_to_the_user_whose_name_and_token_it_has(rt: HostRuntime) -> Res
 #[test]
 fn nothing_but_a_login_is_done_before_it(rt: HostRuntime) -> Result<(), Fail> {
     let users = users(rt.alloc())?;
-    let denied = "CLIENT_ERROR unauthenticated\r\n";
-    for (said, reply) in [
-        ("get k\r\n", denied),
-        ("stats\r\n", denied),
-        ("add x 0 0 9\r\nalice one\r\n", denied),
-        ("cas x 0 0 9 1\r\nalice one\r\n", denied),
-        (
-            "add x 0 0 9\r\nalice one..",
-            "CLIENT_ERROR bad data chunk\r\n",
-        ),
-        ("delete k noreply\r\n", ""),
-        ("bogus\r\n", "ERROR\r\n"),
-        ("set k\r\n", "CLIENT_ERROR bad command line format\r\n"),
-        (
-            "incr k x noreply\r\n",
-            "CLIENT_ERROR invalid numeric delta argument\r\n",
-        ),
-        (
-            "set x 0 0 257\r\nalice one\r\n",
-            "SERVER_ERROR object too large for cache\r\n",
-        ),
-        ("set x 0 0 257 noreply\r\nalice one\r\n", ""),
-        ("set x 0 0 256\r\nalice one\r\n", ""),
-    ] {
+    for (said, reply) in &BEFORE_A_LOGIN {
         let mut session = Session::new(rt.alloc());
-        push(&mut session, said)?;
-        let _ = talk(rt.alloc(), &mut session, &users)?;
-        assert_eq!(rt; session.out(), reply.as_bytes(), "{said:?}");
+        let _ = expect_said(&rt, &mut session, &users, said, reply)?;
     }
     Ok(())
 }
@@ -240,36 +219,36 @@ fn a_bound_connection_stays_its_users(rt: HostRuntime) -> Result<(), Fail> {
     Ok(())
 }
 
-#[test]
-fn a_bound_connection_says_its_faults_on_its_own(rt: HostRuntime) -> Result<(), Fail> {
+/// Says each line on a connection of alice's, which answers it on its own.
+fn expect_answered(rt: &(impl AllocGlobal + Abort), lines: &[(&str, &str)]) -> Result<(), Fail> {
     let users = users(rt.alloc())?;
-    for (said, reply) in [
-        ("bogus\r\n", "ERROR\r\n"),
-        ("get\r\n", "CLIENT_ERROR bad command line format\r\n"),
-        ("set k 0 0 1\r\nabc", "CLIENT_ERROR bad data chunk\r\n"),
-        ("set k 0 0 1 noreply\r\nabc", ""),
-        (
-            "set k 0 0 1048577\r\n",
-            "SERVER_ERROR object too large for cache\r\n",
-        ),
-    ] {
+    for (said, reply) in lines {
         let mut session = alice(rt.alloc(), &users)?;
-        push(&mut session, said)?;
-        assert!(rt; matches!(talk(rt.alloc(), &mut session, &users)?, Want::Nothing));
-        assert_eq!(rt; session.out(), reply.as_bytes(), "{said:?}");
+        let want = expect_said(rt, &mut session, &users, said, reply)?;
+        assert!(rt; matches!(want, Want::Nothing), "{said:?}");
     }
     Ok(())
+}
+
+#[test]
+fn a_bound_connection_says_its_faults_on_its_own(rt: HostRuntime) -> Result<(), Fail> {
+    expect_answered(&rt, &FAULTS)
+}
+
+/// A connection that is new, or alice's.
+fn opened(alloc: Global, users: &Users, bound: bool) -> Result<Session, NoMemory> {
+    if bound {
+        alice(alloc, users)
+    } else {
+        Ok(Session::new(alloc))
+    }
 }
 
 #[test]
 fn a_line_too_long_is_answered_and_closes(rt: HostRuntime) -> Result<(), Fail> {
     let users = users(rt.alloc())?;
     for bound in [false, true] {
-        let mut session = if bound {
-            alice(rt.alloc(), &users)?
-        } else {
-            Session::new(rt.alloc())
-        };
+        let mut session = opened(rt.alloc(), &users, bound)?;
         for _ in 0..65_536 {
             push(&mut session, "x")?;
         }
@@ -286,11 +265,7 @@ fn a_line_too_long_is_answered_and_closes(rt: HostRuntime) -> Result<(), Fail> {
 fn quit_closes_with_no_reply_and_nothing_is_read_after_it(rt: HostRuntime) -> Result<(), Fail> {
     let users = users(rt.alloc())?;
     for bound in [false, true] {
-        let mut session = if bound {
-            alice(rt.alloc(), &users)?
-        } else {
-            Session::new(rt.alloc())
-        };
+        let mut session = opened(rt.alloc(), &users, bound)?;
         assert!(rt; !session.is_closed());
         push(&mut session, "quit\r\nversion\r\n")?;
         assert!(rt; matches!(next(rt.alloc(), &mut session, &users)?, Want::Close));
@@ -306,94 +281,51 @@ fn quit_closes_with_no_reply_and_nothing_is_read_after_it(rt: HostRuntime) -> Re
 #[test]
 fn each_outcome_has_its_reply(rt: HostRuntime) -> Result<(), Fail> {
     let users = users(rt.alloc())?;
-    for (line, outcome, reply) in &[
-        ("set k 0 0 1", Outcome::Stored, "STORED\r\n"),
-        ("set k 0 0 1 noreply", Outcome::Stored, ""),
-        ("add k 0 0 1", Outcome::NotStored, "NOT_STORED\r\n"),
-        ("cas k 0 0 1 5", Outcome::Exists, "EXISTS\r\n"),
-        ("cas k 0 0 1 5", Outcome::NotFound, "NOT_FOUND\r\n"),
-        (
-            "set k 0 0 1",
-            Outcome::TooLarge,
-            "SERVER_ERROR object too large for cache\r\n",
-        ),
-        (
-            "incr k 1",
-            Outcome::CasWorn,
-            "SERVER_ERROR cas numbers exhausted\r\n",
-        ),
-        (
-            "incr k 1",
-            Outcome::Number(u64::MAX),
-            "18446744073709551615\r\n",
-        ),
-        ("decr k 1", Outcome::Number(0), "0\r\n"),
-        (
-            "incr k 1",
-            Outcome::NotNumeric,
-            "CLIENT_ERROR cannot increment or decrement non-numeric value\r\n",
-        ),
-        ("delete k", Outcome::Deleted, "DELETED\r\n"),
-        ("touch k 5", Outcome::Touched, "TOUCHED\r\n"),
-        ("flush_all", Outcome::Done, "OK\r\n"),
-        ("verbosity 1", Outcome::Done, "OK\r\n"),
-        ("verbosity 1 noreply", Outcome::Done, ""),
-        ("version", Outcome::Version, "VERSION 1.0.0-partcached\r\n"),
-        ("version", Outcome::Stored, ""),
-    ] {
+    for (line, outcome, reply) in &REPLIES {
         let command = command_of(rt.alloc(), line)?;
         expect_reply(&rt, &users, &command, outcome, reply)?;
     }
     Ok(())
 }
 
+/// A hit.
+fn hit(alloc: Global, name: &str, data: &str, flags: u32, cas: u64) -> Result<Hit, NoMemory> {
+    let key = Key::new(alloc, name.as_bytes()).map_err(|_| NoMemory)?;
+    let blob = Blob::new(alloc, Vec::from_slice(alloc, data.as_bytes())?)?;
+    Ok(Hit {
+        key,
+        flags,
+        blob,
+        cas,
+    })
+}
+
 /// Two hits, one of them of a block that looks like a reply's end.
 fn try_hits(alloc: Global) -> Result<Hits, NoMemory> {
     let mut hits = Hits::new();
-    for (name, data, flags, cas) in [
-        (
-            "a",
-            "\r\nEND\r\n",
-            4_294_967_295,
-            18_446_744_073_709_551_615,
-        ),
-        ("b", "", 0, 1),
-    ] {
-        let key = Key::new(alloc, name.as_bytes()).map_err(|_| NoMemory)?;
-        let blob = Blob::new(alloc, Vec::from_slice(alloc, data.as_bytes())?)?;
-        hits.push(
-            alloc,
-            Hit {
-                key,
-                flags,
-                blob,
-                cas,
-            },
-        )?;
-    }
+    hits.push(alloc, hit(alloc, "a", "\r\nEND\r\n", u32::MAX, u64::MAX)?)?;
+    hits.push(alloc, hit(alloc, "b", "", 0, 1)?)?;
     Ok(hits)
 }
 
 #[test]
 fn hits_are_shown_in_order_with_cas_numbers_where_asked(rt: HostRuntime) -> Result<(), Fail> {
-    let users = users(rt.alloc())?;
     let hits = match try_hits(rt.alloc()) {
         Ok(hits) => hits,
         Err(NoMemory) => try_hits(rt.alloc())?,
     };
     let outcome = Outcome::Values(hits);
-    let bare = "VALUE a 4294967295 7\r\n\r\nEND\r\n\r\nVALUE b 0 0\r\n\r\nEND\r\n";
-    let with_cas = "VALUE a 4294967295 7 18446744073709551615\r\n\r\nEND\r\n\r\n\
-        VALUE b 0 0 1\r\n\r\nEND\r\n";
-    for (line, reply) in [
-        ("get a b", bare),
-        ("gets a b", with_cas),
-        ("gat 0 a b", bare),
-        ("gats 0 a b", with_cas),
-    ] {
+    let users = users(rt.alloc())?;
+    for (line, reply) in &LOOK_UPS {
         let command = command_of(rt.alloc(), line)?;
         expect_reply(&rt, &users, &command, &outcome, reply)?;
     }
+    Ok(())
+}
+
+#[test]
+fn a_look_up_that_finds_nothing_is_answered_with_the_end(rt: HostRuntime) -> Result<(), Fail> {
+    let users = users(rt.alloc())?;
     let command = command_of(rt.alloc(), "get a")?;
     expect_reply(
         &rt,
@@ -406,13 +338,17 @@ fn hits_are_shown_in_order_with_cas_numbers_where_asked(rt: HostRuntime) -> Resu
 }
 
 #[test]
+fn stats_shows_the_rows_and_the_end(rt: HostRuntime) -> Result<(), Fail> {
+    let users = users(rt.alloc())?;
+    let outcome = Outcome::Stats(Statistics::new(rt.alloc(), COUNTERS)?);
+    expect_reply(&rt, &users, &Command::Stats, &outcome, ROWS)?;
+    Ok(())
+}
+
+#[test]
 fn a_refusal_is_said_unless_the_line_is_quiet(rt: HostRuntime) -> Result<(), Fail> {
     let users = users(rt.alloc())?;
-    for (line, reply) in [
-        ("get k", "SERVER_ERROR out of memory\r\n"),
-        ("set k 0 0 1", "SERVER_ERROR out of memory\r\n"),
-        ("set k 0 0 1 noreply", ""),
-    ] {
+    for (line, reply) in &REFUSALS {
         let command = command_of(rt.alloc(), line)?;
         let mut session = Session::new(rt.alloc());
         let _ = next(rt.alloc(), &mut session, &users)?;
@@ -445,32 +381,16 @@ fn what_was_sent_is_given_up_and_the_rest_waits(rt: HostRuntime) -> Result<(), F
 #[test]
 fn a_connection_cut_anywhere_is_sent_the_same_bytes(rt: HostRuntime) -> Result<(), Fail> {
     let users = users(rt.alloc())?;
-    let stream = "get k\r\n\
-        set x 0 0 9\r\nalice two\r\n\
-        set x 0 0 9\r\nalice one\r\n\
-        set k 0 0 7\r\n\r\nEND\r\n\r\n\
-        set k 0 0 7\r\nbob two\r\n\
-        set k 0 0 9 noreply\r\nquit\r\nget\r\n\
-        get k\r\n\
-        gets k l\r\n\
-        version\r\n\
-        verbosity 1\r\n\
-        quit\r\n\
-        version\r\n";
-    let wanted = "CLIENT_ERROR unauthenticated\r\n\
-        CLIENT_ERROR authentication failure\r\n\
-        STORED\r\nSTORED\r\nSTORED\r\n\
-        END\r\nEND\r\n\
-        VERSION 1.0.0-partcached\r\nOK\r\n";
+    let stream = STREAM.as_bytes();
     for cut in 0..=stream.len() {
         let mut session = Session::new(rt.alloc());
-        for piece in [&stream.as_bytes()[..cut], &stream.as_bytes()[cut..]] {
+        for piece in [&stream[..cut], &stream[cut..]] {
             if session.push(piece).is_err() {
                 session.push(piece)?;
             }
             converse(rt.alloc(), &mut session, &users)?;
         }
-        assert_eq!(rt; session.out(), wanted.as_bytes(), "cut at {cut}");
+        assert_eq!(rt; session.out(), ANSWERED.as_bytes(), "cut at {cut}");
         assert!(rt; session.is_closed(), "cut at {cut}");
     }
     Ok(())
@@ -480,28 +400,5 @@ fn a_connection_cut_anywhere_is_sent_the_same_bytes(rt: HostRuntime) -> Result<(
 fn a_bound_command_that_no_cache_does_yet_is_answered_as_unknown(
     rt: HostRuntime,
 ) -> Result<(), Fail> {
-    let users = users(rt.alloc())?;
-    for (said, reply) in [
-        ("add k 0 0 1\r\nx\r\n", "ERROR\r\n"),
-        ("replace k 0 0 1\r\nx\r\n", "ERROR\r\n"),
-        ("append k 0 0 1\r\nx\r\n", "ERROR\r\n"),
-        ("prepend k 0 0 1\r\nx\r\n", "ERROR\r\n"),
-        ("cas k 0 0 1 1\r\nx\r\n", "ERROR\r\n"),
-        ("delete k\r\n", "ERROR\r\n"),
-        ("incr k 1\r\n", "ERROR\r\n"),
-        ("touch k 1\r\n", "ERROR\r\n"),
-        ("gat 1 k\r\n", "ERROR\r\n"),
-        ("flush_all\r\n", "ERROR\r\n"),
-        ("stats\r\n", "ERROR\r\n"),
-        ("flush_all noreply\r\n", ""),
-    ] {
-        let mut session = alice(rt.alloc(), &users)?;
-        push(&mut session, said)?;
-        assert!(rt;
-            matches!(next(rt.alloc(), &mut session, &users)?, Want::Said),
-            "{said:?}"
-        );
-        assert_eq!(rt; session.out(), reply.as_bytes(), "{said:?}");
-    }
-    Ok(())
+    expect_answered(&rt, &NOT_DONE)
 }
