@@ -28,5 +28,6 @@ mod verb;
 pub use command::{Command, Form, Head, StoreKind, Way};
 pub use fault::Fault;
 pub use line::Line;
+pub use number::read_number;
 pub use parse::parse_line;
 pub use spelling::each_line_spells_one_thing;

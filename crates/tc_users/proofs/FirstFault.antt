@@ -65,7 +65,7 @@ All-slice_get P [] i h = tt
 All-slice_get P (x ∷ xs) zero h = h zero x (omega arith)
 All-slice_get P (x ∷ xs) (suc i) h = All-slice_get P xs i (λ k d lt. h (suc k) d (omega arith))
 
-cond-none_else : {A : Type 0} (b : Bool) (x : A) (o : Option A) → cond b (Some x) o ≡ None → (b ≡ false) × (o ≡ None)
+pub cond-none_else : {A : Type 0} (b : Bool) (x : A) (o : Option A) → cond b (Some x) o ≡ None → (b ≡ false) × (o ≡ None)
 cond-none_else true x o e = grind arith
 cond-none_else false x o e = (refl, e)
 

@@ -1,3 +1,4 @@
 pub mod LoginData
 pub mod FirstFault
+pub mod ChangedRows
 pub mod UserTables

@@ -2,3 +2,4 @@ pub mod Login
 pub mod Faults
 pub mod Fields
 pub mod SettingsTable
+pub mod Changes

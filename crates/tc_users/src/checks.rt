@@ -119,6 +119,13 @@ pub fn check_largest(user: u32, found: i128) -> Result<(), SettingsFault>
     Err(SettingsFault::LargestRange { user, found })
 }
 
+/// Whether this many bytes are a largest item.
+pub fn check_largest_item(user: u32, largest: u64) -> Result<(), SettingsFault>
+    ensures { result_err result ≡ largest_fault user (pos largest) }
+{
+    check_largest(user, i128::from(largest))
+}
+
 /// The place of the first row of this name.
 fn find_name(rows: &[UserSpec], name: &[u8]) -> Option<usize>
     ensures { result ≡ position (λ other. bytes_eq other.name name.now) rows.now }
@@ -148,11 +155,11 @@ fn check_row(user: u32, row: &UserSpec) -> Result<(), SettingsFault>
     check_token(Field::Token(user), row.token.as_bytes())?;
     check_budget(user, i128::from(row.budget))?;
     check_second(user, row.token.as_bytes(), &row.second)?;
-    check_largest(user, i128::from(row.largest))
+    check_largest_item(user, row.largest)
 }
 
 /// Whether the row that comes after these is good.
-fn check_user(before: &[UserSpec], row: &UserSpec) -> Result<(), SettingsFault>
+pub fn check_user(before: &[UserSpec], row: &UserSpec) -> Result<(), SettingsFault>
     requires { length before.now + 1 < 2 ^ 32 }
     ensures { result_err result ≡ user_fault before.now row.now }
 {

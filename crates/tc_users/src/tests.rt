@@ -409,3 +409,31 @@ fn rows_are_refused_by_their_first_fault(rt: HostRuntime) -> Result<(), Fail> {
     assert_eq!(rt; build_one(rt.alloc(), most)?.err(), want);
     Ok(())
 }
+
+#[test]
+fn a_table_is_built_row_by_row(rt: HostRuntime) -> Result<(), Fail> {
+    let alloc = rt.alloc();
+    let mut users = Users::new(alloc);
+    users.push(row(alloc, "alice", "one")?)?;
+    users.set_second(UserNo::new(1), text_of(alloc, "uno")?)?;
+    users.set_largest(UserNo::new(1), 3)?;
+    let alice = users.spec(UserNo::new(1)).ok_or("no user")?;
+    assert_eq!(rt; alice.largest, 3);
+    assert_eq!(rt; users.login(b"alice uno"), Some(UserNo::new(1)));
+    Ok(())
+}
+
+#[test]
+fn a_table_refuses_what_would_be_a_fault(rt: HostRuntime) -> Result<(), Fail> {
+    let alloc = rt.alloc();
+    let mut users = Users::new(alloc);
+    users.push(row(alloc, "alice", "one")?)?;
+    let again = users.push(row(alloc, "alice", "two")?);
+    assert!(rt; again == Err(SettingsFault::SameName { user: 2, first: 1 }));
+    let same = users.set_second(UserNo::new(1), text_of(alloc, "one")?);
+    assert!(rt; same == Err(SettingsFault::SameToken { user: 1 }));
+    let none = users.set_largest(UserNo::new(1), 0);
+    assert!(rt; none == Err(SettingsFault::LargestRange { user: 1, found: 0 }));
+    assert_eq!(rt; users.len(), 1);
+    Ok(())
+}

@@ -1,5 +1,5 @@
 //! The users' tables of a settings text.
-ghost use Rattle.std.specs.Prelude.{◌≡◌, ◌<◌, ◌+◌, ◌^◌, [], ◌∷◌, ◌++◌, length, map, option_copied, IfOk, IfErr, OnOk};
+ghost use Rattle.std.specs.Prelude.{◌≡◌, ◌<◌, ◌+◌, ◌^◌, [], ◌∷◌, ◌++◌, length, map, option_copied, IfOk, IfErr, OnOk, OnErr};
 ghost use Rattle.std.specs.Result.{result_err};
 ghost use Rattle.toml.specs.View.{view};
 ghost use Rattle.tc_users.specs.Faults.{fault_after};
@@ -108,8 +108,10 @@ fn read_user(alloc: Global, before: &[UserSpec], table: &Value) -> Result<UserSp
     })
 }
 
-fn push_row(rows: &mut Vec<UserSpec>, row: UserSpec) -> Result<(), NoMemory>
-    ensures { OnOk result (rows.new.items ≡ rows.old.items ++ row ∷ []) }
+/// One more row, behind the others.
+pub fn push_row(rows: &mut Vec<UserSpec>, row: UserSpec) -> Result<(), NoMemory>
+    ensures pushed { OnOk result (rows.new.items ≡ rows.old.items ++ row ∷ []) }
+    ensures unchanged_on_err { OnErr result (rows.new.items ≡ rows.old.items) }
 {
     Ok(rows.push(row)?)
 }

@@ -1,14 +1,18 @@
 //! The table of users.
-ghost use Rattle.std.specs.Prelude.{◌≡◌, ◌<◌, ◌+◌, ◌≤◌, ◌^◌, ◌∷◌, ◌++◌, ◌||◌, length, suc, option_map, option_copied, IfSome, IfOk, All, List, ℕ};
+ghost use Rattle.std.specs.Prelude.{◌≡◌, ◌<◌, ◌+◌, ◌≤◌, ◌^◌, ◌∷◌, ◌++◌, ◌||◌, [], length, suc, option_map, option_copied, IfSome, IfOk, IfErr, OnOk, OnErr, None, pos, All, List, ℕ};
 ghost use Rattle.std.specs.Result.{result_err};
 ghost use Rattle.std.specs.Str.{bytes_eq};
 ghost use Rattle.tc_model.specs.Place.{first_place};
 ghost use Rattle.tc_model.specs.Connection.{user_at};
-ghost use Rattle.tc_users.specs.Faults.{first_fault, IsSoundRow};
+ghost use Rattle.tc_users.specs.Faults.{first_fault, largest_fault, IsSoundRow};
+ghost use Rattle.tc_users.specs.SettingsTable.{IsFirstOrRefused};
+ghost use Rattle.tc_users.specs.Changes.{second_fault_of, with_second, with_largest};
 ghost use Rattle.tc_users.specs.Login.{login_data, opens_second, opens};
 
-use crate::checks::check_rows;
+use crate::checks::{check_largest_item, check_other_token, check_rows, check_user};
+use crate::user_table::push_row;
 use crate::{SettingsFault, Text, UserNo};
+use std::alloc::Global;
 use std::marker::Model;
 
 /// A user's row.
@@ -92,6 +96,15 @@ fn find_row(rows: &[UserSpec], text: &[u8]) -> Option<usize>
 }
 
 impl Users {
+    /// A table with no users.
+    pub fn new(alloc: Global) -> Users
+        ensures { result ≡ [] }
+    {
+        Users {
+            rows: Vec::new(alloc),
+        }
+    }
+
     /// The users of these rows, or the first fault of the rows; no rows are good too.
     pub fn build(rows: Vec<UserSpec>) -> Result<Users, SettingsFault>
         ensures users { IfOk result (λ users. users ≡ rows.items) }
@@ -110,6 +123,51 @@ impl Users {
         ensures { result ≡ rows.items }
     {
         Users { rows }
+    }
+
+    /// Puts a user's row behind the others. It answers the first fault that the table with the row
+    /// has, or want of memory, and is then as it was.
+    pub fn push(&mut self, row: UserSpec) -> Result<(), SettingsFault>
+        ensures pushed { OnOk result (self.new ≡ self.old ++ row ∷ []) }
+        ensures faultless { OnOk result (first_fault (self.old ++ row ∷ []) ≡ None) }
+        ensures fault { IfErr result (IsFirstOrRefused (first_fault (self.old ++ row ∷ []))) }
+        ensures unchanged_on_err { OnErr result (self.new ≡ self.old) }
+    {
+        let count = self.len();
+        if count >= u32::MAX as usize {
+            return Err(SettingsFault::TooManyUsers { found: count + 1 });
+        }
+        check_user(&self.rows, &row)?;
+        push_row(&mut self.rows, row)?;
+        Ok(())
+    }
+
+    /// Gives a user this second token, in place of one that the user may have. It answers why it is
+    /// no second token, and changes nothing then.
+    pub fn set_second(&mut self, user: UserNo, second: Text) -> Result<(), SettingsFault>
+        requires known { (0 < user) × (user ≤ length self.now) }
+        ensures set { OnOk result (self.new ≡ with_second self.old user second) }
+        ensures fault { result_err result ≡ second_fault_of self.old user second }
+        ensures unchanged_on_err { OnErr result (self.new ≡ self.old) }
+    {
+        let row = &mut self.rows[user.number() as usize - 1];
+        check_other_token(user.number(), row.token.as_bytes(), second.as_bytes())?;
+        row.second = Some(second);
+        Ok(())
+    }
+
+    /// Lets a user's items have at most this many bytes of data. It answers why they may not, and
+    /// changes nothing then.
+    pub fn set_largest(&mut self, user: UserNo, largest: u64) -> Result<(), SettingsFault>
+        requires known { (0 < user) × (user ≤ length self.now) }
+        ensures set { OnOk result (self.new ≡ with_largest self.old user largest) }
+        ensures fault { result_err result ≡ largest_fault user (pos largest) }
+        ensures unchanged_on_err { OnErr result (self.new ≡ self.old) }
+    {
+        let row = &mut self.rows[user.number() as usize - 1];
+        check_largest_item(user.number(), largest)?;
+        row.largest = largest;
+        Ok(())
     }
 
     /// How many users there are.

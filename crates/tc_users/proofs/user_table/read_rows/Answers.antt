@@ -13,7 +13,7 @@ loop-table-preserved c =
     let rest = map view (drop (i + 1) tables) in
     let more = map-view-drop tables i c.table-item.result c.loop-table-test.true c.table-item.is in
     let good = ap (λ b. user_fault_in b user) (sym c.deref.ensures.value) ∙ c.in_ok-row.ensures.faultless in
-    rw (c.in_ok-push_row.ensures, c.in_ok-row.ensures.row) (record {
+    rw (c.in_ok-push_row.ensures.pushed, c.in_ok-row.ensures.row) (record {
       fault = c.loop-table.invariant.fault ∙ users_fault_after-past rows user rest _ more good;
       rows = c.loop-table.invariant.rows ∙ rows-past rows user rest _ more;
       good = fault_after-push [] rows _ c.loop-table.invariant.good (user_fault-row_in rows user good);

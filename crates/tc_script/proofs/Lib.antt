@@ -1,0 +1,5 @@
+pub mod Unescaping
+pub mod Cuts
+pub mod Walks
+pub mod TakenLines
+pub mod Ends

@@ -1,0 +1,87 @@
+//! What a script asks for, done.
+ghost use Rattle.std.specs.Prelude.{◌≡◌, ℕ, ◌∷◌, [], IfOk, OnOk, replicate};
+ghost use Rattle.std.specs.List.{flat_map};
+ghost use Rattle.tc_model.specs.Connection.{Act as ActHappening};
+ghost use Rattle.tc_model.specs.Server.{steps_from, On};
+ghost use Rattle.tc_core.specs.Serving.{serving};
+ghost use Rattle.tc_script.specs.Playing.{steps_of, outputs_for};
+
+use crate::action::Action;
+use crate::script::Script;
+use std::alloc::Global;
+use tc_core::{Outputs, Server, Step, fresh_caches};
+use tc_item::NoMemory;
+use tc_plain::Cache;
+
+/// A byte so many times over.
+fn filled(alloc: Global, count: u32, byte: u8) -> Result<Vec<u8>, NoMemory>
+    ensures { IfOk result (λ bytes. bytes.items ≡ replicate count byte) }
+{
+    let mut bytes = Vec::new(alloc);
+    bytes.resize(count as usize, byte)?;
+    Ok(bytes)
+}
+
+/// A connection's next requests, so many.
+fn act_often<C: Cache>(
+    server: &mut Server<C>,
+    alloc: Global,
+    connection: u32,
+    count: u32,
+) -> Result<(), NoMemory>
+    ensures users { server.new.users ≡ server.old.users }
+    ensures world { OnOk result (server.new.world ≡ steps_from serving server.old.users server.old.world (replicate count (On connection ActHappening))) }
+{
+    for _ in 0..count {
+        server.step(alloc, &Step::Act(connection))?;
+    }
+    Ok(())
+}
+
+/// One action.
+fn perform<C: Cache>(server: &mut Server<C>, alloc: Global, action: &Action) -> Result<(), NoMemory>
+    ensures users { server.new.users ≡ server.old.users }
+    ensures world { OnOk result (server.new.world ≡ steps_from serving server.old.users server.old.world (steps_of action.now)) }
+{
+    match action {
+        Action::Open(connection) => server.step(alloc, &Step::Open(*connection)),
+        Action::Piece(connection, bytes) => {
+            server.step(alloc, &Step::Piece(*connection, bytes.as_bytes()))
+        }
+        Action::Fill(connection, count, byte) => {
+            let bytes = filled(alloc, *count, *byte)?;
+            server.step(alloc, &Step::Piece(*connection, &bytes))
+        }
+        Action::Act(connection, count) => act_often(server, alloc, *connection, *count),
+        Action::Shut(connection) => server.step(alloc, &Step::Shut(*connection)),
+        Action::Tick(moment) => server.step(alloc, &Step::Tick(*moment)),
+        Action::Keep(user, limit) => server.step(alloc, &Step::Maintain(*user, *limit)),
+    }
+}
+
+/// All of a script's actions, in order.
+fn perform_all<C: Cache>(
+    server: &mut Server<C>,
+    alloc: Global,
+    actions: &[Action],
+) -> Result<(), NoMemory>
+    ensures users { server.new.users ≡ server.old.users }
+    ensures world { OnOk result (server.new.world ≡ steps_from serving server.old.users server.old.world (flat_map steps_of actions.now)) }
+{
+    for action in actions {
+        perform(server, alloc, action)?;
+    }
+    Ok(())
+}
+
+/// Does what a script asks for, from the beginning, each user with an empty cache, and gives what
+/// each connection was sent. It stops at the first refusal of memory.
+pub fn play(alloc: Global, script: Script) -> Result<Outputs, NoMemory>
+    ensures outputs { IfOk result (λ outputs. outputs ≡ outputs_for script) }
+{
+    let (users, actions) = script.into_parts();
+    let caches = fresh_caches(alloc, &users)?;
+    let mut server = Server::new(alloc, users, caches);
+    perform_all(&mut server, alloc, &actions)?;
+    server.outputs(alloc)
+}

@@ -1,0 +1,85 @@
+//! A script from a reader, run, and printed to a writer.
+ghost use Rattle.std.specs.Prelude.{◌≡◌, IfSome, IfOk, IfErr, OnOk};
+ghost use Rattle.std.specs.Io.KnownBytes.{Appends};
+ghost use Rattle.tc_script.specs.Plans.{reading_of};
+ghost use Rattle.tc_script.specs.Refusing.{IsFaultOf};
+ghost use Rattle.tc_script.specs.Answering.{ended_of, IsPrintOf, IsUnread, IsEndOf, IsUnwritten};
+
+use crate::playing::play;
+use crate::printing::print;
+use crate::script::{Script, ScriptFault};
+use std::alloc::Global;
+use std::io::{self, ErrorKind, Read, Write};
+
+/// How the run of a script ends.
+#[derive(Clone, Copy, Debug, PartialEq, Eq)]
+pub enum Ended {
+    /// It was run, and its output written.
+    Done,
+    /// This line, counted from 1, is the first that is refused. Nothing was run or written.
+    BadLine(u64),
+    /// Memory was refused. Nothing was written.
+    NoMemory,
+    /// Reading or writing failed; part of the output may be written.
+    Stream,
+}
+
+/// How the run of a text that is no script ends.
+fn ended_by(fault: ScriptFault) -> Ended
+    ensures { result ≡ ended_of fault }
+{
+    match fault {
+        ScriptFault::BadLine(number) => Ended::BadLine(number),
+        ScriptFault::NoMemory => Ended::NoMemory,
+    }
+}
+
+/// All bytes that a reader has left.
+fn read_all<R: Read>(alloc: Global, input: &mut R) -> Result<Vec<u8>, Ended>
+    ensures text { IfOk result (λ text. IfSome (R.remaining input.old) (λ bytes. text.items ≡ bytes)) }
+    ensures fault { IfErr result IsUnread }
+{
+    let mut text = Vec::new(alloc);
+    match input.read_to_end(&mut text) {
+        Ok(_) => Ok(text),
+        Err(error) if error.kind() == ErrorKind::OutOfMemory => Err(Ended::NoMemory),
+        Err(_) => Err(Ended::Stream),
+    }
+}
+
+/// What the run of a script prints.
+fn run_text(alloc: Global, text: &[u8]) -> Result<Vec<u8>, ScriptFault>
+    ensures printed { IfOk result (λ printed. IsPrintOf text.now printed.items) }
+    ensures fault { IfErr result (IsFaultOf (reading_of text.now)) }
+{
+    let script = Script::read(alloc, text)?;
+    let outputs = play(alloc, script)?;
+    Ok(print(alloc, &outputs)?)
+}
+
+/// Writes all bytes, down to where the writer writes to.
+fn write_out<W: Write>(out: &mut W, text: &[u8]) -> io::Result<()>
+    ensures { OnOk result (Appends (W.contents out.old) (W.contents out.new) text.now) }
+{
+    out.write_all(text)?;
+    out.flush()
+}
+
+/// Reads a script, runs it on a server of its own from the beginning, and writes a line for each
+/// opened connection, by rising number: `conn <c> <open|closed> =<all bytes sent, escaped>`.
+pub fn run_script<R: Read, W: Write>(alloc: Global, input: &mut R, out: &mut W) -> Ended
+    ensures ended { IfSome (R.remaining input.old) (λ text. IsEndOf text (W.contents out.old) (W.contents out.new) result) }
+    ensures unwritten { IsUnwritten (W.contents out.old) (W.contents out.new) result }
+{
+    let text = match read_all(alloc, input) {
+        Ok(text) => text,
+        Err(ended) => return ended,
+    };
+    match run_text(alloc, &text) {
+        Err(fault) => ended_by(fault),
+        Ok(printed) => match write_out(out, &printed) {
+            Ok(()) => Ended::Done,
+            Err(_) => Ended::Stream,
+        },
+    }
+}
