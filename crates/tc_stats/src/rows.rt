@@ -1,7 +1,7 @@
 //! A user's counters as the rows of `stats`.
-ghost use Rattle.std.specs.Prelude.{◌≡◌, ◌+◌, ◌*◌, ◌<◌, ◌≤◌, ◌++◌, IsTrue, nat_le, codes, decimal, map, length, vec_len, vec_capacity, OnOk, OnErr};
+ghost use Rattle.std.specs.Prelude.{◌≡◌, ◌+◌, ◌*◌, ◌<◌, ◌≤◌, ◌++◌, IsTrue, nat_le, decimal, map, length, vec_len, vec_capacity, OnOk, OnErr};
 ghost use Rattle.std.specs.List.{flat_map, list_all};
-ghost use Rattle.tc_stats.specs.StatsRows.{version_text, named_numbers, row_of, number_row, stats_rows};
+ghost use Rattle.tc_stats.specs.StatsRows.{named_numbers, row_of, stats_rows};
 
 use crate::Counters;
 use itoa::Buffer;
