@@ -21,6 +21,7 @@ pub record Plan : Type 0 where
   -- what is done, in order
   pub actions : List Action
 
+-- no line yet
 abbrev pub no_plan : Plan
 no_plan = record { users = []; sized = []; actions = [] }
 
@@ -45,6 +46,7 @@ with_second_for p user token (Some row) =
     if is_some row.second then None
     else unless_fault (second_fault user row.token (Some token)) (record p { users = with_second p.users user token })
 
+-- the same, of the user with this number
 abbrev pub with_second_line : Plan → ℕ → List ℕ → Option Plan
 with_second_line p user token = with_second_for p user token (user_at p.users user)
 
@@ -55,6 +57,7 @@ with_largest_for p user most (Some row) =
     if list_any (λ u. u == user) p.sized then None
     else unless_fault (largest_fault user (pos most)) (record p { users = with_largest p.users user most; sized = p.sized ++ user ∷ [] })
 
+-- the same, of the user with this number
 abbrev pub with_largest_line : Plan → ℕ → ℕ → Option Plan
 with_largest_line p user most = with_largest_for p user most (user_at p.users user)
 

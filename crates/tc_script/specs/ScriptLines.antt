@@ -67,6 +67,7 @@ abbrev pub act_by : List ℕ → Option (List ℕ × List ℕ) → Option Action
 act_by rest None = act_once rest
 act_by rest (Some a) = act_often a
 
+-- act <c> [n]
 abbrev pub act_line : List ℕ → Option Action
 act_line rest = act_by rest (first_field rest)
 

@@ -195,6 +195,12 @@ fn expect_whole(rt: &impl Abort, alloc: Global, script: &[u8], wanted: &[u8]) {
 }
 
 #[test]
+fn an_empty_script_prints_nothing(rt: HostRuntime) -> Result<(), Fail> {
+    expect_whole(&rt, rt.alloc(), b"", b"");
+    Ok(())
+}
+
+#[test]
 fn nobody_is_told_which_names_there_are(rt: HostRuntime) -> Result<(), Fail> {
     let script =
         b"user alice one 65536\nopen 1\npiece 1 set a 0 0 9\\r\\nalice two\\r\\nset a 0 0 9\\r\\ncarol one\\r\\nget k\\r\\nset a 0 0 9\\r\\nalice one\\r\\nget k\\r\\n\nact 1 5";
