@@ -20,5 +20,5 @@ mod tests;
 
 pub use cache::Cache;
 pub use entry::Entry;
-pub use laws::advancing;
+pub use laws::{advancing, advancing_whole, freshness, soundness};
 pub use plain::Plain;
