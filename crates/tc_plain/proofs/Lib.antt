@@ -9,3 +9,10 @@ pub mod Cells
 pub mod Sound
 pub mod Stays
 mod WorkedRows
+pub mod Gone
+pub mod Weighed
+pub mod TakenOut
+pub mod Dropping
+pub mod Used
+pub mod Shown
+pub mod Asked

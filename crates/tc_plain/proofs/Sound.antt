@@ -85,7 +85,7 @@ sound_at_moment m l h = go (is_flush_due l.flush m)
     go false = (sound_kept l.limits l.areas (lives m) h, refl)
 
 -- where its key's entry is taken out or wasn't there, one more makes one
-once_put : (limits : Limits) (e : Entry) (a : Areas Entry) → AreSound limits a → (key : List ℕ) → count_under key (put_in limits e a) ≤ 1
+pub once_put : (limits : Limits) (e : Entry) (a : Areas Entry) → AreSound limits a → (key : List ℕ) → count_under key (put_in limits e a) ≤ 1
 once_put limits e a h key = go (held e.key a) refl (has_key key e) refl
   where
     go : (o : Option Entry) → held e.key a ≡ o → (b : Bool) → has_key key e ≡ b → count_under key (cond (is_some o) (accessed weight limits (has_key e.key) e a) (at_front e a)) ≤ 1

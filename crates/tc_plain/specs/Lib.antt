@@ -12,3 +12,4 @@ pub mod Acting
 pub mod Cell
 pub mod Freshness
 pub mod Soundness
+pub mod AreaLists

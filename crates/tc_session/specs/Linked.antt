@@ -1,5 +1,5 @@
 -- A connection as contracts see it. Source: this project's own.
-use Rattle.std.specs.Prelude.{ℕ, List}
+use Rattle.std.specs.Prelude.{ℕ, ◌+◌, ◌≤◌, List}
 use Rattle.tc_model.specs.Connection.{Phase, Unbound, Bound, Closed, Endpoint, Want, Nothing, Said, Call, Close}
 use Rattle.tc_grammar.specs.declared.command.Command.{Command}
 use Rattle.tc_session.specs.declared.session.Stage.{Stage}
@@ -8,7 +8,7 @@ use Rattle.tc_session.specs.declared.want.Want.{Want as WantCode}
 use Rattle.tc_session.specs.declared.want.Want.TheVariants.{Nothing as IsNothing, Said as IsSaid, Call as IsCall, Close as IsClose}
 use Rattle.tc_grammar.specs.declared.fault.Fault.{Fault}
 use Rattle.tc_grammar.specs.declared.fault.Fault.TheVariants.{LineTooLong}
-use Rattle.tc_session.specs.Talking.{talking}
+use Rattle.tc_session.specs.Talking.{talking, unbound_limit, bound_limit}
 
 -- the phase of a stage
 abbrev pub phase_of : Stage → Phase
@@ -38,3 +38,9 @@ fault_phase fault phase = phase
 abbrev pub fault_want : Fault → Want Command
 fault_want LineTooLong = Close
 fault_want fault = Said
+
+-- where no whole request is there, a longest line and all but a byte of its block and its line end are unread at most; a closed connection reads no more
+abbrev pub KeepsAtMost : Phase → ℕ → Type 0
+KeepsAtMost Unbound unread = unread ≤ unbound_limit + 65538
+KeepsAtMost (Bound user) unread = unread ≤ bound_limit + 65538
+KeepsAtMost Closed unread = Unit {0}

@@ -8,9 +8,11 @@ use Rattle.tc_grammar.specs.declared.command.Form.TheVariants.{Bare, WithCas}
 use Rattle.tc_grammar.specs.declared.command.Command.{Command}
 use Rattle.tc_grammar.specs.declared.command.Command.TheVariants.{Store, Get, Gat, Delete, Count, Touch, Flush, Stats as AskStats, Version as AskVersion, Verbosity, Quit}
 use Rattle.tc_grammar.specs.declared.fault.Fault.TheVariants.{TooLarge as TooLargeFault, NotNumeric as NotNumericFault, CasWorn as CasWornFault}
+use Rattle.tc_stats.specs.declared.counters.Counters.{Counters}
 use Rattle.tc_stats.specs.declared.hits.Hit.{Hit}
 use Rattle.tc_stats.specs.declared.outcome.Outcome.{Outcome}
 use Rattle.tc_stats.specs.declared.outcome.Outcome.TheVariants.{Stored, NotStored, Exists, NotFound, Deleted, Touched, Number, Values, Done, Stats, Version, TooLarge, NotNumeric, CasWorn}
+use Rattle.tc_stats.specs.StatsRows.{version_text, stats_rows}
 use Rattle.tc_session.specs.Texts.{line_end, fault_line, unless_quiet}
 
 -- the line has `noreply`
@@ -57,6 +59,7 @@ can_end (Count way key value quiet) CasWorn = true
 can_end (Touch key exptime quiet) Touched = true
 can_end (Touch key exptime quiet) NotFound = true
 can_end (Flush delay quiet) Done = true
+can_end AskStats (Stats counters) = true
 can_end AskVersion Version = true
 can_end (Verbosity level quiet) Done = true
 can_end command outcome = false
@@ -84,7 +87,11 @@ value_text form hit = value_line form hit ++ (hit.blob ++ line_end)
 unfoldable pub values_text : Form → List Hit → List ℕ
 values_text form hits = flat_map (value_text form) hits ++ codes "END\r\n"
 
--- the reply to an outcome; the counters of stats are not written
+-- the rows of all counters, and END
+unfoldable pub stats_text : Counters → List ℕ
+stats_text counters = stats_rows counters ++ codes "END\r\n"
+
+-- the reply to an outcome
 abbrev pub reply_of : Form → Outcome → List ℕ
 reply_of form Stored = codes "STORED\r\n"
 reply_of form NotStored = codes "NOT_STORED\r\n"
@@ -95,8 +102,8 @@ reply_of form Touched = codes "TOUCHED\r\n"
 reply_of form (Number n) = decimal n ++ line_end
 reply_of form (Values hits) = values_text form hits
 reply_of form Done = codes "OK\r\n"
-reply_of form (Stats counters) = []
-reply_of form Version = codes "VERSION 1.0.0-partcached\r\n"
+reply_of form (Stats counters) = stats_text counters
+reply_of form Version = codes "VERSION " ++ (version_text ++ line_end)
 reply_of form TooLarge = fault_line TooLargeFault
 reply_of form NotNumeric = fault_line NotNumericFault
 reply_of form CasWorn = fault_line CasWornFault
@@ -105,7 +112,8 @@ reply_of form CasWorn = fault_line CasWornFault
 abbrev pub render : Command → Outcome → List ℕ
 render command outcome = unless_quiet (is_quiet command || not (can_end command outcome)) (reply_of (form_of command) outcome)
 
--- the outcome of a look-up, whose reply may need memory
-abbrev pub is_values : Outcome → Bool
-is_values (Values hits) = true
-is_values outcome = false
+-- the outcome of a look-up or of stats, whose reply may be long and need memory
+abbrev pub is_long : Outcome → Bool
+is_long (Values hits) = true
+is_long (Stats counters) = true
+is_long outcome = false

@@ -3,10 +3,10 @@ ghost use Rattle.std.specs.Prelude.{◌≡◌, ◌≤◌, ◌++◌, false, take,
 ghost use Rattle.tc_grammar.specs.declared.fault.Fault.TheVariants.{NoMemory as OutOfMemory};
 ghost use Rattle.tc_session.specs.Unsent.{KeepsSpace};
 ghost use Rattle.tc_session.specs.Texts.{fault_line, unless_quiet};
-ghost use Rattle.tc_session.specs.Replies.{is_quiet, is_refusal, is_store_end, can_end, form_of, reply_of, render, is_values};
+ghost use Rattle.tc_session.specs.Replies.{is_quiet, is_refusal, is_store_end, can_end, form_of, reply_of, render, is_long};
 
 use crate::output::Output;
-use crate::reply::{is_quiet, write_fault, write_values};
+use crate::reply::{is_quiet, write_fault, write_stats, write_values, write_version};
 use tc_grammar::{Command, Fault, Form, StoreKind};
 use tc_item::NoMemory;
 use tc_stats::Outcome;
@@ -51,7 +51,7 @@ fn can_end(command: &Command, outcome: &Outcome) -> bool
         Command::Flush { .. } => matches!(outcome, Outcome::Done),
         Command::Version => matches!(outcome, Outcome::Version),
         Command::Verbosity { .. } => matches!(outcome, Outcome::Done),
-        Command::Stats => false,
+        Command::Stats => matches!(outcome, Outcome::Stats(_)),
         Command::Quit => false,
     }
 }
@@ -74,7 +74,7 @@ fn write_outcome(out: &mut Output, form: Form, outcome: &Outcome) -> Result<(), 
     ensures front_on_err { OnErr result (take (length out.old.bytes) out.new.bytes ≡ out.old.bytes) }
     ensures longer_on_err { OnErr result (length out.old.bytes ≤ length out.new.bytes) }
     ensures space { KeepsSpace out.old out.new }
-    ensures lookup { is_values outcome.now ≡ false → IsOk result }
+    ensures short { is_long outcome.now ≡ false → IsOk result }
 {
     match outcome {
         Outcome::Stored => out.write(b"STORED\r\n"),
@@ -89,8 +89,8 @@ fn write_outcome(out: &mut Output, form: Form, outcome: &Outcome) -> Result<(), 
         }
         Outcome::Values(hits) => return write_values(out, form, hits.as_slice()),
         Outcome::Done => out.write(b"OK\r\n"),
-        Outcome::Stats(_) => {}
-        Outcome::Version => out.write(b"VERSION 1.0.0-partcached\r\n"),
+        Outcome::Stats(statistics) => return write_stats(out, statistics.counters()),
+        Outcome::Version => write_version(out),
         Outcome::TooLarge => write_fault(out, Fault::TooLarge),
         Outcome::NotNumeric => write_fault(out, Fault::NotNumeric),
         Outcome::CasWorn => write_fault(out, Fault::CasWorn),
@@ -117,7 +117,7 @@ pub(crate) fn write_reply(
     requires { 64 ≤ out.old.room }
     ensures bytes { OnOk result (out.new.bytes ≡ out.old.bytes ++ render command.now outcome.now) }
     ensures refused { OnErr result (out.new.bytes ≡ out.old.bytes ++ unless_quiet (is_quiet command.now) (fault_line OutOfMemory)) }
-    ensures lookup { is_values outcome.now ≡ false → IsOk result }
+    ensures short { is_long outcome.now ≡ false → IsOk result }
 {
     if is_quiet(command) || !can_end(command, outcome) {
         return Ok(());

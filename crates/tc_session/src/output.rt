@@ -1,11 +1,13 @@
 //! Bytes that wait to be sent.
 ghost use Rattle.std.specs.Prelude.{◌≡◌, ◌+◌, ◌≤◌, ◌++◌, [], decimal, drop, take, length, OnOk, OnErr};
+ghost use Rattle.tc_stats.specs.StatsRows.{stats_rows};
 ghost use Rattle.tc_session.specs.Unsent.{Unsent, KeepsSpace};
 
 use itoa::Buffer;
 use std::alloc::Global;
 use std::marker::Model;
 use tc_item::NoMemory;
+use tc_stats::Counters;
 
 /// The most room that is kept once all bytes are sent.
 const KEPT_ROOM: usize = 65_536;
@@ -70,6 +72,15 @@ impl Output {
         let mut buffer = Buffer::new();
         let text = buffer.format(number);
         self.write(text.as_bytes());
+    }
+
+    /// Puts the rows of counters at the end. A refusal changes nothing.
+    pub fn write_rows(&mut self, counters: &Counters) -> Result<(), NoMemory>
+        ensures bytes { OnOk result (self.new.bytes ≡ self.old.bytes ++ stats_rows counters.now) }
+        ensures unchanged_on_err { OnErr result (self.new.bytes ≡ self.old.bytes) }
+        ensures space { KeepsSpace self.old self.new }
+    {
+        counters.render(&mut self.bytes)
     }
 
     /// The bytes that wait.

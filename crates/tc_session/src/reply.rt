@@ -1,14 +1,15 @@
 //! The reply texts.
-ghost use Rattle.std.specs.Prelude.{◌≡◌, ◌+◌, ◌≤◌, ◌++◌, ◌||◌, not, take, length, OnOk, OnErr};
+ghost use Rattle.std.specs.Prelude.{◌≡◌, ◌+◌, ◌≤◌, ◌++◌, ◌||◌, not, take, length, codes, OnOk, OnErr};
 ghost use Rattle.std.specs.List.{flat_map};
 ghost use Rattle.tc_session.specs.Unsent.{KeepsSpace};
-ghost use Rattle.tc_session.specs.Texts.{fault_line};
-ghost use Rattle.tc_session.specs.Replies.{is_quiet, can_end, form_of, cas_text, value_line, value_text, values_text};
+ghost use Rattle.tc_session.specs.Texts.{fault_line, line_end};
+ghost use Rattle.tc_session.specs.Replies.{is_quiet, can_end, form_of, cas_text, value_line, value_text, values_text, stats_text};
+ghost use Rattle.tc_stats.specs.StatsRows.{version_text};
 
 use crate::output::Output;
 use tc_grammar::{Command, Fault, Form};
 use tc_item::NoMemory;
-use tc_stats::{Hit, Hits};
+use tc_stats::{Counters, Hit, VERSION};
 
 /// Whether the line has `noreply`.
 pub(crate) fn is_quiet(command: &Command) -> bool
@@ -113,4 +114,29 @@ pub(crate) fn write_values(out: &mut Output, form: Form, hits: &[Hit]) -> Result
     out.reserve(5)?;
     out.write(b"END\r\n");
     Ok(())
+}
+
+/// Writes the rows of counters, and END. Where memory is refused, what waited before is still in front.
+#[tactic(auto, unfolding(crate::specs::Replies::stats_text))]
+pub(crate) fn write_stats(out: &mut Output, counters: &Counters) -> Result<(), NoMemory>
+    ensures bytes { OnOk result (out.new.bytes ≡ out.old.bytes ++ stats_text counters.now) }
+    ensures front_on_err { OnErr result (take (length out.old.bytes) out.new.bytes ≡ out.old.bytes) }
+    ensures longer_on_err { OnErr result (length out.old.bytes ≤ length out.new.bytes) }
+    ensures space { KeepsSpace out.old out.new }
+{
+    out.write_rows(counters)?;
+    out.reserve(5)?;
+    out.write(b"END\r\n");
+    Ok(())
+}
+
+/// Writes the server's version.
+pub(crate) fn write_version(out: &mut Output)
+    requires { 64 ≤ out.old.room }
+    ensures bytes { out.new.bytes ≡ out.old.bytes ++ (codes "VERSION " ++ (version_text ++ line_end)) }
+    ensures space { KeepsSpace out.old out.new }
+{
+    out.write(b"VERSION ");
+    out.write(VERSION.as_bytes());
+    out.write(b"\r\n");
 }

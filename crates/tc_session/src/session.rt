@@ -1,11 +1,11 @@
 //! A connection.
-ghost use Rattle.std.specs.Prelude.{◌≡◌, ◌≤◌, ◌++◌, ℕ, [], false, codes, drop, length, IsOk, IfOk, OnOk, OnErr};
-ghost use Rattle.tc_model.specs.Connection.{turn, login, login_turn, unbound_turn, bound_turn, with_piece, shut_endpoint, new_endpoint, Unbound, Bound, Close, is_closed};
+ghost use Rattle.std.specs.Prelude.{◌≡◌, ◌≢◌, ◌≤◌, ◌++◌, ℕ, [], false, codes, drop, length, None, IsOk, IfOk, OnOk, OnErr};
+ghost use Rattle.tc_model.specs.Connection.{turn, login, login_turn, unbound_turn, bound_turn, with_piece, shut_endpoint, new_endpoint, Unbound, Bound, Nothing, Close, is_closed};
 ghost use Rattle.tc_grammar.specs.declared.fault.Fault.TheVariants.{AuthenticationFailure, NoMemory as OutOfMemory};
 ghost use Rattle.tc_session.specs.Texts.{fault_line, unless_quiet};
-ghost use Rattle.tc_session.specs.Replies.{is_quiet, render, is_values};
+ghost use Rattle.tc_session.specs.Replies.{is_quiet, render, is_long};
 ghost use Rattle.tc_session.specs.Talking.{talking, fault_said, unbound_asks, unbound_command, unbound_store, bound_wants, bound_command, served, is_done};
-ghost use Rattle.tc_session.specs.Linked.{Linked, want_of, fault_want, fault_phase};
+ghost use Rattle.tc_session.specs.Linked.{Linked, want_of, fault_want, fault_phase, KeepsAtMost};
 
 use crate::Want;
 use crate::ending::{write_refusal, write_reply};
@@ -95,13 +95,14 @@ impl Session {
         }
     }
 
-    /// The connection's next request. What needs no cache is answered at once. A refusal leaves the
-    /// request unread.
+    /// The connection's next request. What needs no cache is answered at once. Where there is nothing
+    /// to do, at most 65,538 bytes and the limit of blocks are unread. A refusal leaves the request unread.
     pub fn next(&mut self, alloc: Global, users: &Users) -> Result<Want, NoMemory>
         ensures want { IfOk result (λ want. want_of want ≡ (turn talking users.now self.old.endpoint).want) }
         ensures endpoint { OnOk result (self.new.endpoint ≡ (turn talking users.now self.old.endpoint).endpoint) }
         ensures said { OnOk result (self.new.out ≡ self.old.out ++ (turn talking users.now self.old.endpoint).said) }
         ensures room { OnOk result (64 ≤ self.new.room) }
+        ensures bounded { IfOk result (λ want. want_of want ≡ Nothing → KeepsAtMost self.old.endpoint.phase (length self.new.endpoint.reader.unread)) }
         ensures endpoint_on_err { OnErr result (self.new.endpoint ≡ self.old.endpoint) }
         ensures out_on_err { OnErr result (self.new.out ≡ self.old.out) }
     {
@@ -124,6 +125,7 @@ impl Session {
         requires room { 128 ≤ self.old.room }
         requires unbound { self.old.endpoint.phase ≡ Unbound }
         ensures want { want_of result ≡ (unbound_turn talking users.now self.old.endpoint.reader (unbound_asks request)).want }
+        ensures rests { want_of result ≡ Nothing → request ≡ None }
         ensures endpoint { self.new.endpoint ≡ (unbound_turn talking users.now self.old.endpoint.reader (unbound_asks request)).endpoint }
         ensures said { self.new.out ≡ self.old.out ++ (unbound_turn talking users.now self.old.endpoint.reader (unbound_asks request)).said }
         ensures room { 64 ≤ self.new.room }
@@ -140,6 +142,7 @@ impl Session {
         requires room { 128 ≤ self.old.room }
         requires unbound { self.old.endpoint.phase ≡ Unbound }
         ensures want { want_of result ≡ (unbound_turn talking users.now self.old.endpoint.reader (unbound_command command.now)).want }
+        ensures busy { want_of result ≢ Nothing }
         ensures endpoint { self.new.endpoint ≡ (unbound_turn talking users.now self.old.endpoint.reader (unbound_command command.now)).endpoint }
         ensures said { self.new.out ≡ self.old.out ++ (unbound_turn talking users.now self.old.endpoint.reader (unbound_command command.now)).said }
         ensures room { 64 ≤ self.new.room }
@@ -159,6 +162,7 @@ impl Session {
         requires room { 128 ≤ self.old.room }
         requires unbound { self.old.endpoint.phase ≡ Unbound }
         ensures want { want_of result ≡ (unbound_turn talking users.now self.old.endpoint.reader (unbound_store head.now.kind head.now blob.now)).want }
+        ensures busy { want_of result ≢ Nothing }
         ensures endpoint { self.new.endpoint ≡ (unbound_turn talking users.now self.old.endpoint.reader (unbound_store head.now.kind head.now blob.now)).endpoint }
         ensures said { self.new.out ≡ self.old.out ++ (unbound_turn talking users.now self.old.endpoint.reader (unbound_store head.now.kind head.now blob.now)).said }
         ensures room { 64 ≤ self.new.room }
@@ -192,6 +196,7 @@ impl Session {
         requires room { 128 ≤ self.old.room }
         requires bound { self.old.endpoint.phase ≡ Bound user }
         ensures want { want_of result ≡ (bound_turn talking user self.old.endpoint.reader (bound_wants request)).want }
+        ensures rests { want_of result ≡ Nothing → request ≡ None }
         ensures endpoint { self.new.endpoint ≡ (bound_turn talking user self.old.endpoint.reader (bound_wants request)).endpoint }
         ensures said { self.new.out ≡ self.old.out ++ (bound_turn talking user self.old.endpoint.reader (bound_wants request)).said }
         ensures room { 64 ≤ self.new.room }
@@ -208,6 +213,7 @@ impl Session {
         requires room { 128 ≤ self.old.room }
         requires bound { self.old.endpoint.phase ≡ Bound user }
         ensures want { want_of result ≡ (bound_turn talking user self.old.endpoint.reader (bound_command command)).want }
+        ensures busy { want_of result ≢ Nothing }
         ensures endpoint { self.new.endpoint ≡ (bound_turn talking user self.old.endpoint.reader (bound_command command)).endpoint }
         ensures said { self.new.out ≡ self.old.out ++ (bound_turn talking user self.old.endpoint.reader (bound_command command)).said }
         ensures room { 64 ≤ self.new.room }
@@ -223,6 +229,7 @@ impl Session {
         requires room { 128 ≤ self.old.room }
         requires bound { self.old.endpoint.phase ≡ Bound user }
         ensures want { want_of result ≡ (bound_turn talking user self.old.endpoint.reader (served (is_done command) command)).want }
+        ensures busy { want_of result ≢ Nothing }
         ensures endpoint { self.new.endpoint ≡ (bound_turn talking user self.old.endpoint.reader (served (is_done command) command)).endpoint }
         ensures said { self.new.out ≡ self.old.out ++ (bound_turn talking user self.old.endpoint.reader (served (is_done command) command)).said }
         ensures room { 64 ≤ self.new.room }
@@ -239,6 +246,7 @@ impl Session {
     fn fail(&mut self, fault: Fault, quiet: bool) -> Want
         requires { 128 ≤ self.old.room }
         ensures want { want_of result ≡ fault_want fault }
+        ensures busy { want_of result ≢ Nothing }
         ensures phase { self.new.endpoint.phase ≡ fault_phase fault self.old.endpoint.phase }
         ensures reader { self.new.endpoint.reader ≡ self.old.endpoint.reader }
         ensures said { self.new.out ≡ self.old.out ++ fault_said fault quiet }
@@ -275,14 +283,14 @@ impl Session {
         }
     }
 
-    /// Appends the reply to a command. Where memory is refused, which only the reply to a look-up may
-    /// meet, that is said in the reply's place.
+    /// Appends the reply to a command. Where memory is refused, which only the reply to a look-up or to
+    /// `stats` may meet, that is said in the reply's place.
     pub fn answer(&mut self, command: &Command, outcome: &Outcome) -> Result<(), NoMemory>
         requires { 64 ≤ self.old.room }
         ensures endpoint { self.new.endpoint ≡ self.old.endpoint }
         ensures reply { OnOk result (self.new.out ≡ self.old.out ++ render command.now outcome.now) }
         ensures refused { OnErr result (self.new.out ≡ self.old.out ++ unless_quiet (is_quiet command.now) (fault_line OutOfMemory)) }
-        ensures lookup { is_values outcome.now ≡ false → IsOk result }
+        ensures short { is_long outcome.now ≡ false → IsOk result }
     {
         write_reply(&mut self.out, command, outcome)
     }

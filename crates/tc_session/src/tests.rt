@@ -8,7 +8,7 @@ use std::process::Abort;
 use std::test::Fail;
 use tc_grammar::{Command, Line, parse_line};
 use tc_item::{Blob, Key, NoMemory};
-use tc_stats::{Hit, Hits, Outcome};
+use tc_stats::{Counters, Hit, Hits, Outcome, Statistics};
 use tc_users::{Text, UserSpec, Users};
 
 /// A row of a user.
@@ -402,6 +402,35 @@ fn hits_are_shown_in_order_with_cas_numbers_where_asked(rt: HostRuntime) -> Resu
         &Outcome::Values(Hits::new()),
         "END\r\n",
     )?;
+    Ok(())
+}
+
+#[test]
+fn stats_shows_the_rows_and_the_end(rt: HostRuntime) -> Result<(), Fail> {
+    let users = users(rt.alloc())?;
+    let counters = Counters {
+        curr_items: 2,
+        total_items: 2,
+        bytes: 138,
+        cmd_get: 1,
+        cmd_set: 4,
+        get_hits: 1,
+        incr_hits: 1,
+        limit_maxbytes: 65_536,
+        item_size_max: 3,
+        store_too_large: 2,
+        ..Counters::new()
+    };
+    let reply = "STAT version 1.0.0-partcached\r\nSTAT curr_items 2\r\nSTAT total_items 2\r\n\
+        STAT bytes 138\r\nSTAT cmd_get 1\r\nSTAT cmd_set 4\r\nSTAT cmd_flush 0\r\n\
+        STAT cmd_touch 0\r\nSTAT get_hits 1\r\nSTAT get_misses 0\r\nSTAT delete_misses 0\r\n\
+        STAT delete_hits 0\r\nSTAT incr_misses 0\r\nSTAT incr_hits 1\r\nSTAT decr_misses 0\r\n\
+        STAT decr_hits 0\r\nSTAT cas_misses 0\r\nSTAT cas_hits 0\r\nSTAT cas_badval 0\r\n\
+        STAT touch_hits 0\r\nSTAT touch_misses 0\r\nSTAT evictions 0\r\n\
+        STAT limit_maxbytes 65536\r\nSTAT item_size_max 3\r\nSTAT store_too_large 2\r\nEND\r\n";
+    let command = command_of(rt.alloc(), "stats")?;
+    let outcome = Outcome::Stats(Statistics::new(rt.alloc(), counters)?);
+    expect_reply(&rt, &users, &command, &outcome, reply)?;
     Ok(())
 }
 

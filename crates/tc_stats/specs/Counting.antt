@@ -68,11 +68,19 @@ hit_count outcome = 0
 
 -- keys asked by `get`, `gets`, `gat` and `gats`: those found, and the others
 abbrev pub noted_get : ℕ → ℕ → Counters → Counters
-noted_get asked hits c = record c { cmd_get = more c.cmd_get asked; get_hits = more c.get_hits hits; get_misses = more c.get_misses (asked - hits) }
+noted_get asked hits c = record c {
+  cmd_get = more c.cmd_get asked;
+  get_hits = more c.get_hits hits;
+  get_misses = more c.get_misses (asked - hits);
+}
 
 -- keys asked by `touch`, `gat` and `gats`: those found, and the others
 abbrev pub noted_touch : ℕ → ℕ → Counters → Counters
-noted_touch asked hits c = record c { cmd_touch = more c.cmd_touch asked; touch_hits = more c.touch_hits hits; touch_misses = more c.touch_misses (asked - hits) }
+noted_touch asked hits c = record c {
+  cmd_touch = more c.cmd_touch asked;
+  touch_hits = more c.touch_hits hits;
+  touch_misses = more c.touch_misses (asked - hits);
+}
 
 -- `touch` asks one key
 abbrev pub noted_touched : Outcome → Counters → Counters

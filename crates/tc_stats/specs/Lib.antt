@@ -1,2 +1,3 @@
 pub mod HitLists
 pub mod Counting
+pub mod StatsRows

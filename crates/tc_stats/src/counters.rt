@@ -8,7 +8,7 @@ use tc_item::NoMemory;
 /// A user's counters, in the order of the rows of `stats` (doc/protocol.txt, "Statistics"). Each is
 /// a count that stops at 2^64-1, but for `curr_items`, `bytes`, `limit_maxbytes` and `item_size_max`,
 /// which the cache sets to what it holds and may hold.
-#[derive(Clone, Copy, Debug, PartialEq, Eq)]
+#[derive(Clone, Copy, Debug, Default, PartialEq, Eq)]
 pub struct Counters {
     /// Items held.
     pub curr_items: u64,

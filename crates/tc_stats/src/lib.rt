@@ -6,10 +6,13 @@
 
 mod counters;
 mod hits;
+mod noting;
 mod outcome;
+mod rows;
 #[cfg(test)]
 mod tests;
 
 pub use counters::{Counters, Statistics};
 pub use hits::{Hit, Hits};
 pub use outcome::Outcome;
+pub use rows::{MOST_BYTES, VERSION};
