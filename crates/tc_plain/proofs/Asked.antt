@@ -169,7 +169,6 @@ hits-take_more due g keys i d l lt s h =
     quiet None = record { twice = λ i. refl; shown = λ key i. refl }
     quiet (Some d) = record { twice = λ i. refl; shown = λ key i. refl }
 
-
 lasting_by : (due : Option Due) (m : ℕ) (l : Live) → l.moment ≡ m → EveryIn (λ e. lives m e ≡ true) l.areas → Lasting (is_due due m) (change_of due) l
 lasting_by None m l at h = EveryIn-weaker (λ e. lives m e ≡ true) (λ e. lives l.moment e ≡ true) (λ e t. ap (λ n. lives n e) at ∙ t) l.areas h
 lasting_by (Some d) m l at h = go (is_before m d) refl

@@ -206,7 +206,7 @@ rest_first freq limits w p q c over =
 
 pub admitting_moves : (freq : Entry → ℕ) (limits : Limits) (v0 v v' : ℕ) (a : Areas Entry) (b c : AreaLists) (w : List Entry) (x : Entry) → IsAdmitting freq limits v0 a v b → b.window.items ≡ w ++ x ∷ [] → limits.window < sum_by weight b.window.items
     → (let one = admitted freq x (areas_by w b.probation.items b.protected.items) (shortest weight (main_weight weight (areas_of b) + weight x - limits.main) (from_tail (areas_of b))) in
-      (areas_of c ≡ one.areas) × (v' ≡ more v (length one.dropped)))
+    (areas_of c ≡ one.areas) × (v' ≡ more v (length one.dropped)))
     → HasRoom 0 c → IsAdmitting freq limits v0 a v' c
 admitting_moves freq limits v0 v v' a b c w x h last over done room =
     let p : List Entry = b.probation.items in

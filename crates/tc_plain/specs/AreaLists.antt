@@ -50,7 +50,9 @@ put_back in_window e a = cond in_window
 -- the last of main is gone: of probation, or of protected where probation holds nothing
 pub record IsPopped (last : Entry) (a b : Areas Entry) : Type 0 where
   pub same_window : b.window ≡ a.window
-  pub of_main : ((a.probation ≡ b.probation ++ last ∷ []) × (b.protected ≡ a.protected)) ⊎ ((a.probation ≡ []) × (b.probation ≡ []) × (a.protected ≡ b.protected ++ last ∷ []))
+  pub of_main :
+      ((a.probation ≡ b.probation ++ last ∷ []) × (b.protected ≡ a.protected))
+      ⊎ ((a.probation ≡ []) × (b.probation ≡ []) × (a.protected ≡ b.protected ++ last ∷ []))
 
 -- how often an entry's key was seen, by a sketch
 abbrev pub frequency_in : Sketch → Entry → ℕ

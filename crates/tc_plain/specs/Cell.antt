@@ -17,6 +17,7 @@ use Rattle.tc_plain.specs.Entries.{with_due, with_data}
 use Rattle.tc_plain.specs.Live.{is_flush_due}
 use Rattle.tc_plain.specs.Storing.{item_of}
 
+-- what stands under one key
 pub record Cell : Type 0 where
   -- what stands under the key
   pub item : Option Item

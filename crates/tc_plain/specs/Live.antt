@@ -5,6 +5,7 @@ use Rattle.tc_sketch.specs.Sketch.{Sketch}
 use Rattle.tc_plain.specs.declared.entry.Entry.{Entry}
 use Rattle.tc_plain.specs.Entries.{lives, has_key}
 
+-- what look-ups touch of a user's cache
 pub record Live : Type 0 where
   -- the most that each area may weigh
   pub limits : Limits

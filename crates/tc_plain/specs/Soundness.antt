@@ -49,5 +49,6 @@ StaysSound = (k : UserCache) (m : ℕ) (command : Command) → HasShortKey comma
 
 -- a hit drops nothing, though an access is always followed by settling: an entry that is held, used with any due, leaves each area within its limit
 abbrev pub HitDropsNothing : Type 0
-HitDropsNothing = (k : UserCache) (e : Entry) (change : Item → Item) → IsSound k → held e.key k.live.areas ≡ Some e → (weight (with_item e (change e.item)) ≡ weight e)
+HitDropsNothing =
+    (k : UserCache) (e : Entry) (change : Item → Item) → IsSound k → held e.key k.live.areas ≡ Some e → (weight (with_item e (change e.item)) ≡ weight e)
     → let l = used (with_item e (change e.item)) k.live in settle weight (frequency l) l.limits l.areas ≡ record { areas = l.areas; dropped = [] }

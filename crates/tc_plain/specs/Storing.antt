@@ -18,7 +18,10 @@ use Rattle.tc_plain.specs.Whole.{UserCache}
 
 -- each entry that settle drops is an eviction
 abbrev pub after_settle : UserCache → Settled Entry → UserCache
-after_settle k s = record k { live = record k.live { areas = s.areas }; counters = record k.counters { evictions = more k.counters.evictions (length s.dropped) } }
+after_settle k s = record k {
+  live = record k.live { areas = s.areas };
+  counters = record k.counters { evictions = more k.counters.evictions (length s.dropped) };
+}
 
 -- each area comes within its limit
 abbrev pub settled : UserCache → UserCache

@@ -5,6 +5,7 @@ use Rattle.tc_stats.specs.declared.counters.Counters.{Counters}
 use Rattle.tc_stats.specs.Counting.{no_counts}
 use Rattle.tc_plain.specs.Live.{Live, limits_of, no_entries, advanced}
 
+-- one user's cache
 pub record UserCache : Type 0 where
   -- the most that all items may weigh together, and the most data bytes of one
   pub budget : ℕ

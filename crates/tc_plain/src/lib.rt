@@ -27,7 +27,7 @@ mod tests;
 pub use areas::{Areas, Origin};
 pub use cache::Cache;
 pub use entry::Entry;
+pub use laws::{advancing, advancing_whole, freshness, soundness};
 pub use limits::Limits;
 pub use live::Live;
-pub use laws::{advancing, advancing_whole, freshness, soundness};
 pub use plain::Plain;

@@ -21,10 +21,9 @@ loop-key-preserved c =
     let change = change_of c.args.due in
     let l = live_of c.args.live.now in
     let cur = live_of c.loop-key.live in
-    let key = c.key-item.result in
-    (
+    let key = c.key-item.result in (
       c.look.ensures.live ∙ ap (λ k. (looked_up change k (held k cur.areas) cur).1) (c.as_bytes.ensures.bytes ∙ c.key-item.is)
-      ∙ ap (λ (j : Live). (looked_up change (get_or c.args.keys.now c.loop-key.key-index key) (held (get_or c.args.keys.now c.loop-key.key-index key) j.areas) j).1) c.loop-key.invariant.0
-      ∙ sym (live-take_more change c.args.keys.now c.loop-key.key-index key l c.loop-key-test.true),
+          ∙ ap (λ (j : Live). (looked_up change (get_or c.args.keys.now c.loop-key.key-index key) (held (get_or c.args.keys.now c.loop-key.key-index key) j.areas) j).1) c.loop-key.invariant.0
+          ∙ sym (live-take_more change c.args.keys.now c.loop-key.key-index key l c.loop-key-test.true),
       c.look.ensures.room,
     )

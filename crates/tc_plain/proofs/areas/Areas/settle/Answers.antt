@@ -32,8 +32,7 @@ loop-candidate-preserved c =
     let main = ap (λ (l : Limits). l.main) c.limits.view_is in
     let a = areas_by c.pop_over.new.items.items b.probation.items b.protected.items in
     admitting_moves freq c.args.limits c.args.evictions c.loop-candidate.evictions c.admit-evictions.result (areas_of c.args.self.now) b c.admit-evictions.new.self c.pop_over.new.items.items x
-    c.loop-candidate.invariant c.in-Some.ensures.popped.0 (omega (arith, c.in-Some.ensures.popped.1, ap (λ (l : Limits). l.window) c.limits.view_is))
-    (
+    c.loop-candidate.invariant c.in-Some.ensures.popped.0 (omega (arith, c.in-Some.ensures.popped.1, ap (λ (l : Limits). l.window) c.limits.view_is)) (
       c.admit-evictions.ensures.areas ∙ ap (λ n. (admitted freq x a (shortest weight (main_weight weight a + weight x - n) (from_tail a))).areas) main,
       c.admit-evictions.ensures.counted ∙ ap (λ n. more c.loop-candidate.evictions (length (admitted freq x a (shortest weight (main_weight weight a + weight x - n) (from_tail a))).dropped)) main,
     ) c.admit-evictions.ensures.room
