@@ -45,9 +45,10 @@ demoted_within weigh limits a w m = record {
   protected = sum-fitting weigh limits.protected a.protected;
 }
 
-accessed_within : {A : Type 0} (weigh : A → ℕ) (limits : Limits) (is : A → Bool) (x : A) (a : Areas A) → find is (a.window ++ (a.probation ++ a.protected)) ≡ Some x
-    → IsWithin weigh limits a → IsWithin weigh limits (accessed weigh limits is x a)
-accessed_within {A} weigh limits is x a e h = go (is_in is a.window) refl
+-- what is held may be accessed as something no heavier: the areas stay within their limits
+pub accessed_within : {A : Type 0} (weigh : A → ℕ) (limits : Limits) (is : A → Bool) (x y : A) (a : Areas A) → find is (a.window ++ (a.probation ++ a.protected)) ≡ Some y
+    → weigh x ≤ weigh y → IsWithin weigh limits a → IsWithin weigh limits (accessed weigh limits is x a)
+accessed_within {A} weigh limits is x y a e lighter h = go (is_in is a.window) refl
   where
     left : (xs : List A) → sum_by weigh (without is xs) ≤ sum_by weigh xs
     left xs = sum-filter-le weigh (λ z. not (is z)) xs
@@ -56,18 +57,18 @@ accessed_within {A} weigh limits is x a e h = go (is_in is a.window) refl
         (record { window = x ∷ without is a.window; probation = without is a.probation; protected = without is a.protected })
         (record { window = without is a.window; probation = without is a.probation; protected = x ∷ without is a.protected })))
     go true t =
-        let here = found-without weigh is x a.window (sym (find-front is a.window (a.probation ++ a.protected) t) ∙ e) in
+        let here = found-without weigh is y a.window (sym (find-front is a.window (a.probation ++ a.protected) t) ∙ e) in
         let main = h.main in
         demoted_within weigh limits (record { window = x ∷ without is a.window; probation = without is a.probation; protected = without is a.protected })
-        (omega (arith, here, h.window, sum_by-cons weigh x (without is a.window))) (omega (arith, left a.probation, left a.protected))
+        (omega (arith, lighter, here, h.window, sum_by-cons weigh x (without is a.window))) (omega (arith, left a.probation, left a.protected))
     go false t =
-        let there = found-without weigh is x (a.probation ++ a.protected) (sym (find-behind is a.window (a.probation ++ a.protected) t) ∙ e) in
+        let there = found-without weigh is y (a.probation ++ a.protected) (sym (find-behind is a.window (a.probation ++ a.protected) t) ∙ e) in
         let main = h.main in
         let split : sum_by weigh (without is (a.probation ++ a.protected)) ≡ sum_by weigh (without is a.probation) + sum_by weigh (without is a.protected) =
         ap (sum_by weigh) (filter-append (λ z. not (is z)) a.probation a.protected) ∙ sum_by-append weigh (without is a.probation) (without is a.protected) in
         demoted_within weigh limits (record { window = without is a.window; probation = without is a.probation; protected = x ∷ without is a.protected })
         (omega (arith, left a.window, h.window))
-        (omega (arith, there, split, sum_by-append weigh a.probation a.protected, sum_by-cons weigh x (without is a.protected)))
+        (omega (arith, lighter, there, split, sum_by-append weigh a.probation a.protected, sum_by-cons weigh x (without is a.protected)))
 
 pub access_drops_nothing : AccessDropsNothing
-access_drops_nothing A weigh freq limits is x a e h = settles_once A weigh freq limits (accessed weigh limits is x a) (accessed_within weigh limits is x a e h)
+access_drops_nothing A weigh freq limits is x a e h = settles_once A weigh freq limits (accessed weigh limits is x a) (accessed_within weigh limits is x x a e (omega arith) h)

@@ -57,7 +57,7 @@ module _ {A : Type 0} where
   demoted_none : (weigh : A → ℕ) (l : Limits) (a : Areas A) → sum_by weigh a.protected ≤ l.protected → demoted weigh l a ≡ a
   demoted_none weigh l a h = same3 _ _ _ _ _ _ refl (ap (λ t. t ++ a.probation) (beyond_none weigh l.protected a.protected h)) (fitting_all weigh l.protected a.protected h)
 
-  without_none : (a : Areas A) → without_last 0 a ≡ a
+  pub without_none : (a : Areas A) → without_last 0 a ≡ a
   without_none a = same3 _ _ _ _ _ _ refl (take_all a.probation (length a.probation - 0) (omega arith)) (take_all a.protected (length a.protected - (0 - length a.probation)) (omega arith))
 
   abbrev pub settled_by : Areas A → List A → Settled A

@@ -23,13 +23,13 @@ sum-filter-le {A} f p (x ∷ xs) = go (p x) (sum-filter-le f p xs)
     go true h = omega (arith, sum_by-cons f x (filter p xs), sum_by-cons f x xs)
     go false h = omega (arith, sum_by-cons f x xs)
 
-total-demoted : {A : Type 0} (f weigh : A → ℕ) (limits : Limits) (a : Areas A) → total f (demoted weigh limits a) ≡ total f a
+pub total-demoted : {A : Type 0} (f weigh : A → ℕ) (limits : Limits) (a : Areas A) → total f (demoted weigh limits a) ≡ total f a
 total-demoted f weigh limits a = omega (arith, parts f weigh limits.protected a.protected, sum_by-append f (beyond weigh limits.protected a.protected) a.probation)
 
-total-without_last : {A : Type 0} (f : A → ℕ) (n : ℕ) (a : Areas A) → main_weight f (without_last n a) ≤ main_weight f a
+pub total-without_last : {A : Type 0} (f : A → ℕ) (n : ℕ) (a : Areas A) → main_weight f (without_last n a) ≤ main_weight f a
 total-without_last f n a = omega (arith, sum_by-take-le f a.probation (length a.probation - n), sum_by-take-le f a.protected (length a.protected - (n - length a.probation)))
 
-total-admitted : {A : Type 0} (f freq : A → ℕ) (c : A) (a : Areas A) (vs : List A) → total f (admitted freq c a vs).areas ≤ total f a + f c
+pub total-admitted : {A : Type 0} (f freq : A → ℕ) (c : A) (a : Areas A) (vs : List A) → total f (admitted freq c a vs).areas ≤ total f a + f c
 total-admitted {A} f freq c a vs = go (list_all (λ v. nat_lt (freq v) (freq c)) vs)
   where
     go : (b : Bool) → total f (cond b (let s : Settled A = record { areas = entered c (without_last (length vs) a); dropped = vs } in s) (record { areas = a; dropped = c ∷ [] })).areas ≤ total f a + f c

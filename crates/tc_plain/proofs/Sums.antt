@@ -1,7 +1,7 @@
 -- What items weigh together and how many are under a key, once some are gone or one is stored; so the conditions of a cache stay.
-use Rattle.std.specs.Prelude.{filter, not, sum_by, count_by}
+use Rattle.std.specs.Prelude.{filter, not, count_by}
 use Rattle.std.specs.Str.{bytes_eq}
-use Rattle.std.proofs.Common.{◌≡◌, ℕ, ◌+◌, ◌<◌, ◌≤◌, Bool, true, false, cond, List, [], ◌∷◌, ◌++◌, length, get_or, take, Option, refl, sym, ◌∙◌, ap, subst, arith}
+use Rattle.std.proofs.Common.{◌≡◌, ℕ, ◌+◌, ◌<◌, ◌≤◌, Bool, true, false, cond, List, [], ◌∷◌, ◌++◌, length, get_or, take, Option, refl, ap, subst, arith}
 use Rattle.std.proofs.lemmas.List.{take_more}
 use Rattle.std.proofs.lemmas.List.Sums.{sum_by-cons, sum_by_push, sum_by-take-le}
 use Rattle.tc_plain.specs.declared.entry.Entry.{Entry}

@@ -1,5 +1,5 @@
 -- What each command comes to and leaves, once the cache has come to the command's moment. Source: memcached's doc/protocol.txt.
-use Rattle.std.specs.Prelude.{ℕ, ◌+◌, ◌-◌, ◌^◌, cond, not, nat_lt, ◌==◌, ◌||◌, Bool, List, [], ◌∷◌, length, Option, Some, None, option_map, filter, find}
+use Rattle.std.specs.Prelude.{ℕ, ◌+◌, ◌-◌, ◌^◌, cond, not, nat_lt, ◌==◌, ◌||◌, Bool, List, ◌∷◌, length, Option, option_map, filter, find}
 use Rattle.std.specs.List.{filter_map}
 use Rattle.tc_item.specs.Expiry.{due_of}
 use Rattle.tc_grammar.specs.declared.command.StoreKind.{StoreKind}

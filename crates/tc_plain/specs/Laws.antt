@@ -1,10 +1,9 @@
 -- The laws of advance, and the cache as a server sees it. Source: this project's own.
-use Rattle.std.specs.Prelude.{◌≡◌, ℕ, ◌≤◌, ◌^◌, List, count_by}
+use Rattle.std.specs.Prelude.{◌≡◌, ℕ, ◌≤◌}
 use Rattle.tc_model.specs.Caching.{Caching}
 use Rattle.tc_grammar.specs.declared.command.Command.{Command}
 use Rattle.tc_stats.specs.declared.outcome.Outcome.{Outcome}
-use Rattle.tc_plain.specs.declared.entry.Entry.{Entry}
-use Rattle.tc_plain.specs.UserCache.{UserCache, advance, has_key, total_weight}
+use Rattle.tc_plain.specs.UserCache.{UserCache, advance}
 use Rattle.tc_plain.specs.Doing.{act}
 
 -- the cache of the server's machine

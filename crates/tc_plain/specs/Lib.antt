@@ -3,3 +3,13 @@ pub mod Doing
 pub mod Laws
 pub mod Conditions
 pub mod Ends
+pub mod Entries
+pub mod Live
+pub mod Placing
+pub mod Whole
+pub mod Storing
+pub mod Acting
+pub mod Cell
+pub mod Freshness
+pub mod Soundness
+pub mod AreaLists

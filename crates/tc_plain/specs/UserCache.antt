@@ -1,5 +1,5 @@
 -- One user's cache, and how it comes to a later moment. Source: memcached's doc/protocol.txt, "Expiration times" and "flush_all".
-use Rattle.std.specs.Prelude.{ℕ, ◌+◌, cond, nat_le, max, Bool, false, List, [], Option, Some, None, filter, length, sum_by}
+use Rattle.std.specs.Prelude.{ℕ, cond, nat_le, max, Bool, false, List, [], Option, Some, None, filter, length, sum_by}
 use Rattle.std.specs.Str.{bytes_eq}
 use Rattle.tc_item.specs.Expiry.{is_before}
 use Rattle.tc_item.specs.Weight.{weight_of}

@@ -1,9 +1,10 @@
 //! Items under their keys.
 ghost use Rattle.std.specs.Prelude.{◌≡◌, ◌+◌, ◌^◌, ◌<◌, IfOk};
-ghost use Rattle.tc_plain.specs.UserCache.{weight};
+ghost use Rattle.tc_plain.specs.Entries.{weight, with_item};
+ghost use Rattle.tc_plain.specs.AreaLists.{change_of};
 
 use std::alloc::Global;
-use tc_item::{Item, Key, NoMemory};
+use tc_item::{Due, Item, Key, NoMemory};
 use tc_stats::Hit;
 
 /// An item under its key.
@@ -32,6 +33,16 @@ impl Entry {
             blob: self.item.blob.copy()?,
             cas: self.item.cas,
         })
+    }
+
+    /// The entry with another due, if one is given.
+    pub fn with_due(mut self, due: Option<Due>) -> Entry
+        ensures { result ≡ with_item self (change_of due self.item) }
+    {
+        if let Some(due) = due {
+            self.item.due = due;
+        }
+        self
     }
 
     /// An equal entry, over the same data.

@@ -8,17 +8,26 @@
 //! every other command only advances it and comes to `Done`.
 #![tactic(auto)]
 
+mod areas;
 mod cache;
 mod entry;
+mod hits;
 mod laws;
+mod limits;
+mod lists;
+mod live;
 mod lookup;
 mod plain;
+mod settling;
 mod standing;
 mod storing;
 #[cfg(test)]
 mod tests;
 
+pub use areas::{Areas, Origin};
 pub use cache::Cache;
 pub use entry::Entry;
-pub use laws::advancing;
+pub use laws::{advancing, advancing_whole, freshness, soundness};
+pub use limits::Limits;
+pub use live::Live;
 pub use plain::Plain;

@@ -16,7 +16,7 @@ fn is_found(entry: &Entry, key: &[u8], moment: Moment) -> bool
 }
 
 /// Where the entry of a key stands that is alive at the moment.
-fn find_entry(items: &[Entry], key: &[u8], moment: Moment) -> Option<usize>
+pub fn find_entry(items: &[Entry], key: &[u8], moment: Moment) -> Option<usize>
     ensures place { result ≡ first_place (λ e. lives moment e && has_key key.now e) items.now }
     ensures within { IfSome result (λ i. i < length items.now) }
 {

@@ -1,4 +1,3 @@
-use Rattle.std.specs.Prelude.{option_to_list}
 use Rattle.std.proofs.Common.{◌++◌, sym, ◌∙◌, ap, [], ◌∷◌}
 use Rattle.std.proofs.lemmas.List.{append-nil}
 use Rattle.tc_stats.specs.declared.hits.Hit.{Hit}

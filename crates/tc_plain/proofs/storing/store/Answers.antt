@@ -1,7 +1,6 @@
 use Rattle.std.proofs.Common.{◌≡◌, ◌≤◌, ◌+◌, arith, ap, ◌∙◌}
 use Rattle.tc_plain.specs.UserCache.{total_weight}
 use Rattle.tc_plain.specs.Doing.{with_entry}
-use Rattle.tc_plain.specs.Conditions.{IsSound}
 use Rattle.tc_plain.specs.Ends.{numbered}
 use Rattle.tc_plain.proofs.Sums.{sound-with_entry, total_weight-numbered}
 use Rattle.tc_plain.proofs.storing.store.Goals as goal

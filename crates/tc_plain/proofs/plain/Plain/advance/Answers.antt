@@ -1,4 +1,3 @@
-use Rattle.tc_plain.specs.Conditions.{IsSound}
 use Rattle.tc_plain.proofs.Sums.{sound-brought}
 use Rattle.tc_plain.proofs.plain.Plain.advance.Goals as goal
 

@@ -1,0 +1,29 @@
+use Rattle.std.proofs.Common.{◌≡◌, take, get_or, arith, ap, sym, ◌∙◌}
+use Rattle.tc_model.specs.Areas.{total}
+use Rattle.tc_plain.specs.Entries.{weight}
+use Rattle.tc_plain.specs.Live.{Live, held}
+use Rattle.tc_plain.specs.Acting.{all_looked_up, looked_up}
+use Rattle.tc_plain.specs.AreaLists.{areas_of, live_of, change_of}
+use Rattle.tc_plain.proofs.Asked.{live-take_more, change_light}
+use Rattle.tc_plain.proofs.Stays.{sound_looked}
+use Rattle.tc_plain.proofs.hits.look_all.Goals as goal
+
+pub look-requires-clause-weight : goal.look-requires-clause-weight
+look-requires-clause-weight c =
+    let l = live_of c.args.live.now in
+    let s = (sound_looked (change_of c.args.due) (change_light c.args.due) (take c.loop-key.key-index c.args.keys.now) l c.requires.sound).0 in
+    let same : total weight (areas_of c.loop-key.live.areas) ≡ total weight (all_looked_up (change_of c.args.due) (take c.loop-key.key-index c.args.keys.now) l).1.areas = ap (λ (j : Live). total weight j.areas) c.loop-key.invariant.0 in
+    let main = s.within.main in
+    omega (arith, same, s.within.window, main, c.requires.light)
+
+pub loop-key-preserved : goal.loop-key-preserved
+loop-key-preserved c =
+    let change = change_of c.args.due in
+    let l = live_of c.args.live.now in
+    let cur = live_of c.loop-key.live in
+    let key = c.key-item.result in (
+      c.look.ensures.live ∙ ap (λ k. (looked_up change k (held k cur.areas) cur).1) (c.as_bytes.ensures.bytes ∙ c.key-item.is)
+          ∙ ap (λ (j : Live). (looked_up change (get_or c.args.keys.now c.loop-key.key-index key) (held (get_or c.args.keys.now c.loop-key.key-index key) j.areas) j).1) c.loop-key.invariant.0
+          ∙ sym (live-take_more change c.args.keys.now c.loop-key.key-index key l c.loop-key-test.true),
+      c.look.ensures.room,
+    )

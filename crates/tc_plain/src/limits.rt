@@ -1,0 +1,47 @@
+//! What each area may weigh.
+ghost use Rattle.std.specs.Prelude.{◌≡◌, ◌≤◌, ◌^◌};
+ghost use Rattle.tc_plain.specs.Live.{limits_of};
+
+use std::marker::Model;
+
+/// The most that the window, main and protected, which is a part of main, may weigh.
+#[derive(Clone, Copy, Debug, PartialEq, Eq)]
+pub struct Limits {
+    pub window: u64,
+    pub main: u64,
+    pub protected: u64,
+}
+
+impl Model for Limits {
+    ghost use Rattle.tc_model.specs.Areas.{Limits};
+
+    ghost Value = { Limits };
+
+    ghost view = { λ l. record { window = l.window; main = l.main; protected = l.protected } };
+
+    ghost inverse = { λ l. record { window = l.window; main = l.main; protected = l.protected } };
+}
+
+impl Limits {
+    /// The limits of a budget, 65,536 to 2^30 bytes: a hundredth for the window, the rest for main, and
+    /// four fifths of main for protected.
+    pub fn of(budget: u64) -> Limits
+        requires { budget ≤ 2 ^ 30 }
+        ensures { result ≡ limits_of budget }
+    {
+        let window = budget / 100;
+        let main = budget - window;
+        Limits {
+            window,
+            main,
+            protected: main * 4 / 5,
+        }
+    }
+
+    /// The most that protected may weigh.
+    pub fn protected_limit(&self) -> u64
+        ensures { result ≡ self.now.protected }
+    {
+        self.protected
+    }
+}
