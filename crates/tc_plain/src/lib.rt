@@ -6,6 +6,11 @@
 //! seen as the state that it stands for once its deferred work is done. `Plain` defers nothing, so
 //! its contract is the definition. The cache does `set`, `get`, `gets`, `version` and `verbosity`;
 //! every other command only advances it and comes to `Done`.
+//!
+//! Beside it stands the whole cache, with every command, eviction and counters: `specs/Whole.antt` and
+//! `specs/Acting.antt`. `freshness` says that each hit is what the commands before it last left under
+//! its key, `soundness` that the areas keep their limits. `Areas` and `Live` are its lists under
+//! look-ups, access and settle; no cache is made of them yet.
 #![tactic(auto)]
 
 mod areas;
