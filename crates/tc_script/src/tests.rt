@@ -418,13 +418,27 @@ fn the_front_of_a_line_too_long_may_be_cut_anywhere(rt: HostRuntime) -> Result<(
     expect_cut(&rt, alloc, &too_long)
 }
 
-/// A reader that fails at once.
+/// A reader that gives one byte a call, for so many calls, and then fails.
 #[derive(Drop)]
-struct NoReader;
+struct ShortReader<'a> {
+    rest: &'a [u8],
+    left: usize,
+}
 
-impl Read for NoReader {
-    fn read(&mut self, _buf: &mut [u8]) -> io::Result<usize> {
-        Err(ErrorKind::BrokenPipe.into())
+impl<'a> Read for ShortReader<'a> {
+    fn read(&mut self, buf: &mut [u8]) -> io::Result<usize> {
+        if self.left == 0 {
+            return Err(ErrorKind::BrokenPipe.into());
+        }
+        self.left -= 1;
+        match (self.rest.split_first(), buf.first_mut()) {
+            (Some((byte, rest)), Some(place)) => {
+                *place = *byte;
+                self.rest = rest;
+                Ok(1)
+            }
+            _ => Ok(0),
+        }
     }
 }
 
@@ -451,19 +465,34 @@ impl Write for ShortWriter {
     }
 }
 
+/// How the run of a short script ends, where reading fails behind so many calls.
+fn read_for(alloc: Global, left: usize, out: &mut Vec<u8>) -> Ended {
+    let rest = b"open 1".as_slice();
+    run_script(alloc, &mut ShortReader { rest, left }, out)
+}
+
 #[test]
-fn a_stream_that_fails_ends_the_run(rt: HostRuntime) -> Result<(), Fail> {
-    let alloc = rt.alloc();
-    let mut out = Vec::new(alloc);
-    assert!(rt; run_script(alloc, &mut NoReader, &mut out) == Ended::Stream);
-    assert!(rt; out.is_empty());
-    for left in 0..14 {
-        let mut input = b"open 1".as_slice();
-        let ended = run_script(alloc, &mut input, &mut ShortWriter { left });
-        assert!(rt; ended == Ended::Stream);
+fn a_script_that_cannot_be_read_is_not_run(rt: HostRuntime) -> Result<(), Fail> {
+    let mut out = Vec::new(rt.alloc());
+    for left in 0..7 {
+        assert!(rt; read_for(rt.alloc(), left, &mut out) == Ended::Stream);
     }
+    assert!(rt; out.is_empty());
+    assert!(rt; read_for(rt.alloc(), 7, &mut out) == Ended::Done);
+    Ok(())
+}
+
+/// How the run of a short script ends, where writing fails behind so many bytes.
+fn written_for(alloc: Global, left: usize) -> Ended {
     let mut input = b"open 1".as_slice();
-    let ended = run_script(alloc, &mut input, &mut ShortWriter { left: 14 });
-    assert!(rt; ended == Ended::Done);
+    run_script(alloc, &mut input, &mut ShortWriter { left })
+}
+
+#[test]
+fn an_output_that_cannot_be_written_ends_the_run(rt: HostRuntime) -> Result<(), Fail> {
+    for left in 0..14 {
+        assert!(rt; written_for(rt.alloc(), left) == Ended::Stream);
+    }
+    assert!(rt; written_for(rt.alloc(), 14) == Ended::Done);
     Ok(())
 }
