@@ -393,6 +393,33 @@ fn a_long_key_cut_in_two_anywhere_is_read_alike(rt: HostRuntime) -> Result<(), F
 }
 
 #[test]
+fn a_stream_without_a_login_cut_in_two_anywhere_is_answered_alike(
+    rt: HostRuntime,
+) -> Result<(), Fail> {
+    let alloc = rt.alloc();
+    let mut stream = padded(alloc, b"set a 0 0 257\r\n", b'x', 274)?;
+    stream.extend_from_slice(b"version\r\n")?;
+    let case = Cut {
+        begin: b"user alice one 65536\nopen 1\n",
+        stream: &stream,
+        behind: b"",
+        output: b"conn 1 open =SERVER_ERROR object too large for cache\\r\\nCLIENT_ERROR unauthenticated\\r\\n\n",
+    };
+    expect_cut(&rt, alloc, &case)
+}
+
+#[test]
+fn a_stream_that_is_shut_off_may_be_cut_anywhere(rt: HostRuntime) -> Result<(), Fail> {
+    let case = Cut {
+        begin: IN,
+        stream: b"set k 0 0 5\r\nab",
+        behind: b"shut 1\npiece 1 cde\\r\\n\nact 1 9\n",
+        output: b"conn 1 closed =STORED\\r\\n\n",
+    };
+    expect_cut(&rt, rt.alloc(), &case)
+}
+
+#[test]
 fn the_front_of_a_block_over_the_limit_may_be_cut_anywhere(rt: HostRuntime) -> Result<(), Fail> {
     let alloc = rt.alloc();
     let block = padded(alloc, b"set k 0 0 1048577\r\n", b'\n', 300)?;
