@@ -1,14 +1,34 @@
 -- What look-ups touch, advanced twice, is as advanced to the later moment, and each command first advances.
 use Rattle.std.specs.Prelude.{max, filter}
-use Rattle.std.proofs.Common.{◌≡◌, ℕ, ◌≤◌, Bool, true, false, cond, List, Option, Some, None, refl, sym, ap, arith}
+use Rattle.std.proofs.Common.{◌≡◌, ℕ, ◌≤◌, Bool, true, false, cond, List, [], ◌∷◌, Option, Some, None, refl, sym, ap, arith}
 use Rattle.tc_model.specs.Areas.{Areas}
+use Rattle.tc_model.specs.Caching.{IsLawful}
+use Rattle.tc_item.specs.declared.moment.Due.{Due}
+use Rattle.tc_item.specs.declared.moment.Due.TheVariants.{Never, At}
+use Rattle.tc_item.specs.Expiry.{is_before}
 use Rattle.tc_plain.specs.declared.entry.Entry.{Entry}
 use Rattle.tc_plain.specs.Entries.{lives}
 use Rattle.tc_plain.specs.Live.{Live, no_entries, kept, is_flush_due, at_moment, advanced}
-use Rattle.tc_plain.specs.Acting.{done, with_note}
-use Rattle.tc_plain.specs.Freshness.{WholeAdvancesOnce, WholeActsAdvanced}
-use Rattle.tc_plain.proofs.AdvancedTwice.{is_before-earlier, filter-filter}
-use Rattle.std.proofs.lemmas.Bool.{leb-true, le-leb}
+use Rattle.tc_plain.specs.Doing.{done, with_note}
+use Rattle.tc_plain.specs.Laws.{AdvancesOnce, ActsAdvanced, user_caching}
+use Rattle.std.proofs.lemmas.Bool.{leb-true, le-leb, ltb-true, lt-ltb}
+
+-- what is before a due later is before it now
+is_before-earlier : (m n : ℕ) (due : Due) → m ≤ n → is_before n due ≡ true → is_before m due ≡ true
+is_before-earlier m n Never le h = refl
+is_before-earlier m n (At d) le h = lt-ltb m d (omega (arith, ltb-true n d h))
+
+-- to filter by a weaker test first changes nothing
+filter-filter : {A : Type 0} (p q : A → Bool) → ((x : A) → q x ≡ true → p x ≡ true) → (xs : List A) → filter q (filter p xs) ≡ filter q xs
+filter-filter p q h [] = refl
+filter-filter {A} p q h (x ∷ xs) = go (p x) (q x) refl (h x) (filter-filter p q h xs)
+  where
+    go : (a b : Bool) → q x ≡ b → (b ≡ true → a ≡ true) → filter q (filter p xs) ≡ filter q xs
+        → filter q (cond a (x ∷ filter p xs) (filter p xs)) ≡ cond b (x ∷ filter q xs) (filter q xs)
+    go true true e f ih = rw e (ap (λ ys. x ∷ ys) ih)
+    go true false e f ih = rw e ih
+    go false true e f ih = absurd (grind (arith, f refl))
+    go false false e f ih = ih
 
 -- a flush that is due stays due
 is_flush_due-later : (m n : ℕ) (f : Option ℕ) → m ≤ n → is_flush_due f m ≡ true → is_flush_due f n ≡ true
@@ -24,6 +44,13 @@ pub moment-at_moment : (m : ℕ) (l : Live) → (at_moment m l).moment ≡ m
 moment-at_moment m l = go (is_flush_due l.flush m)
   where
     go : (b : Bool) → (cond b (record l { areas = no_entries; flush = None; moment = m }) (record l { areas = kept (lives m) l.areas; moment = m })).moment ≡ m
+    go true = refl
+    go false = refl
+
+pub limits-at_moment : (m : ℕ) (l : Live) → (at_moment m l).limits ≡ l.limits
+limits-at_moment m l = go (is_flush_due l.flush m)
+  where
+    go : (b : Bool) → (cond b (record l { areas = no_entries; flush = None; moment = m }) (record l { areas = kept (lives m) l.areas; moment = m })).limits ≡ l.limits
     go true = refl
     go false = refl
 
@@ -44,8 +71,12 @@ advanced-advanced l m n le =
     (let same : max (max l.moment m) n ≡ max l.moment n = omega arith in
     rw same (at_moment-at_moment (max l.moment m) (max l.moment n) l (omega arith)))
 
-pub whole_advances_once : WholeAdvancesOnce
-whole_advances_once k m n le = ap (λ l. record k { live = l }) (advanced-advanced k.live m n le)
+pub advances_once : AdvancesOnce
+advances_once k m n le = ap (λ l. record k { live = l }) (advanced-advanced k.live m n le)
 
-pub whole_acts_advanced : WholeActsAdvanced
-whole_acts_advanced k m command = ap (λ j. with_note command (done j command)) (sym (whole_advances_once k m m (omega arith)))
+pub acts_advanced : ActsAdvanced
+acts_advanced k m command = ap (λ j. with_note command (done j command)) (sym (advances_once k m m (omega arith)))
+
+-- the cache is lawful, so that a server over it isolates its users
+pub is_lawful : IsLawful user_caching
+is_lawful = record { twice = advances_once; first = acts_advanced }

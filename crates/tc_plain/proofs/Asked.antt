@@ -16,7 +16,7 @@ use Rattle.tc_plain.specs.declared.entry.Entry.{Entry}
 use Rattle.tc_plain.specs.Entries.{weight, lives, has_key, hit_of, with_item}
 use Rattle.tc_plain.specs.Live.{Live, held, entries_of, kept, no_entries, is_flush_due, at_moment}
 use Rattle.tc_plain.specs.Placing.{seen, at_front, put_in, without_key, placed, used}
-use Rattle.tc_plain.specs.Acting.{looked_up, all_looked_up}
+use Rattle.tc_plain.specs.Doing.{looked_up, all_looked_up}
 use Rattle.tc_plain.specs.AreaLists.{change_of, is_due}
 use Rattle.tc_plain.specs.Soundness.{AreSound, count_under}
 use Rattle.tc_plain.proofs.Sound.{sound_at_moment, once_put, sound_hit}

@@ -11,10 +11,11 @@ use Rattle.tc_stats.specs.declared.outcome.Outcome.{Outcome}
 use Rattle.tc_plain.specs.declared.entry.Entry.{Entry}
 use Rattle.tc_plain.specs.Entries.{lives}
 use Rattle.tc_plain.specs.Live.{Live, kept, no_entries, is_flush_due, at_moment}
-use Rattle.tc_plain.specs.Whole.{UserCache, fresh, advance}
-use Rattle.tc_plain.specs.Acting.{act, done, with_note}
+use Rattle.tc_plain.specs.UserCache.{UserCache, fresh, advance}
+use Rattle.tc_plain.specs.Doing.{act, done, with_note}
 use Rattle.tc_plain.specs.Cell.{Cell, empty_cell, living, cell_at, item_after, changes_after, after_command, cell_from, cell}
-use Rattle.tc_plain.specs.Freshness.{whole_caching, hits_in, IsCell, IsFresh}
+use Rattle.tc_plain.specs.Laws.{user_caching}
+use Rattle.tc_plain.specs.Freshness.{hits_in, IsCell, IsFresh}
 use Rattle.tc_plain.proofs.Held.{Map, Matches}
 use Rattle.tc_plain.proofs.Steps.{Goes, goes}
 
@@ -113,13 +114,13 @@ called past e k le o h =
     let there : Called past (call_at e.moment e.command j) (act k e.moment e.command) = subst (λ t. Called past (call_at t e.command j) (act k e.moment e.command)) at now in
     subst (λ t. Called past (record { moment = e.moment; command = e.command; outcome = t }) (act k e.moment e.command)) o there
 
-fresh_from : (past before after : List Call) (e : Call) (k : UserCache) → Known past k → Replays whole_caching k.live.moment k (before ++ e ∷ after) → Every (IsCell (past ++ before) e.moment) (hits_in e.outcome)
+fresh_from : (past before after : List Call) (e : Call) (k : UserCache) → Known past k → Replays user_caching k.live.moment k (before ++ e ∷ after) → Every (IsCell (past ++ before) e.moment) (hits_in e.outcome)
 fresh_from past [] after e k h r = rw (append-nil past) (called past e k r.0 r.1 h).fresh
 fresh_from past (x ∷ before) after e k h r =
     let c = called past x k r.0 r.1 h in
     let next : Every (IsCell ((past ++ x ∷ []) ++ before) e.moment) (hits_in e.outcome) =
     fresh_from (past ++ x ∷ []) before after e (act k x.moment x.command).1 c.known
-    (subst (λ t. Replays whole_caching t (act k x.moment x.command).1 (before ++ e ∷ after)) (sym c.moment) r.2) in
+    (subst (λ t. Replays user_caching t (act k x.moment x.command).1 (before ++ e ∷ after)) (sym c.moment) r.2) in
     rw append_assoc at next
 
 pub is_fresh : IsFresh

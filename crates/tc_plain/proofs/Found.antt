@@ -1,14 +1,9 @@
 -- What a search among all items finds is what is held among the living ones.
-use Rattle.std.specs.Prelude.{filter, option_map, find, ◌&&◌, option_to_list}
-use Rattle.std.specs.List.{cons_option}
-use Rattle.std.proofs.Common.{◌≡◌, ℕ, zero, suc, ◌+◌, ◌<◌, Bool, true, false, cond, List, [], ◌∷◌, ◌++◌, length, get_or, take, Option, Some, None, refl, ◌∙◌, ap, arith}
-use Rattle.std.proofs.lemmas.List.{take_more}
-use Rattle.std.proofs.lemmas.List.Elements.{filter_map-append}
+use Rattle.std.specs.Prelude.{filter, option_map, find, ◌&&◌}
+use Rattle.std.proofs.Common.{◌≡◌, ℕ, zero, suc, Bool, true, false, cond, List, [], ◌∷◌, get_or, Option, Some, None, refl, arith}
 use Rattle.tc_model.specs.Place.{first_place}
-use Rattle.tc_stats.specs.declared.hits.Hit.{Hit}
 use Rattle.tc_plain.specs.declared.entry.Entry.{Entry}
-use Rattle.tc_plain.specs.UserCache.{lives, has_key}
-use Rattle.tc_plain.specs.Doing.{hit_under, hits_of}
+use Rattle.tc_plain.specs.Entries.{lives, has_key}
 
 -- an entry is alive and under this key
 abbrev pub is_found : ℕ → List ℕ → Entry → Bool
@@ -44,15 +39,3 @@ missed_first false b (Some n) e rest key later k f = grind arith
 pub find-missed : (moment : ℕ) (key : List ℕ) (es : List Entry) → first_place (is_found moment key) es ≡ None → find (has_key key) (filter (lives moment) es) ≡ None
 find-missed moment key [] f = refl
 find-missed moment key (e ∷ es) f = missed_first (lives moment e) (has_key key e) (first_place (is_found moment key) es) e (filter (lives moment) es) key (find-missed moment key es) refl f
-
-one_hit : (o : Option Hit) → cons_option o [] ≡ option_to_list o
-one_hit None = refl
-one_hit (Some h) = refl
-
--- the hits of one more key come last
-hits_of-push : (items : List Entry) (keys : List (List ℕ)) (key : List ℕ) → hits_of items (keys ++ key ∷ []) ≡ hits_of items keys ++ option_to_list (hit_under items key)
-hits_of-push items keys key = filter_map-append (hit_under items) keys (key ∷ []) ∙ ap (λ h. hits_of items keys ++ h) (one_hit (hit_under items key))
-
-pub hits_of-take_more : (items : List Entry) (keys : List (List ℕ)) (i : ℕ) (d : List ℕ) → i < length keys
-    → hits_of items (take (i + 1) keys) ≡ hits_of items (take i keys) ++ option_to_list (hit_under items (get_or keys i d))
-hits_of-take_more items keys i d lt = ap (hits_of items) (take_more keys i d lt) ∙ hits_of-push items (take i keys) (get_or keys i d)

@@ -1,5 +1,3 @@
-pub mod AdvancedTwice
-pub mod Sums
 pub mod Found
 pub mod Advances
 pub mod Held
@@ -16,3 +14,4 @@ pub mod Dropping
 pub mod Used
 pub mod Shown
 pub mod Asked
+pub mod Planning

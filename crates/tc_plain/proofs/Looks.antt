@@ -11,7 +11,7 @@ use Rattle.tc_plain.specs.declared.entry.Entry.{Entry}
 use Rattle.tc_plain.specs.Entries.{shown_as, hit_of, with_item}
 use Rattle.tc_plain.specs.Live.{Live, held}
 use Rattle.tc_plain.specs.Placing.{seen, used}
-use Rattle.tc_plain.specs.Acting.{looked_up, all_looked_up}
+use Rattle.tc_plain.specs.Doing.{looked_up, all_looked_up}
 use Rattle.tc_plain.proofs.Held.{Map, Matches, Matches-same, held_matches, placed_matches}
 
 -- a hit is what stands under its key

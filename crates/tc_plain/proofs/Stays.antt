@@ -22,14 +22,14 @@ use Rattle.tc_plain.specs.declared.entry.Entry.{Entry}
 use Rattle.tc_plain.specs.Entries.{weight, with_item, with_due, with_data}
 use Rattle.tc_plain.specs.Live.{Live, limits_of, held, at_moment}
 use Rattle.tc_plain.specs.Placing.{seen, frequency, used}
-use Rattle.tc_plain.specs.Whole.{UserCache, advance}
+use Rattle.tc_plain.specs.UserCache.{UserCache, advance}
 use Rattle.tc_plain.specs.Storing.{Offer, Refused, Offered, is_too_large, is_worn, changed, accepted}
-use Rattle.tc_plain.specs.Acting.{looked_up, all_looked_up, with_live, touched, deleted, counted, counted_to, counted_under, done}
+use Rattle.tc_plain.specs.Doing.{looked_up, all_looked_up, with_live, touched, deleted, counted, counted_to, counted_under, done}
 use Rattle.tc_plain.specs.Soundness.{AreSound, IsSound, HasShortKey, StaysSound}
 use Rattle.tc_plain.proofs.Sound.{IsLight, held_light, sound_kept, sound_none, sound_at_moment, sound_hit, sound_settled}
 
 -- another state of what look-ups touch
-sound_with : (k : UserCache) (l : Live) → IsSound k → l.limits ≡ k.live.limits → AreSound k.live.limits l.areas → IsSound (with_live k l)
+pub sound_with : (k : UserCache) (l : Live) → IsSound k → l.limits ≡ k.live.limits → AreSound k.live.limits l.areas → IsSound (with_live k l)
 sound_with k l h same s = record {
   least_budget = h.least_budget;
   most_budget = h.most_budget;
@@ -40,7 +40,7 @@ sound_with k l h same s = record {
   last = h.last;
 }
 
-sound_changed : (e : Entry) (k : UserCache) → is_worn k ≡ false → IsLight k.live.limits e → IsSound k → IsSound (changed e k)
+pub sound_changed : (e : Entry) (k : UserCache) → is_worn k ≡ false → IsLight k.live.limits e → IsSound k → IsSound (changed e k)
 sound_changed e k w l h = record {
   least_budget = h.least_budget;
   most_budget = h.most_budget;
@@ -67,7 +67,7 @@ sound_accepted k key (Offered item) h = go (is_too_large k key item.blob) refl (
         sound_changed (record { key = key; item = item }) k w (ltb-false k.live.limits.main (weight_of key (length item.blob)) light) h
 
 -- what is found under a key is found under its own
-held_own : (limits : Limits) (key : List ℕ) (l : Live) (e : Entry) → held key l.areas ≡ Some e → AreSound limits l.areas → held e.key l.areas ≡ Some e
+pub held_own : (limits : Limits) (key : List ℕ) (l : Live) (e : Entry) → held key l.areas ≡ Some e → AreSound limits l.areas → held e.key l.areas ≡ Some e
 held_own limits key l e f h = ap (λ q. held q l.areas) (held_light limits key l.areas e f h).0 ∙ f
 
 pub sound_looked : (change : Item → Item) → ((i : Item) → (change i).blob ≡ i.blob) → (keys : List (List ℕ)) (l : Live) → AreSound l.limits l.areas
@@ -84,7 +84,7 @@ sound_looked change q (key ∷ keys) l h = go (held key l.areas) refl (λ j g. s
         let same : weight x ≡ weight e = ap (λ b. weight_of e.key (length b)) (q e.item) in
         later (used x l) (sound_hit l x e (held_own l.limits key l e f h) (omega (arith, same)) h)
 
-sound_touched : (due : Due) (key : List ℕ) (k : UserCache) → IsSound k → IsSound (touched due key (held key k.live.areas) k).1
+pub sound_touched : (due : Due) (key : List ℕ) (k : UserCache) → IsSound k → IsSound (touched due key (held key k.live.areas) k).1
 sound_touched due key k h = go (held key k.live.areas) refl
   where
     go : (o : Option Entry) → held key k.live.areas ≡ o → IsSound (touched due key o k).1
@@ -101,7 +101,7 @@ sound_deleted key k h = go (held key k.live.areas)
     go (Some e) = sound_with k _ h refl (sound_kept k.live.limits k.live.areas _ h.areas)
 
 -- a number that is read is one of 64 bits, and so is what it is counted to
-number-lt : (text : List ℕ) (n : ℕ) → number_in text ≡ Some n → n < 2 ^ 64
+pub number-lt : (text : List ℕ) (n : ℕ) → number_in text ≡ Some n → n < 2 ^ 64
 unfolding number_in
 number-lt text n e = go (is_counter_text (take_while is_ascii_digit text) (drop (length (take_while is_ascii_digit text)) text)) refl e
   where
@@ -143,7 +143,7 @@ sound_counted way key by k short h = go (held key k.live.areas) refl
     go None f = h
     go (Some e) f = read e (number_in e.item.blob) f refl
 
-sound_done : (k : UserCache) (command : Command) → HasShortKey command → IsSound k → IsSound (done k command).1
+pub sound_done : (k : UserCache) (command : Command) → HasShortKey command → IsSound k → IsSound (done k command).1
 sound_done k (Store head blob) short h = sound_accepted k head.key _ h
 sound_done k (Get form keys) short h = let r = sound_looked (λ i. i) (λ i. refl) keys k.live h.areas in sound_with k _ h r.1 r.0
 sound_done k (Gat form exptime keys) short h = let r = sound_looked (with_due (due_of exptime k.live.moment)) (λ i. refl) keys k.live h.areas in sound_with k _ h r.1 r.0

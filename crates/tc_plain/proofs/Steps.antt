@@ -19,9 +19,9 @@ use Rattle.tc_plain.specs.declared.entry.Entry.{Entry}
 use Rattle.tc_plain.specs.Entries.{weight, with_item, with_due, with_data}
 use Rattle.tc_plain.specs.Live.{held}
 use Rattle.tc_plain.specs.Placing.{frequency, used}
-use Rattle.tc_plain.specs.Whole.{UserCache}
+use Rattle.tc_plain.specs.UserCache.{UserCache}
 use Rattle.tc_plain.specs.Storing.{Offer, Refused, Offered, item_of, offer_by, is_too_large, is_worn, changed, accepted, stored}
-use Rattle.tc_plain.specs.Acting.{all_looked_up, as_values, touched, deleted, counted, counted_to, counted_under, done}
+use Rattle.tc_plain.specs.Doing.{all_looked_up, as_values, touched, deleted, counted, counted_to, counted_under, done}
 use Rattle.tc_plain.specs.Cell.{left_by, after_store, item_after, flush_after, changes_after}
 use Rattle.tc_plain.specs.Freshness.{hits_in}
 use Rattle.tc_plain.proofs.Held.{Map, IsIn, Matches, Matches-same, held_matches, unheld_matches, without_key_matches, placed_matches}

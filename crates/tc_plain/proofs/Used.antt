@@ -1,18 +1,18 @@
 -- What an entry that is used leaves, by what its key held.
 use Rattle.std.specs.Prelude.{find, is_some, sum_by}
-use Rattle.std.proofs.Common.{◌≡◌, ℕ, ◌≤◌, Bool, true, false, cond, List, [], ◌∷◌, ◌++◌, Option, Some, None, refl, sym, ◌∙◌, ap, arith}
+use Rattle.std.proofs.Common.{◌≡◌, ℕ, ◌≤◌, ◌+◌, Bool, true, false, cond, List, [], ◌∷◌, ◌++◌, Option, Some, None, refl, sym, ◌∙◌, ap, arith}
 use Rattle.std.proofs.lemmas.List.Sums.{sum_by-cons, sum_by-append}
 use Rattle.std.proofs.lemmas.Slice.Eq.{bytes_eq-Decides}
 use Rattle.tc_model.specs.Areas.{Areas, is_in, demoted, accessed, total, without}
-use Rattle.tc_model.proofs.Totals.{sum-filter-le}
+use Rattle.tc_model.proofs.Totals.{sum-filter-le, total-accessed}
 use Rattle.tc_sketch.specs.Sketch.{Sketch, recorded, hash}
 use Rattle.tc_item.specs.declared.moment.Due.{Due}
 use Rattle.tc_item.specs.declared.item.Item.{Item}
 use Rattle.tc_plain.specs.declared.entry.Entry.{Entry}
 use Rattle.tc_plain.specs.Entries.{weight, lives, has_key, with_item}
 use Rattle.tc_plain.specs.Live.{Live, held, entries_of, kept, no_entries, is_flush_due, at_moment}
-use Rattle.tc_plain.specs.Placing.{seen, at_front, without_key, used}
-use Rattle.tc_plain.specs.Acting.{looked_up}
+use Rattle.tc_plain.specs.Placing.{seen, at_front, put_in, without_key, placed, used}
+use Rattle.tc_plain.specs.Doing.{looked_up}
 use Rattle.tc_plain.specs.AreaLists.{put_back, change_of}
 use Rattle.tc_plain.proofs.Gone.{without-missed}
 
@@ -106,6 +106,18 @@ without_key_le key a = omega (arith, left a.window, left a.probation, left a.pro
   where
     left : (xs : List Entry) → sum_by weight (without (has_key key) xs) ≤ sum_by weight xs
     left xs = sum-filter-le weight _ xs
+
+-- an entry that is placed adds at most what it weighs
+pub placed_le : (l : Live) (e : Entry) → total weight (placed l e) ≤ total weight l.areas + weight e
+placed_le l e = go (lives l.moment e)
+  where
+    put : (o : Option Entry) → total weight (cond (is_some o) (accessed weight l.limits (has_key e.key) e l.areas) (at_front e l.areas)) ≤ total weight l.areas + weight e
+    put (Some x) = omega (arith, total-accessed weight weight l.limits (has_key e.key) e l.areas, without_key_le e.key l.areas)
+    put None = omega (arith, sum_by-cons weight e l.areas.window)
+
+    go : (b : Bool) → total weight (cond b (put_in l.limits e l.areas) (without_key e.key l.areas)) ≤ total weight l.areas + weight e
+    go true = put (held e.key l.areas)
+    go false = omega (arith, without_key_le e.key l.areas)
 
 -- what a key will hold, where no flush is due
 pub held_later : (key : List ℕ) (m : ℕ) (l : Live) (o : Option Entry) → is_flush_due l.flush m ≡ false → held key (kept (lives m) l.areas) ≡ o → held key (at_moment m l).areas ≡ o

@@ -13,8 +13,8 @@ use Rattle.tc_grammar.specs.declared.command.Command.TheVariants.{Store, Get, Ga
 use Rattle.tc_stats.specs.declared.hits.Hit.{Hit}
 use Rattle.tc_stats.specs.declared.outcome.Outcome.{Outcome}
 use Rattle.tc_stats.specs.declared.outcome.Outcome.TheVariants.{Stored, NotStored, Exists, NotFound, Deleted, Touched, Number, Values, Done, TooLarge, NotNumeric}
-use Rattle.tc_plain.specs.Whole.{UserCache, fresh}
-use Rattle.tc_plain.specs.Acting.{act}
+use Rattle.tc_plain.specs.UserCache.{UserCache, fresh}
+use Rattle.tc_plain.specs.Doing.{act}
 
 abbrev start : UserCache
 start = fresh 65536 1048576

@@ -1,81 +1,104 @@
 -- What each command comes to and leaves, once the cache has come to the command's moment. Source: memcached's doc/protocol.txt.
-use Rattle.std.specs.Prelude.{ℕ, ◌+◌, ◌-◌, ◌^◌, cond, not, nat_lt, ◌==◌, ◌||◌, Bool, List, ◌∷◌, length, Option, option_map, filter, find}
-use Rattle.std.specs.List.{filter_map}
+use Rattle.std.specs.Prelude.{ℕ, zero, suc, ◌+◌, cond, List, [], ◌∷◌, ◌++◌, length, Option, Some, None, sum_by}
+use Rattle.tc_item.specs.declared.moment.Due.{Due}
+use Rattle.tc_item.specs.declared.item.Item.{Item}
 use Rattle.tc_item.specs.Expiry.{due_of}
-use Rattle.tc_grammar.specs.declared.command.StoreKind.{StoreKind}
-use Rattle.tc_grammar.specs.declared.command.StoreKind.TheVariants.{Set, Add, Replace, Append, Prepend, Cas}
-use Rattle.tc_grammar.specs.declared.command.Head.{Head}
+use Rattle.tc_counter.specs.CounterText.{number_in, text_of, raised_by, lowered_by}
+use Rattle.tc_grammar.specs.declared.command.Way.{Way}
+use Rattle.tc_grammar.specs.declared.command.Way.TheVariants.{Incr, Decr}
 use Rattle.tc_grammar.specs.declared.command.Command.{Command}
 use Rattle.tc_grammar.specs.declared.command.Command.TheVariants.{Store, Get, Gat, Delete, Count, Touch, Flush, Stats as AskStats, Version as AskVersion, Verbosity, Quit}
 use Rattle.tc_stats.specs.declared.hits.Hit.{Hit}
+use Rattle.tc_stats.specs.declared.counters.Counters.{Counters}
 use Rattle.tc_stats.specs.declared.outcome.Outcome.{Outcome}
-use Rattle.tc_stats.specs.declared.outcome.Outcome.TheVariants.{Stored, Values, Done, Version, TooLarge, CasWorn}
+use Rattle.tc_stats.specs.declared.outcome.Outcome.TheVariants.{NotFound, Deleted, Touched, Number, Values, Done, Stats, Version, NotNumeric, CasWorn}
+use Rattle.tc_stats.specs.Counting.{noted}
 use Rattle.tc_plain.specs.declared.entry.Entry.{Entry}
-use Rattle.tc_plain.specs.UserCache.{UserCache, advance, has_key, lives, total_weight}
+use Rattle.tc_plain.specs.Entries.{weight, hit_of, with_item, with_due, with_data}
+use Rattle.tc_plain.specs.Live.{Live, no_entries, entries_of, held}
+use Rattle.tc_plain.specs.Placing.{seen, without_key, used}
+use Rattle.tc_plain.specs.Storing.{changed, is_worn, stored}
+use Rattle.tc_plain.specs.UserCache.{UserCache, advance}
 
--- what a look-up shows of an entry
-abbrev pub hit_of : Entry → Hit
-hit_of e = record { key = e.key; flags = e.item.flags; blob = e.item.blob; cas = e.item.cas }
+-- a cache with this in the place of what look-ups touch
+abbrev pub with_live : UserCache → Live → UserCache
+with_live k l = record k { live = l }
 
--- the hit of one key among items, if it is held
-abbrev pub hit_under : List Entry → List ℕ → Option Hit
-hit_under items key = option_map hit_of (find (has_key key) items)
+-- one key: a hit is shown as it was and used as it is from now on, and a miss is seen too
+abbrev pub looked_up : (Item → Item) → List ℕ → Option Entry → Live → List Hit × Live
+looked_up change key None l = ([], seen key l)
+looked_up change key (Some e) l = (hit_of e ∷ [], used (with_item e (change e.item)) l)
 
--- the hits of keys among items, in the order asked
-abbrev pub hits_of : List Entry → List (List ℕ) → List Hit
-hits_of items keys = filter_map (hit_under items) keys
+-- keys, one after another
+abbrev pub all_looked_up : (Item → Item) → List (List ℕ) → Live → List Hit × Live
+all_looked_up change [] l = ([], l)
+all_looked_up change (key ∷ keys) l =
+    let first = looked_up change key (held key l.areas) l in
+    let rest = all_looked_up change keys first.1 in
+    (first.0 ++ rest.0, rest.1)
 
--- items without what a key holds
-abbrev pub without_key : List ℕ → List Entry → List Entry
-without_key key items = filter (λ e. not (has_key key e)) items
+-- look-ups as an outcome
+abbrev pub as_values : UserCache → List Hit × Live → Outcome × UserCache
+as_values k r = (Values r.0, with_live k r.1)
 
--- items once an entry is stored among them; one that is not alive takes out what its key holds and is never placed
-abbrev pub with_entry : ℕ → Entry → List Entry → List Entry
-with_entry moment e items = cond (lives moment e) (e ∷ without_key e.key items) (without_key e.key items)
+-- touch: a hit has another due and is used, and a miss is seen
+abbrev pub touched : Due → List ℕ → Option Entry → UserCache → Outcome × UserCache
+touched due key None k = (NotFound, with_live k (seen key k.live))
+touched due key (Some e) k = (Touched, with_live k (used (with_item e (with_due due e.item)) k.live))
 
--- the entry that a storage line makes, with the next cas number
-abbrev pub entry_of : UserCache → Head → List ℕ → Entry
-entry_of k head blob = record {
-  key = head.key;
-  item = record { flags = head.flags; due = due_of head.exptime k.moment; cas = k.last + 1; blob = blob };
+-- delete
+abbrev pub deleted : List ℕ → Option Entry → UserCache → Outcome × UserCache
+deleted key None k = (NotFound, k)
+deleted key (Some e) k = (Deleted, with_live k (record k.live { areas = without_key key k.live.areas }))
+
+-- a number counted: up it wraps at 2^64, and down it stops at 0
+abbrev pub counted : Way → ℕ → ℕ → ℕ
+counted Incr number by = raised_by number by
+counted Decr number by = lowered_by number by
+
+-- an entry whose data is counted, if it is a number: the data is then the new number's text
+abbrev pub counted_to : Way → ℕ → UserCache → Entry → Option ℕ → Outcome × UserCache
+counted_to way by k e None = (NotNumeric, k)
+counted_to way by k e (Some number) = cond (is_worn k) (CasWorn, k)
+    (Number (counted way number by), changed (with_item e (with_data (k.last + 1) (text_of (counted way number by)) e.item)) k)
+
+-- incr and decr
+abbrev pub counted_under : Way → ℕ → Option Entry → UserCache → Outcome × UserCache
+counted_under way by None k = (NotFound, k)
+counted_under way by (Some e) k = counted_to way by k e (number_in e.item.blob)
+
+-- without a delay all items go at once, and a pending flush is over; with one they go that much later, and an earlier wish is forgotten
+abbrev pub flushed : ℕ → Live → Live
+flushed zero l = record l { areas = no_entries; flush = None }
+flushed (suc delay) l = record l { flush = Some (l.moment + suc delay) }
+
+-- the user's counters, with what is held and the limits
+abbrev pub numbers_of : UserCache → Counters
+numbers_of k = record k.counters {
+  curr_items = length (entries_of k.live.areas);
+  bytes = sum_by weight (entries_of k.live.areas);
+  limit_maxbytes = k.budget;
+  item_size_max = k.largest;
 }
-
--- more data than one item may have, or more than the budget held after it
-abbrev pub is_too_large : UserCache → Entry → Bool
-is_too_large k e = nat_lt k.largest (length e.item.blob) || nat_lt k.budget (total_weight (with_entry k.moment e k.items))
-
--- all cas numbers are taken
-abbrev pub is_worn : UserCache → Bool
-is_worn k = k.last == 2 ^ 64 - 1
-
--- storing an entry: too large, cas numbers exhausted, or stored under the next cas number
-abbrev pub stored : UserCache → Entry → Outcome × UserCache
-stored k e = cond (is_too_large k e) (TooLarge, k)
-    (cond (is_worn k) (CasWorn, k) (Stored, record k { last = k.last + 1; items = with_entry k.moment e k.items }))
-
--- a storage line, by its name
-abbrev pub stored_by : StoreKind → UserCache → Entry → Outcome × UserCache
-stored_by Set k e = stored k e
-stored_by Add k e = (Done, k)
-stored_by Replace k e = (Done, k)
-stored_by Append k e = (Done, k)
-stored_by Prepend k e = (Done, k)
-stored_by Cas k e = (Done, k)
 
 -- a command at the cache's moment
 abbrev pub done : UserCache → Command → Outcome × UserCache
-done k (Store head blob) = stored_by head.kind k (entry_of k head blob)
-done k (Get form keys) = (Values (hits_of k.items keys), k)
-done k (Gat form exptime keys) = (Done, k)
-done k (Delete key quiet) = (Done, k)
-done k (Count way key value quiet) = (Done, k)
-done k (Touch key exptime quiet) = (Done, k)
-done k (Flush delay quiet) = (Done, k)
-done k AskStats = (Done, k)
+done k (Store head blob) = stored k head blob
+done k (Get form keys) = as_values k (all_looked_up (λ i. i) keys k.live)
+done k (Gat form exptime keys) = as_values k (all_looked_up (with_due (due_of exptime k.live.moment)) keys k.live)
+done k (Delete key quiet) = deleted key (held key k.live.areas) k
+done k (Count way key value quiet) = counted_under way value (held key k.live.areas) k
+done k (Touch key exptime quiet) = touched (due_of exptime k.live.moment) key (held key k.live.areas) k
+done k (Flush delay quiet) = (Done, with_live k (flushed delay k.live))
+done k AskStats = (Stats (numbers_of k), k)
 done k AskVersion = (Version, k)
 done k (Verbosity level quiet) = (Done, k)
 done k Quit = (Done, k)
 
+-- the counters take note of a command and of what it came to
+abbrev pub with_note : Command → Outcome × UserCache → Outcome × UserCache
+with_note command r = (r.0, record r.1 { counters = noted command r.0 r.1.counters })
+
 -- one command: the cache first comes to its moment
 abbrev pub act : UserCache → ℕ → Command → Outcome × UserCache
-act k moment command = done (advance k moment) command
+act k moment command = with_note command (done (advance k moment) command)

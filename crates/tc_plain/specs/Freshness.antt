@@ -1,26 +1,14 @@
 -- Each hit shows what the commands before it last left under its key: never an item expired, deleted or flushed. Source: this project's own.
-use Rattle.std.specs.Prelude.{◌≡◌, ℕ, ◌≤◌, List, [], ◌∷◌, ◌++◌, Some, option_map, All}
-use Rattle.tc_model.specs.Caching.{Caching, Event, Replays}
+use Rattle.std.specs.Prelude.{◌≡◌, ℕ, List, [], ◌∷◌, ◌++◌, Some, option_map, All}
+use Rattle.tc_model.specs.Caching.{Event, Replays}
 use Rattle.tc_grammar.specs.declared.command.Command.{Command}
 use Rattle.tc_stats.specs.declared.hits.Hit.{Hit}
 use Rattle.tc_stats.specs.declared.outcome.Outcome.{Outcome}
 use Rattle.tc_stats.specs.declared.outcome.Outcome.TheVariants.{Values}
 use Rattle.tc_plain.specs.Entries.{shown_as}
-use Rattle.tc_plain.specs.Whole.{UserCache, fresh, advance}
-use Rattle.tc_plain.specs.Acting.{act}
+use Rattle.tc_plain.specs.UserCache.{fresh}
+use Rattle.tc_plain.specs.Laws.{user_caching}
 use Rattle.tc_plain.specs.Cell.{cell, cell_at}
-
--- the cache of the server's machine
-abbrev pub whole_caching : Caching Command Outcome
-whole_caching = record { State = UserCache; advance = advance; act = act }
-
--- to advance twice is to advance to the later moment
-abbrev pub WholeAdvancesOnce : Type 0
-WholeAdvancesOnce = (k : UserCache) (m n : ℕ) → m ≤ n → advance (advance k m) n ≡ advance k n
-
--- each command first advances the cache to its moment
-abbrev pub WholeActsAdvanced : Type 0
-WholeActsAdvanced = (k : UserCache) (m : ℕ) (command : Command) → act k m command ≡ act (advance k m) m command
 
 -- the hits of an outcome
 abbrev pub hits_in : Outcome → List Hit
@@ -35,4 +23,4 @@ IsCell before moment hit = option_map (shown_as hit.key) (cell_at moment (cell b
 abbrev pub IsFresh : Type 0
 IsFresh =
     (budget largest : ℕ) (before after : List (Event Command Outcome)) (e : Event Command Outcome)
-    → Replays whole_caching 0 (fresh budget largest) (before ++ e ∷ after) → All (IsCell before e.moment) (hits_in e.outcome)
+    → Replays user_caching 0 (fresh budget largest) (before ++ e ∷ after) → All (IsCell before e.moment) (hits_in e.outcome)

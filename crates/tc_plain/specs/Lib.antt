@@ -1,15 +1,12 @@
 pub mod UserCache
 pub mod Doing
 pub mod Laws
-pub mod Conditions
-pub mod Ends
 pub mod Entries
 pub mod Live
 pub mod Placing
-pub mod Whole
 pub mod Storing
-pub mod Acting
 pub mod Cell
 pub mod Freshness
 pub mod Soundness
 pub mod AreaLists
+pub mod Plans

@@ -9,8 +9,8 @@ use Rattle.tc_plain.specs.declared.entry.Entry.{Entry}
 use Rattle.tc_plain.specs.Entries.{weight, has_key, with_item}
 use Rattle.tc_plain.specs.Live.{limits_of, entries_of, held}
 use Rattle.tc_plain.specs.Placing.{used, frequency}
-use Rattle.tc_plain.specs.Whole.{UserCache}
-use Rattle.tc_plain.specs.Acting.{act}
+use Rattle.tc_plain.specs.UserCache.{UserCache}
+use Rattle.tc_plain.specs.Doing.{act}
 
 -- how many entries are under a key
 abbrev pub count_under : List ℕ → Areas Entry → ℕ

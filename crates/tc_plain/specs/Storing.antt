@@ -14,7 +14,7 @@ use Rattle.tc_plain.specs.declared.entry.Entry.{Entry}
 use Rattle.tc_plain.specs.Entries.{weight, with_data}
 use Rattle.tc_plain.specs.Live.{held}
 use Rattle.tc_plain.specs.Placing.{frequency, used}
-use Rattle.tc_plain.specs.Whole.{UserCache}
+use Rattle.tc_plain.specs.UserCache.{UserCache}
 
 -- each entry that settle drops is an eviction
 abbrev pub after_settle : UserCache → Settled Entry → UserCache

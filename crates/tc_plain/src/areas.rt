@@ -1,13 +1,13 @@
 //! The three areas, as lists.
-ghost use Rattle.std.specs.Prelude.{◌≡◌, ℕ, ◌<◌, ◌≤◌, ◌+◌, ◌^◌, is_some, cond, suc, Some, None, MatchOption, OnOk};
+ghost use Rattle.std.specs.Prelude.{◌≡◌, ℕ, ◌<◌, ◌≤◌, ◌+◌, ◌^◌, is_some, cond, suc, Some, None, MatchOption, IfOk, OnOk, length, sum_by};
 ghost use Rattle.tc_model.specs.Areas.{Limits, total, is_in, demoted};
 ghost use Rattle.tc_plain.specs.Entries.{weight, lives, has_key};
-ghost use Rattle.tc_plain.specs.Live.{no_entries, kept, held};
+ghost use Rattle.tc_plain.specs.Live.{no_entries, entries_of, kept, held};
 ghost use Rattle.tc_plain.specs.Placing.{without_key};
 ghost use Rattle.tc_plain.specs.AreaLists.{areas_of, HasRoom, is_from_window, put_back};
 
 use crate::Entry;
-use crate::lists::{count, expire, pop_over, put_first, take_first, take_out};
+use crate::lists::{copy_all, count, expire, pop_over, put_first, take_first, take_out, weigh_all};
 use std::alloc::Global;
 use tc_item::{Moment, NoMemory};
 
@@ -37,6 +37,33 @@ impl Areas {
             probation: Vec::new(alloc),
             protected: Vec::new(alloc),
         }
+    }
+
+    /// How many entries there are in all.
+    pub fn count(&self) -> usize
+        requires { total weight (areas_of self.now) < 2 ^ 63 }
+        ensures { result ≡ length (entries_of (areas_of self.now)) }
+    {
+        count(&self.window) + count(&self.probation) + count(&self.protected)
+    }
+
+    /// What all entries weigh together.
+    pub fn weigh(&self) -> u64
+        requires { total weight (areas_of self.now) < 2 ^ 63 }
+        ensures { result ≡ sum_by weight (entries_of (areas_of self.now)) }
+    {
+        weigh_all(&self.window) + weigh_all(&self.probation) + weigh_all(&self.protected)
+    }
+
+    /// Equal entries, over the same data.
+    pub fn copy(&self, alloc: Global) -> Result<Areas, NoMemory>
+        ensures { IfOk result (λ areas. areas_of areas ≡ areas_of self.now) }
+    {
+        Ok(Areas {
+            window: copy_all(alloc, &self.window)?,
+            probation: copy_all(alloc, &self.probation)?,
+            protected: copy_all(alloc, &self.protected)?,
+        })
     }
 
     /// Room in each list for all entries and one more. A refusal leaves the entries as they are.

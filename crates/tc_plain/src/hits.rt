@@ -4,7 +4,7 @@ ghost use Rattle.std.specs.Str.{bytes_eq};
 ghost use Rattle.std.specs.List.{list_any};
 ghost use Rattle.tc_plain.specs.Entries.{hit_of};
 ghost use Rattle.tc_plain.specs.Live.{at_moment, held};
-ghost use Rattle.tc_plain.specs.Acting.{all_looked_up};
+ghost use Rattle.tc_plain.specs.Doing.{all_looked_up};
 ghost use Rattle.tc_plain.specs.Soundness.{AreSound};
 ghost use Rattle.tc_plain.specs.AreaLists.{areas_of, live_of, HasRoom, change_of, is_due};
 

@@ -1,18 +1,12 @@
 //! The laws of every user's cache.
 ghost use Rattle.tc_plain.specs.Laws.{AdvancesOnce, ActsAdvanced};
-ghost use Rattle.tc_plain.specs.Freshness.{WholeAdvancesOnce, WholeActsAdvanced, IsFresh};
+ghost use Rattle.tc_plain.specs.Freshness.{IsFresh};
 ghost use Rattle.tc_plain.specs.Soundness.{StaysSound, HitDropsNothing};
 
 /// To advance twice is to advance to the later moment, and each command first advances the cache.
 pub fn advancing()
     ensures twice { AdvancesOnce }
     ensures first { ActsAdvanced }
-{}
-
-/// The same two laws of the whole cache.
-pub fn advancing_whole()
-    ensures twice { WholeAdvancesOnce }
-    ensures first { WholeActsAdvanced }
 {}
 
 /// Each hit is what the commands before it last left under its key.

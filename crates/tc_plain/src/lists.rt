@@ -1,11 +1,12 @@
 //! Lists of entries: what they weigh, and taking entries out.
-ghost use Rattle.std.specs.Prelude.{◌≡◌, ◌<◌, ◌≤◌, ◌+◌, ◌^◌, ◌++◌, ◌∷◌, [], not, filter, find, sum_by, length, is_some, IfSome, MatchOption, vec_len, vec_capacity};
+ghost use Rattle.std.specs.Prelude.{◌≡◌, ◌<◌, ◌≤◌, ◌+◌, ◌^◌, ◌++◌, ◌∷◌, [], not, filter, find, sum_by, length, is_some, IfOk, IfSome, MatchOption, vec_len, vec_capacity};
 ghost use Rattle.tc_model.specs.Areas.{without};
 ghost use Rattle.tc_model.specs.Place.{first_place};
 ghost use Rattle.tc_plain.specs.Entries.{weight, lives, has_key};
 
 use crate::Entry;
-use tc_item::{Moment, alive};
+use std::alloc::Global;
+use tc_item::{Moment, NoMemory, alive};
 
 /// What entries weigh together.
 pub fn weigh_all(items: &[Entry]) -> u64
@@ -92,4 +93,15 @@ pub fn count(items: &Vec<Entry>) -> usize
     ensures light { result ≤ sum_by weight items.now.items }
 {
     items.as_slice().len()
+}
+
+/// Equal entries in the same order, over the same data.
+pub fn copy_all(alloc: Global, items: &[Entry]) -> Result<Vec<Entry>, NoMemory>
+    ensures { IfOk result (λ copied. copied.items ≡ items.now) }
+{
+    let mut copied = Vec::with_capacity(alloc, items.len())?;
+    for entry in items {
+        copied.push(entry.copy(alloc)?)?;
+    }
+    Ok(copied)
 }

@@ -1,18 +1,18 @@
 //! What look-ups touch of one user's cache.
-ghost use Rattle.std.specs.Prelude.{◌≡◌, ℕ, ◌<◌, ◌+◌, ◌^◌, is_some, cond, filter, find, length, MatchOption};
+ghost use Rattle.std.specs.Prelude.{◌≡◌, ℕ, ◌<◌, ◌+◌, ◌^◌, is_some, cond, length, IfOk, MatchOption};
 ghost use Rattle.tc_model.specs.Areas.{total, demoted, settle};
 ghost use Rattle.tc_stats.specs.Counting.{more};
-ghost use Rattle.tc_plain.specs.Entries.{weight, lives, has_key};
-ghost use Rattle.tc_plain.specs.Live.{at_moment, advanced, held};
+ghost use Rattle.tc_plain.specs.Entries.{weight, lives};
+ghost use Rattle.tc_plain.specs.Live.{is_flush_due, at_moment, advanced, held};
 ghost use Rattle.tc_plain.specs.Placing.{frequency, used};
-ghost use Rattle.tc_plain.specs.Acting.{looked_up, flushed};
+ghost use Rattle.tc_plain.specs.Doing.{looked_up, flushed};
 ghost use Rattle.tc_plain.specs.AreaLists.{areas_of, live_of, HasRoom, is_from_window, put_back, change_of};
 
 use crate::lists::put_first;
-use crate::lookup::find_entry;
-use crate::standing::is_flush_due;
+use crate::lookup::find_alive;
 use crate::{Areas, Entry, Limits, Origin};
-use tc_item::{Due, Moment, alive};
+use std::alloc::Global;
+use tc_item::{Due, Moment, NoMemory, alive};
 use tc_sketch::{Sketch, hash};
 
 /// What look-ups touch: the areas that hold the entries, how often each key was seen, and when the
@@ -31,12 +31,14 @@ pub struct Live {
     pub moment: Moment,
 }
 
-/// What a key holds among entries that are alive at the moment.
-fn find_alive<'a>(items: &'a [Entry], key: &[u8], moment: Moment) -> Option<&'a Entry>
-    ensures { MatchOption result (find (has_key key.now) (filter (lives moment) items.now) ≡ None) (λ e. find (has_key key.now) (filter (lives moment) items.now) ≡ Some e.now) }
+/// Whether a pending flush stands at or before the moment.
+fn is_flush_due(flush: Option<u64>, moment: Moment) -> bool
+    ensures { result ≡ is_flush_due flush moment }
 {
-    let place = find_entry(items, key, moment)?;
-    Some(&items[place])
+    match flush {
+        None => false,
+        Some(second) => second <= moment.seconds(),
+    }
 }
 
 impl Live {
@@ -52,6 +54,19 @@ impl Live {
         } else {
             self.areas.expire(self.moment);
         }
+    }
+
+    /// An equal state of its own.
+    pub fn copy(&self, alloc: Global) -> Result<Live, NoMemory>
+        ensures { IfOk result (λ live. live_of live ≡ live_of self.now) }
+    {
+        Ok(Live {
+            limits: self.limits,
+            areas: self.areas.copy(alloc)?,
+            sketch: self.sketch.copy()?,
+            flush: self.flush,
+            moment: self.moment,
+        })
     }
 
     /// What a key will hold at the moment.
@@ -129,6 +144,18 @@ impl Live {
         ensures counted { result ≡ more evictions (length (settle weight (frequency (live_of self.old)) self.old.limits (areas_of self.old.areas)).dropped) }
     {
         self.areas.settle(self.limits, &self.sketch, evictions)
+    }
+
+    /// Puts an entry in the place of what its key holds, and brings each area within its limit; each entry
+    /// that is dropped is counted.
+    pub fn change(&mut self, entry: Entry, evictions: u64) -> u64
+        requires weight { total weight (areas_of self.old.areas) + weight entry < 2 ^ 64 }
+        requires room { HasRoom 1 self.old.areas }
+        ensures live { live_of self.new ≡ record (used entry (live_of self.old)) { areas = (settle weight (frequency (used entry (live_of self.old))) self.old.limits (used entry (live_of self.old)).areas).areas } }
+        ensures counted { result ≡ more evictions (length (settle weight (frequency (used entry (live_of self.old))) self.old.limits (used entry (live_of self.old)).areas).dropped) }
+    {
+        self.use_new(entry);
+        self.settle(evictions)
     }
 
     /// Takes all entries out, at once or so many seconds from its moment.

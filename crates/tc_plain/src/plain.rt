@@ -1,46 +1,53 @@
-//! The plain cache: a list, with nothing deferred.
-ghost use Rattle.std.specs.Prelude.{◌≡◌, ◌≤◌, ◌^◌, [], filter, IfOk, OnOk, OnErr};
-ghost use Rattle.tc_plain.specs.UserCache.{fresh, advance, lives, left_by_flush};
-ghost use Rattle.tc_plain.specs.Doing.{hits_of, stored, entry_of};
-ghost use Rattle.tc_plain.specs.Ends.{outcome_of};
+//! The plain cache: three lists, with nothing deferred.
+ghost use Rattle.std.specs.Prelude.{◌≡◌, ◌≤◌, ◌^◌, IfOk, OnOk, OnErr};
+ghost use Rattle.tc_item.specs.Expiry.{due_of};
+ghost use Rattle.tc_stats.specs.Counting.{noted};
+ghost use Rattle.tc_plain.specs.Live.{held};
+ghost use Rattle.tc_plain.specs.UserCache.{fresh, advance};
+ghost use Rattle.tc_plain.specs.Storing.{stored};
+ghost use Rattle.tc_plain.specs.Doing.{with_live, all_looked_up, touched, deleted, counted_under, flushed, numbers_of};
+ghost use Rattle.tc_plain.specs.AreaLists.{change_of};
+ghost use Rattle.tc_plain.specs.Plans.{outcome_of, planned, IsLightPlan};
 
-use crate::lookup::look_up;
-use crate::standing::{bring_to, left_by_flush};
-use crate::storing::{StoreEnd, store};
-use crate::{Cache, Entry};
+use crate::ends::End;
+use crate::hits::{look_all, look_up};
+use crate::offers::{Bid, offer};
+use crate::plans::{Plan, plan_count, plan_item};
+use crate::{Areas, Limits, Live};
 use std::alloc::Global;
 use std::marker::Model;
-use tc_grammar::{Command, Head, StoreKind};
+use tc_grammar::{Command, Head, Way};
 use tc_item::exptime::due;
-use tc_item::{Blob, Item, Key, Moment, NoMemory};
-use tc_stats::{Hits, Outcome};
+use tc_item::{Blob, Due, Key, Moment, NoMemory};
+use tc_sketch::{Sketch, width_of};
+use tc_stats::{Counters, Hits, Outcome, Statistics};
 
-/// One user's cache as a list. Its fields are public, so that another cache can be frozen into one.
-#[derive(Debug, Drop)]
+/// One user's cache as three lists. Its fields are public, so that another cache can be frozen into
+/// one.
+#[derive(Drop)]
 pub struct Plain {
     /// The most that all items may weigh together, 65,536 to 2^30 bytes.
     pub budget: u64,
     /// The most data bytes of one item, 1 to 1,048,576.
     pub largest: u64,
-    /// The moment that the cache was last advanced to.
-    pub moment: Moment,
+    /// What look-ups touch: the entries, how often keys were seen, the pending flush and the moment.
+    pub live: Live,
     /// The last cas number taken.
     pub last: u64,
-    /// The second at which all items go, if that was asked for.
-    pub flush: Option<u64>,
-    /// The items held, under distinct keys.
-    pub items: Vec<Entry>,
+    /// The user's counters.
+    pub counters: Counters,
 }
 
 impl Model for Plain {
     ghost use Rattle.tc_plain.specs.UserCache.{UserCache};
-    ghost use Rattle.tc_plain.specs.Conditions.{IsSound};
+    ghost use Rattle.tc_plain.specs.AreaLists.{live_of};
+    ghost use Rattle.tc_plain.specs.Soundness.{IsSound};
 
     ghost Value = { UserCache };
 
-    ghost view = { λ p. record { budget = p.budget; largest = p.largest; moment = p.moment; last = p.last; flush = p.flush; items = p.items.items } };
+    ghost view = { λ p. record { budget = p.budget; largest = p.largest; live = live_of p.live; last = p.last; counters = p.counters } };
 
-    ghost invariant = { λ p. IsSound p.budget p.largest p.items.items };
+    ghost invariant = { λ p. IsSound (record { budget = p.budget; largest = p.largest; live = live_of p.live; last = p.last; counters = p.counters }) };
 }
 
 impl Plain {
@@ -52,118 +59,229 @@ impl Plain {
         requires most_largest { largest ≤ 1048576 }
         ensures { IfOk result (λ plain. plain ≡ fresh budget largest) }
     {
+        let live = Live {
+            limits: Limits::of(budget),
+            areas: Areas::new(alloc),
+            sketch: Sketch::new(alloc, width_of(budget))?,
+            flush: None,
+            moment: Moment::FIRST,
+        };
         Ok(Plain {
             budget,
             largest,
-            moment: Moment::FIRST,
+            live,
             last: 0,
-            flush: None,
-            items: Vec::new(alloc),
+            counters: Counters::new(),
+        })
+    }
+
+    /// A copy of its own.
+    pub fn copy(&self, alloc: Global) -> Result<Plain, NoMemory>
+        ensures { IfOk result (λ plain. plain ≡ self.now) }
+    {
+        Ok(Plain {
+            budget: self.budget,
+            largest: self.largest,
+            live: self.live.copy(alloc)?,
+            last: self.last,
+            counters: self.counters,
         })
     }
 
     /// Brings the cache to the moment, if that is later than its own.
-    fn advance(&mut self, now: Moment)
+    pub fn advance(&mut self, now: Moment)
         ensures { self.new ≡ advance self.old now }
     {
-        self.moment = self.moment.later(now);
-        bring_to(&mut self.items, &mut self.flush, self.moment);
+        self.live.advance(now);
     }
 
-    /// Look-ups of keys. A refusal changes nothing.
-    fn get(&mut self, alloc: Global, now: Moment, keys: &[Key]) -> Result<(Hits, Hits), NoMemory>
-        ensures first { IfOk result (λ r. r.0 ≡ hits_of (advance self.old now).items keys.now) }
-        ensures second { IfOk result (λ r. r.1 ≡ hits_of (advance self.old now).items keys.now) }
-        ensures state { OnOk result (self.new ≡ advance self.old now) }
+    /// What a storage line with its block will do at the moment.
+    fn plan_store(
+        &self,
+        alloc: Global,
+        now: Moment,
+        head: &Head,
+        blob: &Blob,
+    ) -> Result<Plan, NoMemory>
+        ensures plan { IfOk result (λ plan. planned (advance self.now now) plan ≡ stored (advance self.now now) head.now blob.now) }
+        ensures light { IfOk result (λ plan. IsLightPlan self.now.live.limits plan) }
+    {
+        let moment = self.live.moment.later(now);
+        let held = self.live.peek(head.key.as_bytes(), moment);
+        match offer(alloc, held, head, blob, moment)? {
+            Bid::Refused(end) => Ok(Plan::Ends(end)),
+            Bid::Offered(item) => {
+                plan_item(alloc, self.largest, self.live.limits.main_limit(), &head.key, item)
+            }
+        }
+    }
+
+    /// What counting what a key holds will do at the moment.
+    fn plan_count(
+        &self,
+        alloc: Global,
+        now: Moment,
+        way: Way,
+        key: &Key,
+        by: u64,
+    ) -> Result<Plan, NoMemory>
+        ensures plan { IfOk result (λ plan. planned (advance self.now now) plan ≡ counted_under way by (held key.now (advance self.now now).live.areas) (advance self.now now)) }
+        ensures light { IfOk result (λ plan. IsLightPlan self.now.live.limits plan) }
+    {
+        let moment = self.live.moment.later(now);
+        match self.live.peek(key.as_bytes(), moment) {
+            Some(entry) => plan_count(alloc, entry, way, by),
+            None => Ok(Plan::Ends(End::NotFound)),
+        }
+    }
+
+    /// Carries a plan out at the moment. A refusal changes nothing.
+    fn change(&mut self, now: Moment, plan: Plan) -> Result<End, NoMemory>
+        requires { IsLightPlan self.old.live.limits plan }
+        ensures outcome { IfOk result (λ end. outcome_of end ≡ (planned (advance self.old now) plan).0) }
+        ensures state { OnOk result (self.new ≡ (planned (advance self.old now) plan).1) }
         ensures unchanged_on_err { OnErr result (self.new ≡ self.old) }
     {
-        let moment = self.moment.later(now);
-        let items = left_by_flush(&self.items, self.flush, moment);
-        let first = look_up(alloc, items, keys, moment)?;
-        let second = first.copy(alloc)?;
-        self.advance(now);
-        Ok((first, second))
+        self.live.areas.make_room()?;
+        self.live.advance(now);
+        Ok(self
+            .live
+            .carry_out(plan, &mut self.last, &mut self.counters))
     }
 
-    /// Stores a line's block under its key. A refusal changes nothing.
-    fn set(
+    /// A storage line with its block. A refusal changes nothing.
+    pub fn store(
         &mut self,
         alloc: Global,
         now: Moment,
         head: &Head,
         blob: &Blob,
-    ) -> Result<StoreEnd, NoMemory>
-        ensures outcome { IfOk result (λ end. outcome_of end ≡ (stored (advance self.old now) (entry_of (advance self.old now) head.now blob.now)).0) }
-        ensures state { OnOk result (self.new ≡ (stored (advance self.old now) (entry_of (advance self.old now) head.now blob.now)).1) }
+    ) -> Result<End, NoMemory>
+        ensures outcome { IfOk result (λ end. outcome_of end ≡ (stored (advance self.old now) head.now blob.now).0) }
+        ensures state { OnOk result (self.new ≡ (stored (advance self.old now) head.now blob.now).1) }
         ensures unchanged_on_err { OnErr result (self.new ≡ self.old) }
     {
-        let key = head.key.copy(alloc)?;
-        let blob = blob.copy()?;
-        self.items.reserve(1)?;
-        self.moment = self.moment.later(now);
-        bring_to(&mut self.items, &mut self.flush, self.moment);
-        let item = Item {
-            flags: head.flags,
-            due: due(head.exptime, self.moment),
-            cas: 0,
-            blob,
-        };
-        Ok(store(
-            self.budget,
-            self.largest,
-            self.moment,
-            &mut self.last,
-            &mut self.items,
-            Entry { key, item },
-        ))
+        let plan = self.plan_store(alloc, now, head, blob)?;
+        self.change(now, plan)
     }
-}
 
-impl Cache for Plain {
-    ghost settled = { λ p. p };
-
-    fn act(
+    /// Counts what a key holds up or down. A refusal changes nothing.
+    pub fn count(
         &mut self,
         alloc: Global,
         now: Moment,
-        command: &Command,
-    ) -> Result<(Outcome, Outcome), NoMemory> {
-        match command {
-            Command::Store(head, blob) if head.kind == StoreKind::Set => {
-                let end = self.set(alloc, now, head, blob)?;
-                Ok((end.outcome(), end.outcome()))
-            }
-            Command::Get { form: _, keys } => {
-                let (first, second) = self.get(alloc, now, keys.as_slice())?;
-                Ok((Outcome::Values(first), Outcome::Values(second)))
-            }
-            Command::Version => {
-                self.advance(now);
-                Ok((Outcome::Version, Outcome::Version))
-            }
-            _ => {
-                self.advance(now);
-                Ok((Outcome::Done, Outcome::Done))
-            }
+        way: Way,
+        key: &Key,
+        by: u64,
+    ) -> Result<End, NoMemory>
+        ensures outcome { IfOk result (λ end. outcome_of end ≡ (counted_under way by (held key.now (advance self.old now).live.areas) (advance self.old now)).0) }
+        ensures state { OnOk result (self.new ≡ (counted_under way by (held key.now (advance self.old now).live.areas) (advance self.old now)).1) }
+        ensures unchanged_on_err { OnErr result (self.new ≡ self.old) }
+    {
+        let plan = self.plan_count(alloc, now, way, key, by)?;
+        self.change(now, plan)
+    }
+
+    /// Looks keys up; what they hold has this due from now on, if one is given. A refusal changes nothing.
+    pub fn look(
+        &mut self,
+        alloc: Global,
+        now: Moment,
+        keys: &[Key],
+        due: Option<Due>,
+    ) -> Result<(Hits, Hits), NoMemory>
+        ensures first { IfOk result (λ r. r.0 ≡ (all_looked_up (change_of due) keys.now (advance self.old now).live).0) }
+        ensures second { IfOk result (λ r. r.1 ≡ (all_looked_up (change_of due) keys.now (advance self.old now).live).0) }
+        ensures state { OnOk result (self.new ≡ with_live (advance self.old now) (all_looked_up (change_of due) keys.now (advance self.old now).live).1) }
+        ensures unchanged_on_err { OnErr result (self.new ≡ self.old) }
+    {
+        let moment = self.live.moment.later(now);
+        let first = look_up(alloc, &self.live, keys, moment, due)?;
+        let second = first.copy(alloc)?;
+        self.live.areas.make_room()?;
+        self.live.advance(now);
+        look_all(&mut self.live, keys, due);
+        Ok((first, second))
+    }
+
+    /// The due of an exptime at the moment, or at the cache's own where that is later.
+    pub fn due(&self, now: Moment, exptime: i64) -> Due
+        ensures { result ≡ due_of exptime (advance self.now now).live.moment }
+    {
+        due(exptime, self.live.moment.later(now))
+    }
+
+    /// What a key holds has another due from now on. A refusal changes nothing.
+    pub fn touch(&mut self, now: Moment, key: &Key, due: Due) -> Result<End, NoMemory>
+        ensures outcome { IfOk result (λ end. outcome_of end ≡ (touched due key.now (held key.now (advance self.old now).live.areas) (advance self.old now)).0) }
+        ensures state { OnOk result (self.new ≡ (touched due key.now (held key.now (advance self.old now).live.areas) (advance self.old now)).1) }
+        ensures unchanged_on_err { OnErr result (self.new ≡ self.old) }
+    {
+        self.live.areas.make_room()?;
+        self.live.advance(now);
+        if self.live.look(key.as_bytes(), Some(due)) {
+            Ok(End::Touched)
+        } else {
+            Ok(End::NotFound)
         }
     }
 
-    fn maintain(&mut self, now: Moment, _limit: u32) {
+    /// Takes out what a key holds.
+    pub fn delete(&mut self, now: Moment, key: &Key) -> End
+        ensures outcome { outcome_of result ≡ (deleted key.now (held key.now (advance self.old now).live.areas) (advance self.old now)).0 }
+        ensures state { self.new ≡ (deleted key.now (held key.now (advance self.old now).live.areas) (advance self.old now)).1 }
+    {
+        self.live.advance(now);
+        match self.live.areas.take(key.as_bytes()) {
+            Some(_) => End::Deleted,
+            None => End::NotFound,
+        }
+    }
+
+    /// Takes all items out, at once or so many seconds later.
+    pub fn flush(&mut self, now: Moment, delay: u32)
+        ensures { self.new ≡ with_live (advance self.old now) (flushed delay (advance self.old now).live) }
+    {
+        self.live.advance(now);
+        self.live.flush(delay);
+    }
+
+    /// The user's counters, with what is held and the limits.
+    fn numbers(&self) -> Counters
+        ensures { result ≡ numbers_of self.now }
+    {
+        let mut numbers = self.counters;
+        numbers.curr_items = self.live.areas.count() as u64;
+        numbers.bytes = self.live.areas.weigh();
+        numbers.limit_maxbytes = self.budget;
+        numbers.item_size_max = self.largest;
+        numbers
+    }
+
+    /// The user's counters at the moment, twice. A refusal changes nothing.
+    pub fn stats(
+        &mut self,
+        alloc: Global,
+        now: Moment,
+    ) -> Result<(Statistics, Statistics), NoMemory>
+        ensures first { IfOk result (λ r. r.0 ≡ numbers_of (advance self.old now)) }
+        ensures second { IfOk result (λ r. r.1 ≡ numbers_of (advance self.old now)) }
+        ensures state { OnOk result (self.new ≡ advance self.old now) }
+        ensures unchanged_on_err { OnErr result (self.new ≡ self.old) }
+    {
+        let mut first = Statistics::new(alloc, self.counters)?;
+        let mut second = Statistics::new(alloc, self.counters)?;
         self.advance(now);
+        let numbers = self.numbers();
+        first.set(numbers);
+        second.set(numbers);
+        Ok((first, second))
     }
 
-    fn freeze(&self, alloc: Global) -> Result<Plain, NoMemory> {
-        let mut items = Vec::with_capacity(alloc, self.items.len())?;
-        for entry in &self.items {
-            items.push(entry.copy(alloc)?)?;
-        }
-        Ok(Plain {
-            budget: self.budget,
-            largest: self.largest,
-            moment: self.moment,
-            last: self.last,
-            flush: self.flush,
-            items,
-        })
+    /// Counts a command that came to this outcome.
+    pub fn note(&mut self, command: &Command, outcome: &Outcome)
+        ensures { self.new ≡ record self.old { counters = noted command.now outcome.now self.old.counters } }
+    {
+        self.counters.note(command, outcome);
     }
 }

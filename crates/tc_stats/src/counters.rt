@@ -90,6 +90,13 @@ impl Statistics {
         &self.counters
     }
 
+    /// Puts other counters in their place.
+    pub fn set(&mut self, counters: Counters)
+        ensures { self.new ≡ counters }
+    {
+        *self.counters = counters;
+    }
+
     /// The same counters in another box.
     pub fn copy(&self, alloc: Global) -> Result<Statistics, NoMemory>
         ensures { IfOk result (λ statistics. statistics ≡ self.now) }

@@ -2,7 +2,7 @@ use Rattle.std.proofs.Common.{◌≡◌, take, get_or, arith, ap, sym, ◌∙◌
 use Rattle.tc_model.specs.Areas.{total}
 use Rattle.tc_plain.specs.Entries.{weight}
 use Rattle.tc_plain.specs.Live.{Live, held}
-use Rattle.tc_plain.specs.Acting.{all_looked_up, looked_up}
+use Rattle.tc_plain.specs.Doing.{all_looked_up, looked_up}
 use Rattle.tc_plain.specs.AreaLists.{areas_of, live_of, change_of}
 use Rattle.tc_plain.proofs.Asked.{live-take_more, change_light}
 use Rattle.tc_plain.proofs.Stays.{sound_looked}

@@ -1,5 +1,5 @@
 use Rattle.std.proofs.Common.{◌≡◌, take}
-use Rattle.tc_plain.specs.Acting.{all_looked_up}
+use Rattle.tc_plain.specs.Doing.{all_looked_up}
 use Rattle.tc_plain.specs.AreaLists.{live_of, change_of, HasRoom}
 use Rattle.tc_plain.proofs.hits.look_all.Given as goal
 

@@ -1,6 +1,6 @@
 use Rattle.std.proofs.Common.{◌≡◌, take}
 use Rattle.tc_plain.specs.Live.{at_moment}
-use Rattle.tc_plain.specs.Acting.{all_looked_up}
+use Rattle.tc_plain.specs.Doing.{all_looked_up}
 use Rattle.tc_plain.specs.AreaLists.{live_of, change_of}
 use Rattle.tc_plain.proofs.hits.look_up.Given as goal
 

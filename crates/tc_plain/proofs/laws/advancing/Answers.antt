@@ -1,4 +1,4 @@
-use Rattle.tc_plain.proofs.AdvancedTwice.{advances_once, acts_advanced}
+use Rattle.tc_plain.proofs.Advances.{advances_once, acts_advanced}
 use Rattle.tc_plain.proofs.laws.advancing.Goals as goal
 
 pub returns-clause-twice : goal.returns-clause-twice

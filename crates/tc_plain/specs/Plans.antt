@@ -1,0 +1,54 @@
+-- How commands end that show no item, and what a command will do that may change data. Source: this project's own.
+use Rattle.std.specs.Prelude.{ℕ, ◌+◌, ◌≤◌, cond, Option, ⊤}
+use Rattle.tc_model.specs.Areas.{Limits}
+use Rattle.tc_item.specs.declared.item.Item.{Item}
+use Rattle.tc_stats.specs.declared.outcome.Outcome.{Outcome}
+use Rattle.tc_stats.specs.declared.outcome.Outcome.TheVariants.{Stored, NotStored, Exists, NotFound, Deleted, Touched, Number, Done, Version, TooLarge, NotNumeric, CasWorn}
+use Rattle.tc_plain.specs.declared.ends.End.{End}
+use Rattle.tc_plain.specs.declared.ends.End.TheVariants.{Stored as StoredEnd, NotStored as NotStoredEnd, Exists as ExistsEnd, NotFound as NotFoundEnd, Deleted as DeletedEnd, Touched as TouchedEnd, Number as NumberEnd, Done as DoneEnd, Version as VersionEnd, TooLarge as TooLargeEnd, NotNumeric as NotNumericEnd, CasWorn as CasWornEnd}
+use Rattle.tc_plain.specs.declared.entry.Entry.{Entry}
+use Rattle.tc_plain.specs.declared.plans.Plan.{Plan}
+use Rattle.tc_plain.specs.declared.plans.Plan.TheVariants.{Ends, Changes}
+use Rattle.tc_plain.specs.declared.offers.Bid.{Bid}
+use Rattle.tc_plain.specs.declared.offers.Bid.TheVariants.{Refused as RefusedBid, Offered as OfferedBid}
+use Rattle.tc_plain.specs.Entries.{weight, with_item}
+use Rattle.tc_plain.specs.UserCache.{UserCache}
+use Rattle.tc_plain.specs.Storing.{Offer, Refused, Offered, is_worn, changed}
+
+-- the outcome of an end
+abbrev pub outcome_of : End → Outcome
+outcome_of StoredEnd = Stored
+outcome_of NotStoredEnd = NotStored
+outcome_of ExistsEnd = Exists
+outcome_of NotFoundEnd = NotFound
+outcome_of DeletedEnd = Deleted
+outcome_of TouchedEnd = Touched
+outcome_of (NumberEnd number) = Number number
+outcome_of DoneEnd = Done
+outcome_of VersionEnd = Version
+outcome_of TooLargeEnd = TooLarge
+outcome_of NotNumericEnd = NotNumeric
+outcome_of CasWornEnd = CasWorn
+
+-- an item with another cas number
+abbrev pub with_cas : ℕ → Item → Item
+with_cas cas i = record i { cas = cas }
+
+-- an entry with another cas number
+abbrev pub numbered : ℕ → Entry → Entry
+numbered cas e = with_item e (with_cas cas e.item)
+
+-- what a storage line comes to for what its key holds, with this cas number
+abbrev pub offer_of : ℕ → Bid → Offer
+offer_of cas (RefusedBid end) = Refused (outcome_of end)
+offer_of cas (OfferedBid item) = Offered (with_cas cas item)
+
+-- a plan carried out: it ends at once, or finds the cas numbers used up, or an entry is used under the next one
+abbrev pub planned : UserCache → Plan → Outcome × UserCache
+planned k (Ends end) = (outcome_of end, k)
+planned k (Changes end e) = cond (is_worn k) (CasWorn, k) (outcome_of end, changed (numbered (k.last + 1) e) k)
+
+-- the entry of a plan fits in main
+abbrev pub IsLightPlan : Limits → Plan → Type 0
+IsLightPlan limits (Ends end) = ⊤
+IsLightPlan limits (Changes end e) = weight e ≤ limits.main
