@@ -1,20 +1,24 @@
 -- What a run gives out is what the theorems on the machine speak of.
-use Rattle.std.specs.Prelude.{map, option_map, ◌==◌}
+use Rattle.std.specs.Prelude.{map, filter, option_map, ◌==◌}
 use Rattle.std.proofs.Common.{◌≡◌, ◌≤◌, ℕ, Bool, true, false, cond, List, [], ◌∷◌, Some, refl, sym, ◌∙◌, ap, subst, drop, length}
 use Rattle.std.proofs.Math.ListN.{drop_of_length-le}
-use Rattle.tc_model.specs.Caching.{IsLawful}
+use Rattle.tc_model.specs.Caching.{IsLawful, Replays}
 use Rattle.tc_model.specs.Connection.{is_closed}
-use Rattle.tc_model.specs.Server.{Connection, Step, World, numbered, steps_from, run, sent}
-use Rattle.tc_model.specs.Laws.{IsRising}
+use Rattle.tc_model.specs.Server.{Connection, Step, On, Tick, Maintain, World, numbered, steps_from, run, sent, binds, is_kept, kept_steps}
+use Rattle.tc_model.specs.Laws.{IsRising, IsUnmaintained}
 use Rattle.tc_model.proofs.Isolation.{isolated, indifferent}
 use Rattle.tc_model.proofs.Untouched.{untouched}
 use Rattle.tc_model.proofs.Ordered.{ordered}
+use Rattle.tc_model.proofs.Replayed.{replayed}
 use Rattle.tc_users.specs.declared.users.UserSpec.{UserSpec}
+use Rattle.tc_plain.specs.UserCache.{fresh}
 use Rattle.tc_plain.specs.Laws.{user_caching, AdvancesOnce, ActsAdvanced}
+use Rattle.tc_plain.specs.Freshness.{IsFresh}
+use Rattle.tc_session.specs.Talking.{talking}
 use Rattle.tc_core.specs.declared.step.Step.{Step as StepCode}
 use Rattle.tc_core.specs.Serving.{serving}
 use Rattle.tc_core.specs.Steps.{step_of}
-use Rattle.tc_core.specs.Sending.{output_of, sent_by, IsRun, IsIsolatedRun, IsUntouchedRun, IsIndifferentRun}
+use Rattle.tc_core.specs.Sending.{output_of, sent_by, IsRun, IsIsolatedRun, IsUntouchedRun, IsIndifferentRun, IsFreshRun}
 
 -- the cache of the server is lawful
 lawful : AdvancesOnce → ActsAdvanced → IsLawful user_caching
@@ -59,3 +63,19 @@ module _ (users : List UserSpec) (steps : List Step) (w : World serving) (e : w 
   pub is_indifferent_run : AdvancesOnce → ActsAdvanced → IsIndifferentRun users steps (map output_of w.connections)
   is_indifferent_run twice first others ys user other row at there same c mine theirs =
       sent_here c ∙ indifferent serving (lawful twice first) users others steps ys user other row at there same c mine theirs
+
+-- no step of those that concern a user is maintenance
+unmaintained : (mine : ℕ → Bool) (xs : List Step) → IsUnmaintained (filter (is_kept mine) xs)
+unmaintained mine [] = tt
+unmaintained mine (On c x ∷ xs) = go (mine c) (unmaintained mine xs)
+  where
+    go : (b : Bool) → IsUnmaintained (filter (is_kept mine) xs) → IsUnmaintained (cond b (On c x ∷ filter (is_kept mine) xs) (filter (is_kept mine) xs))
+    go true h = h
+    go false h = h
+unmaintained mine (Tick m ∷ xs) = unmaintained mine xs
+unmaintained mine (Maintain user limit ∷ xs) = unmaintained mine xs
+
+pub is_fresh_run : IsFresh → (users : List UserSpec) (steps : List Step) → IsFreshRun users steps
+is_fresh_run fresh_hits users steps user row at before after e same =
+    fresh_hits row.budget row.largest before after e
+    (subst (Replays user_caching 0 (fresh row.budget row.largest)) same (replayed serving row (kept_steps talking users steps user) (unmaintained (binds talking users steps user) steps)))

@@ -1,9 +1,13 @@
 -- What a run gives out, and what is promised of it. Source: this project's own.
-use Rattle.std.specs.Prelude.{◌≡◌, ℕ, Bool, true, false, cond, List, [], ◌∷◌, map, filter, Option, Some, None, ◌==◌}
+use Rattle.std.specs.Prelude.{◌≡◌, ℕ, Bool, true, false, cond, List, [], ◌∷◌, ◌++◌, map, filter, Option, Some, None, ◌==◌, All}
+use Rattle.tc_model.specs.Caching.{Event}
 use Rattle.tc_model.specs.Connection.{is_closed, user_at}
-use Rattle.tc_model.specs.Server.{Connection, Step, run, solo, sent, binds, kept_steps, is_of}
+use Rattle.tc_model.specs.Server.{Connection, Step, run, solo, sent, binds, kept_steps, is_of, history}
 use Rattle.tc_model.specs.Laws.{IsRising}
+use Rattle.tc_grammar.specs.declared.command.Command.{Command}
+use Rattle.tc_stats.specs.declared.outcome.Outcome.{Outcome}
 use Rattle.tc_users.specs.declared.users.UserSpec.{UserSpec}
+use Rattle.tc_plain.specs.Freshness.{hits_in, IsCell}
 use Rattle.tc_session.specs.Talking.{talking}
 use Rattle.tc_core.specs.Serving.{serving}
 use Rattle.tc_core.specs.declared.outputs.Output.{Output}
@@ -43,3 +47,10 @@ IsIndifferentRun users steps outputs =
     → kept_steps talking users steps user ≡ kept_steps talking others ys other
     → (c : ℕ) → binds talking users steps user c ≡ true → binds talking others ys other c ≡ true
     → sent_by outputs c ≡ sent serving (run serving others ys) c
+
+-- whatever commands a user's connections gave, each hit that they were shown is what the commands before it last left under its key
+abbrev pub IsFreshRun : List UserSpec → List Step → Type 0
+IsFreshRun users steps =
+    (user : ℕ) (row : UserSpec) → user_at users user ≡ Some row
+    → (before after : List (Event Command Outcome)) (e : Event Command Outcome)
+    → history serving row (kept_steps talking users steps user) ≡ before ++ e ∷ after → All (IsCell before e.moment) (hits_in e.outcome)

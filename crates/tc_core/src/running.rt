@@ -2,14 +2,14 @@
 ghost use Rattle.std.specs.Prelude.{◌≡◌, map, IfOk};
 ghost use Rattle.tc_core.specs.Serving.{fresh_cache};
 ghost use Rattle.tc_core.specs.Steps.{step_of};
-ghost use Rattle.tc_core.specs.Sending.{IsRun, IsIsolatedRun, IsUntouchedRun, IsIndifferentRun};
+ghost use Rattle.tc_core.specs.Sending.{IsRun, IsIsolatedRun, IsUntouchedRun, IsIndifferentRun, IsFreshRun};
 
 use crate::outputs::Outputs;
 use crate::server::Server;
 use crate::step::Step;
 use std::alloc::Global;
 use tc_item::NoMemory;
-use tc_plain::{Cache, advancing};
+use tc_plain::{Cache, advancing, freshness};
 use tc_users::Users;
 
 /// Does all steps from the beginning, and gives what each connection was sent. It stops at the first
@@ -20,7 +20,8 @@ use tc_users::Users;
 /// machine of that user alone sends on those connections' steps and the clock's (`isolated`); a
 /// connection that is bound to nobody is sent what its own steps alone have it sent (`untouched`);
 /// and a user with the same row in another table, and the same steps there, is sent the same
-/// (`indifferent`).
+/// (`indifferent`); and each hit that a user's connections are shown is what the commands before it last
+/// left under its key (`fresh`): never an item expired, deleted or flushed.
 pub fn run<C: Cache>(
     alloc: Global,
     users: Users,
@@ -32,8 +33,10 @@ pub fn run<C: Cache>(
     ensures isolated { IfOk result (λ outputs. IsIsolatedRun users (map step_of steps.now) outputs) }
     ensures untouched { IfOk result (λ outputs. IsUntouchedRun users (map step_of steps.now) outputs) }
     ensures indifferent { IfOk result (λ outputs. IsIndifferentRun users (map step_of steps.now) outputs) }
+    ensures fresh { IfOk result (λ outputs. IsFreshRun users (map step_of steps.now)) }
 {
     advancing();
+    freshness();
     let mut server = Server::new(alloc, users, caches);
     for step in steps {
         server.step(alloc, step)?;

@@ -1,5 +1,5 @@
 -- How commands end that show no item, and what a command will do that may change data. Source: this project's own.
-use Rattle.std.specs.Prelude.{ℕ, ◌+◌, ◌≤◌, cond, Option, ⊤}
+use Rattle.std.specs.Prelude.{ℕ, ◌+◌, ◌≤◌, cond, ⊤}
 use Rattle.tc_model.specs.Areas.{Limits}
 use Rattle.tc_item.specs.declared.item.Item.{Item}
 use Rattle.tc_stats.specs.declared.outcome.Outcome.{Outcome}

@@ -22,14 +22,14 @@ pub struct Areas {
 
 /// Where an entry stood before it was taken out.
 #[derive(Clone, Copy, Debug, PartialEq, Eq)]
-pub enum Origin {
+pub(crate) enum Origin {
     Window,
     Main,
 }
 
 impl Areas {
     /// Three empty lists.
-    pub fn new(alloc: Global) -> Areas
+    pub(crate) fn new(alloc: Global) -> Areas
         ensures { areas_of result ≡ no_entries }
     {
         Areas {
@@ -40,7 +40,7 @@ impl Areas {
     }
 
     /// How many entries there are in all.
-    pub fn count(&self) -> usize
+    pub(crate) fn count(&self) -> usize
         requires { total weight (areas_of self.now) < 2 ^ 63 }
         ensures { result ≡ length (entries_of (areas_of self.now)) }
     {
@@ -48,7 +48,7 @@ impl Areas {
     }
 
     /// What all entries weigh together.
-    pub fn weigh(&self) -> u64
+    pub(crate) fn weigh(&self) -> u64
         requires { total weight (areas_of self.now) < 2 ^ 63 }
         ensures { result ≡ sum_by weight (entries_of (areas_of self.now)) }
     {
@@ -56,7 +56,7 @@ impl Areas {
     }
 
     /// Equal entries, over the same data.
-    pub fn copy(&self, alloc: Global) -> Result<Areas, NoMemory>
+    pub(crate) fn copy(&self, alloc: Global) -> Result<Areas, NoMemory>
         ensures { IfOk result (λ areas. areas_of areas ≡ areas_of self.now) }
     {
         Ok(Areas {
@@ -67,7 +67,7 @@ impl Areas {
     }
 
     /// Room in each list for all entries and one more. A refusal leaves the entries as they are.
-    pub fn make_room(&mut self) -> Result<(), NoMemory>
+    pub(crate) fn make_room(&mut self) -> Result<(), NoMemory>
         requires { total weight (areas_of self.old) < 2 ^ 63 }
         ensures room { OnOk result (HasRoom 1 self.new) }
         ensures areas { areas_of self.new ≡ areas_of self.old }
@@ -80,7 +80,7 @@ impl Areas {
     }
 
     /// Takes all entries out.
-    pub fn clear(&mut self)
+    pub(crate) fn clear(&mut self)
         ensures areas { areas_of self.new ≡ no_entries }
         ensures room { (spare : ℕ) → HasRoom spare self.old → HasRoom spare self.new }
     {
@@ -90,7 +90,7 @@ impl Areas {
     }
 
     /// Takes out what isn't alive at the moment.
-    pub fn expire(&mut self, moment: Moment)
+    pub(crate) fn expire(&mut self, moment: Moment)
         ensures areas { areas_of self.new ≡ kept (lives moment) (areas_of self.old) }
         ensures room { (spare : ℕ) → HasRoom spare self.old → HasRoom spare self.new }
     {
@@ -100,7 +100,7 @@ impl Areas {
     }
 
     /// Takes out what a key holds, and hands it out with where it stood.
-    pub fn take(&mut self, key: &[u8]) -> Option<(Origin, Entry)>
+    pub(crate) fn take(&mut self, key: &[u8]) -> Option<(Origin, Entry)>
         ensures taken { MatchOption result (held key.now (areas_of self.old) ≡ None) (λ r. (held key.now (areas_of self.old) ≡ Some r.1) × (is_from_window r.0 ≡ is_in (has_key key.now) self.old.window.items)) }
         ensures areas { areas_of self.new ≡ without_key key.now (areas_of self.old) }
         ensures room { (spare : ℕ) → HasRoom spare self.old → HasRoom (cond (is_some result) (suc spare) spare) self.new }
@@ -119,7 +119,7 @@ impl Areas {
     }
 
     /// Puts an entry at the front of the window if it stood there, and else of protected.
-    pub fn put_back(&mut self, origin: Origin, entry: Entry)
+    pub(crate) fn put_back(&mut self, origin: Origin, entry: Entry)
         requires { HasRoom 1 self.old }
         ensures areas { areas_of self.new ≡ put_back (is_from_window origin) entry (areas_of self.old) }
         ensures room { (spare : ℕ) → HasRoom (suc spare) self.old → HasRoom spare self.new }
@@ -131,7 +131,7 @@ impl Areas {
     }
 
     /// Holds protected to what it may weigh: while it weighs more, its last goes to the front of probation.
-    pub fn hold_protected(&mut self, most: u64)
+    pub(crate) fn hold_protected(&mut self, most: u64)
         requires weight { total weight (areas_of self.old) < 2 ^ 64 }
         requires room { HasRoom 0 self.old }
         ensures areas { (limits : Limits) → limits.protected ≡ most → areas_of self.new ≡ demoted weight limits (areas_of self.old) }

@@ -27,10 +27,10 @@ mod offers;
 mod plain;
 mod plans;
 mod settling;
+#[cfg(test)]
+mod tests;
 
-
-
-pub use areas::{Areas, Origin};
+pub use areas::Areas;
 pub use cache::Cache;
 pub use entry::Entry;
 pub use laws::{advancing, freshness, soundness};

@@ -39,14 +39,14 @@ impl Limits {
     }
 
     /// The most that main may weigh.
-    pub fn main_limit(&self) -> u64
+    pub(crate) fn main_limit(&self) -> u64
         ensures { result ≡ self.now.main }
     {
         self.main
     }
 
     /// The most that protected may weigh.
-    pub fn protected_limit(&self) -> u64
+    pub(crate) fn protected_limit(&self) -> u64
         ensures { result ≡ self.now.protected }
     {
         self.protected

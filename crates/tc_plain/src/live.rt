@@ -10,7 +10,8 @@ ghost use Rattle.tc_plain.specs.AreaLists.{areas_of, live_of, HasRoom, is_from_w
 
 use crate::lists::put_first;
 use crate::lookup::find_alive;
-use crate::{Areas, Entry, Limits, Origin};
+use crate::areas::Origin;
+use crate::{Areas, Entry, Limits};
 use std::alloc::Global;
 use tc_item::{Due, Moment, NoMemory, alive};
 use tc_sketch::{Sketch, hash};
@@ -43,7 +44,7 @@ fn is_flush_due(flush: Option<u64>, moment: Moment) -> bool
 
 impl Live {
     /// Brings it to the moment, if that is later than its own.
-    pub fn advance(&mut self, now: Moment)
+    pub(crate) fn advance(&mut self, now: Moment)
         ensures live { live_of self.new ≡ advanced (live_of self.old) now }
         ensures room { (spare : ℕ) → HasRoom spare self.old.areas → HasRoom spare self.new.areas }
     {
@@ -57,7 +58,7 @@ impl Live {
     }
 
     /// An equal state of its own.
-    pub fn copy(&self, alloc: Global) -> Result<Live, NoMemory>
+    pub(crate) fn copy(&self, alloc: Global) -> Result<Live, NoMemory>
         ensures { IfOk result (λ live. live_of live ≡ live_of self.now) }
     {
         Ok(Live {
@@ -70,7 +71,7 @@ impl Live {
     }
 
     /// What a key will hold at the moment.
-    pub fn peek(&self, key: &[u8], moment: Moment) -> Option<&Entry>
+    pub(crate) fn peek(&self, key: &[u8], moment: Moment) -> Option<&Entry>
         ensures { MatchOption result (held key.now (at_moment moment (live_of self.now)).areas ≡ None) (λ e. held key.now (at_moment moment (live_of self.now)).areas ≡ Some e.now) }
     {
         if is_flush_due(self.flush, moment) {
@@ -104,7 +105,7 @@ impl Live {
 
     /// One look-up of a key: whether it is held. What it holds has this due from now on, if one is
     /// given.
-    pub fn look(&mut self, key: &[u8], due: Option<Due>) -> bool
+    pub(crate) fn look(&mut self, key: &[u8], due: Option<Due>) -> bool
         requires weight { total weight (areas_of self.old.areas) < 2 ^ 32 }
         requires room { HasRoom 0 self.old.areas }
         ensures live { live_of self.new ≡ (looked_up (change_of due) key.now (held key.now (areas_of self.old.areas)) (live_of self.old)).1 }
@@ -120,7 +121,7 @@ impl Live {
     }
 
     /// Puts an entry in the place of what its key holds.
-    pub fn use_new(&mut self, entry: Entry)
+    pub(crate) fn use_new(&mut self, entry: Entry)
         requires weight { total weight (areas_of self.old.areas) + weight entry < 2 ^ 64 }
         requires room { HasRoom 1 self.old.areas }
         ensures live { live_of self.new ≡ used entry (live_of self.old) }
@@ -137,7 +138,7 @@ impl Live {
     }
 
     /// Brings each area within its limit, and counts each entry that is dropped.
-    pub fn settle(&mut self, evictions: u64) -> u64
+    pub(crate) fn settle(&mut self, evictions: u64) -> u64
         requires weight { total weight (areas_of self.old.areas) < 2 ^ 64 }
         requires room { HasRoom 0 self.old.areas }
         ensures live { live_of self.new ≡ record (live_of self.old) { areas = (settle weight (frequency (live_of self.old)) self.old.limits (areas_of self.old.areas)).areas } }
@@ -148,7 +149,7 @@ impl Live {
 
     /// Puts an entry in the place of what its key holds, and brings each area within its limit; each entry
     /// that is dropped is counted.
-    pub fn change(&mut self, entry: Entry, evictions: u64) -> u64
+    pub(crate) fn change(&mut self, entry: Entry, evictions: u64) -> u64
         requires weight { total weight (areas_of self.old.areas) + weight entry < 2 ^ 64 }
         requires room { HasRoom 1 self.old.areas }
         ensures live { live_of self.new ≡ record (used entry (live_of self.old)) { areas = (settle weight (frequency (used entry (live_of self.old))) self.old.limits (used entry (live_of self.old)).areas).areas } }
@@ -159,7 +160,7 @@ impl Live {
     }
 
     /// Takes all entries out, at once or so many seconds from its moment.
-    pub fn flush(&mut self, delay: u32)
+    pub(crate) fn flush(&mut self, delay: u32)
         ensures { live_of self.new ≡ flushed delay (live_of self.old) }
     {
         if delay == 0 {

@@ -76,7 +76,7 @@ impl Plain {
     }
 
     /// A copy of its own.
-    pub fn copy(&self, alloc: Global) -> Result<Plain, NoMemory>
+    pub(crate) fn copy(&self, alloc: Global) -> Result<Plain, NoMemory>
         ensures { IfOk result (λ plain. plain ≡ self.now) }
     {
         Ok(Plain {
@@ -89,7 +89,7 @@ impl Plain {
     }
 
     /// Brings the cache to the moment, if that is later than its own.
-    pub fn advance(&mut self, now: Moment)
+    pub(crate) fn advance(&mut self, now: Moment)
         ensures { self.new ≡ advance self.old now }
     {
         self.live.advance(now);
@@ -150,7 +150,7 @@ impl Plain {
     }
 
     /// A storage line with its block. A refusal changes nothing.
-    pub fn store(
+    pub(crate) fn store(
         &mut self,
         alloc: Global,
         now: Moment,
@@ -166,7 +166,7 @@ impl Plain {
     }
 
     /// Counts what a key holds up or down. A refusal changes nothing.
-    pub fn count(
+    pub(crate) fn count(
         &mut self,
         alloc: Global,
         now: Moment,
@@ -183,7 +183,7 @@ impl Plain {
     }
 
     /// Looks keys up; what they hold has this due from now on, if one is given. A refusal changes nothing.
-    pub fn look(
+    pub(crate) fn look(
         &mut self,
         alloc: Global,
         now: Moment,
@@ -205,14 +205,14 @@ impl Plain {
     }
 
     /// The due of an exptime at the moment, or at the cache's own where that is later.
-    pub fn due(&self, now: Moment, exptime: i64) -> Due
+    pub(crate) fn due(&self, now: Moment, exptime: i64) -> Due
         ensures { result ≡ due_of exptime (advance self.now now).live.moment }
     {
         due(exptime, self.live.moment.later(now))
     }
 
     /// What a key holds has another due from now on. A refusal changes nothing.
-    pub fn touch(&mut self, now: Moment, key: &Key, due: Due) -> Result<End, NoMemory>
+    pub(crate) fn touch(&mut self, now: Moment, key: &Key, due: Due) -> Result<End, NoMemory>
         ensures outcome { IfOk result (λ end. outcome_of end ≡ (touched due key.now (held key.now (advance self.old now).live.areas) (advance self.old now)).0) }
         ensures state { OnOk result (self.new ≡ (touched due key.now (held key.now (advance self.old now).live.areas) (advance self.old now)).1) }
         ensures unchanged_on_err { OnErr result (self.new ≡ self.old) }
@@ -227,7 +227,7 @@ impl Plain {
     }
 
     /// Takes out what a key holds.
-    pub fn delete(&mut self, now: Moment, key: &Key) -> End
+    pub(crate) fn delete(&mut self, now: Moment, key: &Key) -> End
         ensures outcome { outcome_of result ≡ (deleted key.now (held key.now (advance self.old now).live.areas) (advance self.old now)).0 }
         ensures state { self.new ≡ (deleted key.now (held key.now (advance self.old now).live.areas) (advance self.old now)).1 }
     {
@@ -239,7 +239,7 @@ impl Plain {
     }
 
     /// Takes all items out, at once or so many seconds later.
-    pub fn flush(&mut self, now: Moment, delay: u32)
+    pub(crate) fn flush(&mut self, now: Moment, delay: u32)
         ensures { self.new ≡ with_live (advance self.old now) (flushed delay (advance self.old now).live) }
     {
         self.live.advance(now);
@@ -259,7 +259,7 @@ impl Plain {
     }
 
     /// The user's counters at the moment, twice. A refusal changes nothing.
-    pub fn stats(
+    pub(crate) fn stats(
         &mut self,
         alloc: Global,
         now: Moment,
@@ -279,7 +279,7 @@ impl Plain {
     }
 
     /// Counts a command that came to this outcome.
-    pub fn note(&mut self, command: &Command, outcome: &Outcome)
+    pub(crate) fn note(&mut self, command: &Command, outcome: &Outcome)
         ensures { self.new ≡ record self.old { counters = noted command.now outcome.now self.old.counters } }
     {
         self.counters.note(command, outcome);

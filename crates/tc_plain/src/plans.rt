@@ -84,7 +84,7 @@ pub fn plan_count(alloc: Global, entry: &Entry, way: Way, by: u64) -> Result<Pla
 impl Live {
     /// Carries a plan out, for which there is room: an entry gets the next cas number after `last`, and
     /// each entry that is dropped for it is counted.
-    pub fn carry_out(&mut self, plan: Plan, last: &mut u64, counters: &mut Counters) -> End
+    pub(crate) fn carry_out(&mut self, plan: Plan, last: &mut u64, counters: &mut Counters) -> End
         requires weight { total weight (areas_of self.old.areas) < 2 ^ 63 }
         requires light { IsLightPlan self.old.limits plan }
         requires main { self.old.limits.main < 2 ^ 63 }

@@ -92,7 +92,7 @@ impl Areas {
     }
 
     /// Brings each area within its limit, and counts each entry that is dropped.
-    pub fn settle(&mut self, limits: Limits, sketch: &Sketch, mut evictions: u64) -> u64
+    pub(crate) fn settle(&mut self, limits: Limits, sketch: &Sketch, mut evictions: u64) -> u64
         requires weight { total weight (areas_of self.old) < 2 ^ 64 }
         requires room { HasRoom 0 self.old }
         ensures areas { areas_of self.new ≡ (settle weight (frequency_in sketch.now) limits (areas_of self.old)).areas }

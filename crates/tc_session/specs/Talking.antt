@@ -1,13 +1,13 @@
 -- What a connection's next request asks for, before and after it is bound. Source: memcached's doc/protocol.txt, "Authentication".
-use Rattle.std.specs.Prelude.{ℕ, Bool, true, false, List, [], codes, Option, None, Some}
+use Rattle.std.specs.Prelude.{ℕ, Bool, List, [], codes, Option, None, Some}
 use Rattle.tc_model.specs.Connection.{Protocol, Asks, Idle, Tell, Login, Leave, Wants, Rest, Reply, Run, Quit as Parting}
 use Rattle.tc_grammar.specs.declared.command.StoreKind.{StoreKind}
 use Rattle.tc_grammar.specs.declared.command.StoreKind.TheVariants.{Set}
 use Rattle.tc_grammar.specs.declared.command.Head.{Head}
 use Rattle.tc_grammar.specs.declared.command.Command.{Command}
-use Rattle.tc_grammar.specs.declared.command.Command.TheVariants.{Store, Get, Version, Verbosity, Quit}
+use Rattle.tc_grammar.specs.declared.command.Command.TheVariants.{Store, Quit}
 use Rattle.tc_grammar.specs.declared.fault.Fault.{Fault}
-use Rattle.tc_grammar.specs.declared.fault.Fault.TheVariants.{UnknownCommand, LineTooLong, Unauthenticated, AuthenticationFailure}
+use Rattle.tc_grammar.specs.declared.fault.Fault.TheVariants.{LineTooLong, Unauthenticated, AuthenticationFailure}
 use Rattle.tc_feed.specs.declared.request.Request.{Request}
 use Rattle.tc_feed.specs.declared.request.Request.TheVariants.{Ask, Refused}
 use Rattle.tc_feed.specs.Stream.{Reader, more, empty, found, after_first}
@@ -56,28 +56,10 @@ unbound_asks None = Idle
 unbound_asks (Some (Ask command)) = unbound_command command
 unbound_asks (Some (Refused fault quiet)) = unbound_fault fault (fault_said fault quiet)
 
--- the storage name that the cache does
-abbrev pub is_set : StoreKind → Bool
-is_set Set = true
-is_set kind = false
-
--- the commands that the cache does; a session hands no other on
-abbrev pub is_done : Command → Bool
-is_done (Store head blob) = is_set head.kind
-is_done (Get form keys) = true
-is_done Version = true
-is_done (Verbosity level quiet) = true
-is_done command = false
-
--- a command after binding, by whether the cache does it: one that it does not is answered as unknown
-abbrev pub served : Bool → Command → Wants Command
-served true command = Run command
-served false command = Reply (fault_said UnknownCommand (is_quiet command))
-
 -- a command after binding
 abbrev pub bound_command : Command → Wants Command
 bound_command Quit = Parting []
-bound_command command = served (is_done command) command
+bound_command command = Run command
 
 -- a request after binding
 abbrev pub bound_wants : Option Request → Wants Command

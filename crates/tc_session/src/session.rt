@@ -4,7 +4,7 @@ ghost use Rattle.tc_model.specs.Connection.{turn, login, login_turn, unbound_tur
 ghost use Rattle.tc_grammar.specs.declared.fault.Fault.TheVariants.{AuthenticationFailure, NoMemory as OutOfMemory};
 ghost use Rattle.tc_session.specs.Texts.{fault_line, unless_quiet};
 ghost use Rattle.tc_session.specs.Replies.{is_quiet, render, is_long};
-ghost use Rattle.tc_session.specs.Talking.{talking, fault_said, unbound_asks, unbound_command, unbound_store, bound_wants, bound_command, served, is_done};
+ghost use Rattle.tc_session.specs.Talking.{talking, fault_said, unbound_asks, unbound_command, unbound_store, bound_wants, bound_command};
 ghost use Rattle.tc_session.specs.Linked.{Linked, want_of, fault_want, fault_phase, KeepsAtMost};
 
 use crate::Want;
@@ -50,17 +50,6 @@ impl Model for Session {
     ghost Value = { Linked };
 
     ghost view = { λ s. record { endpoint = record { phase = phase_of s.stage; reader = s.feed }; out = s.out.bytes; room = s.out.room } };
-}
-
-/// Whether the cache does the command.
-fn is_done(command: &Command) -> bool
-    ensures { result ≡ is_done command.now }
-{
-    match command {
-        Command::Store(head, _) => matches!(head.kind, StoreKind::Set),
-        Command::Get { .. } | Command::Version | Command::Verbosity { .. } => true,
-        _ => false,
-    }
 }
 
 /// The user whom the data logs in.
@@ -220,26 +209,8 @@ impl Session {
     {
         match command {
             Command::Quit => self.close(),
-            command => self.serve_other(user, command),
+            command => Want::Call(user, command),
         }
-    }
-
-    /// What a command other than `quit` means once the connection is bound.
-    fn serve_other(&mut self, user: UserNo, command: Command) -> Want
-        requires room { 128 ≤ self.old.room }
-        requires bound { self.old.endpoint.phase ≡ Bound user }
-        ensures want { want_of result ≡ (bound_turn talking user self.old.endpoint.reader (served (is_done command) command)).want }
-        ensures busy { want_of result ≢ Nothing }
-        ensures endpoint { self.new.endpoint ≡ (bound_turn talking user self.old.endpoint.reader (served (is_done command) command)).endpoint }
-        ensures said { self.new.out ≡ self.old.out ++ (bound_turn talking user self.old.endpoint.reader (served (is_done command) command)).said }
-        ensures room { 64 ≤ self.new.room }
-    {
-        if is_done(&command) {
-            return Want::Call(user, command);
-        }
-        let quiet = is_quiet(&command);
-        self.say_fault(Fault::UnknownCommand, quiet);
-        Want::Said
     }
 
     /// Says a fault, unless it is quiet; after a line that is too long the connection is closed.

@@ -9,8 +9,8 @@ use std::alloc::Global;
 use std::process::Abort;
 use std::test::Fail;
 use table::{
-    ANSWERED, BEFORE_A_LOGIN, COUNTERS, FAULTS, LOGINS, LOOK_UPS, NOT_DONE, REFUSALS, REPLIES,
-    ROWS, STREAM,
+    ANSWERED, BEFORE_A_LOGIN, CALLED, COUNTERS, FAULTS, LOGINS, LOOK_UPS, REFUSALS, REPLIES, ROWS,
+    STREAM,
 };
 use tc_grammar::{Command, Line, parse_line};
 use tc_item::{Blob, Key, NoMemory};
@@ -397,8 +397,14 @@ fn a_connection_cut_anywhere_is_sent_the_same_bytes(rt: HostRuntime) -> Result<(
 }
 
 #[test]
-fn a_bound_command_that_no_cache_does_yet_is_answered_as_unknown(
-    rt: HostRuntime,
-) -> Result<(), Fail> {
-    expect_answered(&rt, &NOT_DONE)
+fn a_bound_command_is_handed_to_its_users_cache(rt: HostRuntime) -> Result<(), Fail> {
+    let users = users(rt.alloc())?;
+    for said in CALLED {
+        let mut session = alice(rt.alloc(), &users)?;
+        push(&mut session, said)?;
+        let want = next(rt.alloc(), &mut session, &users)?;
+        assert_eq!(rt; caller(&want), 1, "{said:?}");
+        assert_eq!(rt; session.out(), b"".as_slice(), "{said:?}");
+    }
+    Ok(())
 }

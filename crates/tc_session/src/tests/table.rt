@@ -59,20 +59,21 @@ pub const FAULTS: [(&str, &str); 5] = [
     ),
 ];
 
-/// Lines of commands that no cache does yet.
-pub const NOT_DONE: [(&str, &str); 12] = [
-    ("add k 0 0 1\r\nx\r\n", "ERROR\r\n"),
-    ("replace k 0 0 1\r\nx\r\n", "ERROR\r\n"),
-    ("append k 0 0 1\r\nx\r\n", "ERROR\r\n"),
-    ("prepend k 0 0 1\r\nx\r\n", "ERROR\r\n"),
-    ("cas k 0 0 1 1\r\nx\r\n", "ERROR\r\n"),
-    ("delete k\r\n", "ERROR\r\n"),
-    ("incr k 1\r\n", "ERROR\r\n"),
-    ("touch k 1\r\n", "ERROR\r\n"),
-    ("gat 1 k\r\n", "ERROR\r\n"),
-    ("flush_all\r\n", "ERROR\r\n"),
-    ("stats\r\n", "ERROR\r\n"),
-    ("flush_all noreply\r\n", ""),
+/// Lines that a bound connection hands to its user's cache.
+pub const CALLED: [&str; 13] = [
+    "add k 0 0 1\r\nx\r\n",
+    "replace k 0 0 1\r\nx\r\n",
+    "append k 0 0 1\r\nx\r\n",
+    "prepend k 0 0 1\r\nx\r\n",
+    "cas k 0 0 1 1\r\nx\r\n",
+    "delete k\r\n",
+    "incr k 1\r\n",
+    "touch k 1\r\n",
+    "gat 1 k\r\n",
+    "flush_all\r\n",
+    "flush_all noreply\r\n",
+    "stats\r\n",
+    "version\r\n",
 ];
 
 /// A stream of a login, with requests before it and after it.
