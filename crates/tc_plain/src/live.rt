@@ -8,9 +8,9 @@ ghost use Rattle.tc_plain.specs.Placing.{frequency, used};
 ghost use Rattle.tc_plain.specs.Doing.{looked_up, flushed};
 ghost use Rattle.tc_plain.specs.AreaLists.{areas_of, live_of, HasRoom, is_from_window, put_back, change_of};
 
+use crate::areas::Origin;
 use crate::lists::put_first;
 use crate::lookup::find_alive;
-use crate::areas::Origin;
 use crate::{Areas, Entry, Limits};
 use std::alloc::Global;
 use tc_item::{Due, Moment, NoMemory, alive};

@@ -111,7 +111,13 @@ impl Plain {
         match offer(alloc, held, head, blob, moment)? {
             Bid::Refused(end) => Ok(Plan::Ends(end)),
             Bid::Offered(item) => {
-                plan_item(alloc, self.largest, self.live.limits.main_limit(), &head.key, item)
+                plan_item(
+                    alloc,
+                    self.largest,
+                    self.live.limits.main_limit(),
+                    &head.key,
+                    item,
+                )
             }
         }
     }
@@ -144,9 +150,10 @@ impl Plain {
     {
         self.live.areas.make_room()?;
         self.live.advance(now);
-        Ok(self
-            .live
-            .carry_out(plan, &mut self.last, &mut self.counters))
+        Ok(
+            self.live
+                .carry_out(plan, &mut self.last, &mut self.counters),
+        )
     }
 
     /// A storage line with its block. A refusal changes nothing.

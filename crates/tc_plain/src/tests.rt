@@ -6,7 +6,7 @@ use crate::{Cache, Plain};
 use std::alloc::Global;
 use std::process::Abort;
 use std::test::Fail;
-use table::{COUNTS, DUES, FLUSHES, LAST_NUMBER, Row, SMALL, STORES, Wanted};
+use table::{COUNTS, DUES, FLUSHES, LAST_NUMBER, Row, SMALL, STORES};
 use tc_grammar::{Command, Line, parse_line};
 use tc_item::{Blob, Moment, NoMemory};
 use tc_stats::{Counters, Hits, Outcome};
@@ -24,6 +24,17 @@ fn command(alloc: Global, line: &str, block: Vec<u8>) -> Result<Command, Fail> {
     }
 }
 
+/// The last cas number of a cache, and how many entries are in each area.
+fn counts_of(cache: &Plain) -> (u64, usize, usize, usize) {
+    let areas = &cache.live.areas;
+    (
+        cache.last,
+        areas.window.len(),
+        areas.probation.len(),
+        areas.protected.len(),
+    )
+}
+
 /// Does a command at a second below 2^40, and once more where memory was refused, since a refusal
 /// leaves the cache as it was. What is kept is what is answered, so one of the two is enough.
 fn done(
@@ -35,92 +46,112 @@ fn done(
 ) -> Result<Outcome, NoMemory> {
     assert!(rt; second < 1 << 40);
     let now = Moment::new(second);
+    let before = counts_of(cache);
     if let Ok((_answered, kept)) = cache.act(alloc, now, command) {
         return Ok(kept);
     }
+    assert!(rt; counts_of(cache) == before);
     let (answered, _kept) = cache.act(alloc, now, command)?;
     Ok(answered)
 }
 
-/// Whether the only hit is this one.
-fn is_hit(hits: &Hits, flags: u32, data: &str, cas: u64) -> bool {
+/// A word for an outcome.
+fn word_of(outcome: &Outcome) -> &'static str {
+    match outcome {
+        Outcome::Stored => "STORED",
+        Outcome::NotStored => "NOT_STORED",
+        Outcome::Exists => "EXISTS",
+        Outcome::NotFound => "NOT_FOUND",
+        Outcome::Deleted => "DELETED",
+        Outcome::Touched => "TOUCHED",
+        Outcome::Number(_) => "NUMBER",
+        Outcome::Values(hits) if hits.is_empty() => "MISS",
+        Outcome::Values(_) => "HIT",
+        Outcome::Done => "OK",
+        Outcome::Stats(_) => "STATS",
+        Outcome::Version => "VERSION",
+        Outcome::TooLarge => "TOO_LARGE",
+        Outcome::NotNumeric => "NOT_NUMERIC",
+        Outcome::CasWorn => "CAS_WORN",
+    }
+}
+
+/// Whether the only hit, if there is any, is this one.
+fn is_shown(hits: &Hits, flags: u32, data: &str, cas: u64) -> bool {
     match hits.as_slice() {
+        [] => true,
         [hit] => hit.flags == flags && hit.blob.as_slice() == data.as_bytes() && hit.cas == cas,
         _ => false,
     }
 }
 
-fn is_wanted(outcome: &Outcome, wanted: Wanted) -> bool {
-    match (outcome, wanted) {
-        (Outcome::Number(number), Wanted::Number(n)) => *number == n,
-        (Outcome::Values(hits), Wanted::Hit(flags, data, cas)) => is_hit(hits, flags, data, cas),
-        (Outcome::Values(hits), Wanted::Miss) => hits.is_empty(),
-        (Outcome::Stored, Wanted::Stored)
-        | (Outcome::NotStored, Wanted::NotStored)
-        | (Outcome::Exists, Wanted::Exists)
-        | (Outcome::NotFound, Wanted::NotFound)
-        | (Outcome::Deleted, Wanted::Deleted)
-        | (Outcome::Touched, Wanted::Touched)
-        | (Outcome::Done, Wanted::Done)
-        | (Outcome::Version, Wanted::Version)
-        | (Outcome::TooLarge, Wanted::TooLarge)
-        | (Outcome::NotNumeric, Wanted::NotNumeric)
-        | (Outcome::CasWorn, Wanted::CasWorn) => true,
-        (_, _) => false,
+/// Whether a number or a hit is the row's.
+fn is_rows(outcome: &Outcome, row: &Row) -> bool {
+    match outcome {
+        Outcome::Number(number) => *number == row.6,
+        Outcome::Values(hits) => is_shown(hits, row.4, row.5, row.6),
+        _ => true,
     }
 }
 
-/// Does the commands of rows, each of which comes to what is wanted.
-fn expect(
-    rt: &impl Abort,
-    alloc: Global,
-    mut cache: Plain,
-    rows: &[Row],
-) -> Result<(), Fail> {
-    for (second, line, block, wanted) in rows {
-        let block = Vec::from_slice(alloc, block.as_bytes())?;
-        let command = command(alloc, line, block)?;
-        let outcome = done(rt, alloc, &mut cache, *second, &command)?;
-        assert!(rt; is_wanted(&outcome, *wanted), "{line} at {second}");
+/// Does a row's command.
+fn expect_row(rt: &impl Abort, alloc: Global, cache: &mut Plain, row: &Row) -> Result<(), Fail> {
+    let block = Vec::from_slice(alloc, row.2.as_bytes())?;
+    let command = command(alloc, row.1, block)?;
+    let outcome = done(rt, alloc, cache, row.0, &command)?;
+    assert!(rt; word_of(&outcome) == row.3, "{} at {}", row.1, row.0);
+    assert!(rt; is_rows(&outcome, row), "{} at {}", row.1, row.0);
+    Ok(())
+}
+
+/// Does the commands of rows.
+fn expect(rt: &impl Abort, alloc: Global, cache: &mut Plain, rows: &[Row]) -> Result<(), Fail> {
+    for row in rows {
+        expect_row(rt, alloc, cache, row)?;
     }
     Ok(())
 }
 
 #[test]
 fn each_storage_command_stores_by_its_condition(rt: HostRuntime) -> Result<(), Fail> {
-    expect(&rt, rt.alloc(), empty(rt.alloc())?, &STORES)
+    expect(&rt, rt.alloc(), &mut empty(rt.alloc())?, &STORES)
 }
 
 #[test]
 fn counts_wrap_upwards_and_stop_at_zero(rt: HostRuntime) -> Result<(), Fail> {
-    expect(&rt, rt.alloc(), empty(rt.alloc())?, &COUNTS)
+    expect(&rt, rt.alloc(), &mut empty(rt.alloc())?, &COUNTS)
 }
 
 #[test]
 fn items_live_until_the_second_of_their_due(rt: HostRuntime) -> Result<(), Fail> {
-    expect(&rt, rt.alloc(), empty(rt.alloc())?, &DUES)
+    expect(&rt, rt.alloc(), &mut empty(rt.alloc())?, &DUES)
 }
 
 #[test]
 fn a_flush_takes_all_at_once_or_at_its_second(rt: HostRuntime) -> Result<(), Fail> {
-    expect(&rt, rt.alloc(), empty(rt.alloc())?, &FLUSHES)
+    expect(&rt, rt.alloc(), &mut empty(rt.alloc())?, &FLUSHES)
 }
 
 #[test]
 fn an_item_over_the_largest_is_too_large(rt: HostRuntime) -> Result<(), Fail> {
-    let cache = Plain::new(rt.alloc(), 65_536, 3)?;
-    expect(&rt, rt.alloc(), cache, &SMALL)
+    let mut cache = Plain::new(rt.alloc(), 65_536, 3)?;
+    expect(&rt, rt.alloc(), &mut cache, &SMALL)
+}
+
+/// Sets the last cas number that was taken.
+fn come_to(cache: &mut Plain, last: u64) {
+    cache.last = last;
 }
 
 #[test]
 fn the_last_cas_number_is_taken_once(rt: HostRuntime) -> Result<(), Fail> {
     let mut cache = empty(rt.alloc())?;
-    cache.last = 18446744073709551614;
-    expect(&rt, rt.alloc(), cache, &LAST_NUMBER)
+    come_to(&mut cache, 18446744073709551614);
+    expect(&rt, rt.alloc(), &mut cache, &LAST_NUMBER)
 }
 
 /// A command of the rows on evictions: a `set` of so many bytes, or a line alone where there are none.
-type Heavy = (&'static str, usize, Wanted);
+type Heavy = (&'static str, usize, &'static str);
 
 /// Does the commands of rows at the second 0.
 fn expect_heavy(
@@ -132,49 +163,54 @@ fn expect_heavy(
     for (line, len, wanted) in rows {
         let command = command(alloc, line, vec![in alloc; b'x'; *len]?)?;
         let outcome = done(rt, alloc, cache, 0, &command)?;
-        assert!(rt; is_wanted(&outcome, *wanted), "{line}");
+        assert!(rt; word_of(&outcome) == *wanted, "{line}");
     }
     Ok(())
 }
 
 const EVICTIONS: [Heavy; 14] = [
-    ("set a 0 0 30000", 30_000, Wanted::Stored),
-    ("set b 0 0 30000", 30_000, Wanted::Stored),
-    ("set c 0 0 30000", 30_000, Wanted::Stored),
-    ("set c 0 0 30000", 30_000, Wanted::Stored),
-    ("touch b 0", 0, Wanted::Touched),
-    ("touch b 0", 0, Wanted::Touched),
-    ("touch b 0", 0, Wanted::Touched),
-    ("set a 0 0 30000", 30_000, Wanted::Stored),
-    ("set d 0 0 30000", 30_000, Wanted::Stored),
-    ("set a 0 0 30000", 30_000, Wanted::Stored),
-    ("delete a", 0, Wanted::Deleted),
-    ("delete b", 0, Wanted::Deleted),
-    ("delete c", 0, Wanted::NotFound),
-    ("delete d", 0, Wanted::NotFound),
+    ("set a 0 0 30000", 30_000, "STORED"),
+    ("set b 0 0 30000", 30_000, "STORED"),
+    ("set c 0 0 30000", 30_000, "STORED"),
+    ("set c 0 0 30000", 30_000, "STORED"),
+    ("touch b 0", 0, "TOUCHED"),
+    ("touch b 0", 0, "TOUCHED"),
+    ("touch b 0", 0, "TOUCHED"),
+    ("set a 0 0 30000", 30_000, "STORED"),
+    ("set d 0 0 30000", 30_000, "STORED"),
+    ("set a 0 0 30000", 30_000, "STORED"),
+    ("delete a", 0, "DELETED"),
+    ("delete b", 0, "DELETED"),
+    ("delete c", 0, "NOT_FOUND"),
+    ("delete d", 0, "NOT_FOUND"),
 ];
 
 const MISSES: [Heavy; 6] = [
-    ("set a 0 0 30000", 30_000, Wanted::Stored),
-    ("set b 0 0 30000", 30_000, Wanted::Stored),
-    ("get c", 0, Wanted::Miss),
-    ("set c 0 0 30000", 30_000, Wanted::Stored),
-    ("delete a", 0, Wanted::NotFound),
-    ("delete c", 0, Wanted::Deleted),
+    ("set a 0 0 30000", 30_000, "STORED"),
+    ("set b 0 0 30000", 30_000, "STORED"),
+    ("get c", 0, "MISS"),
+    ("set c 0 0 30000", 30_000, "STORED"),
+    ("delete a", 0, "NOT_FOUND"),
+    ("delete c", 0, "DELETED"),
 ];
 
 const HEAVIEST: [Heavy; 4] = [
-    ("set k 0 0 64817", 64_817, Wanted::TooLarge),
-    ("delete k", 0, Wanted::NotFound),
-    ("set k 0 0 64816", 64_816, Wanted::Stored),
-    ("delete k", 0, Wanted::Deleted),
+    ("set k 0 0 64817", 64_817, "TOO_LARGE"),
+    ("delete k", 0, "NOT_FOUND"),
+    ("set k 0 0 64816", 64_816, "STORED"),
+    ("delete k", 0, "DELETED"),
 ];
+
+/// How many entries a cache has evicted.
+fn evictions_of(cache: &Plain) -> u64 {
+    cache.counters.evictions
+}
 
 #[test]
 fn a_candidate_enters_over_what_was_seen_less_often(rt: HostRuntime) -> Result<(), Fail> {
     let mut cache = empty(rt.alloc())?;
     expect_heavy(&rt, rt.alloc(), &mut cache, &EVICTIONS)?;
-    assert_eq!(rt; cache.counters.evictions, 5);
+    assert_eq!(rt; evictions_of(&cache), 5);
     Ok(())
 }
 
@@ -189,14 +225,14 @@ fn an_item_heavier_than_main_is_too_large(rt: HostRuntime) -> Result<(), Fail> {
 }
 
 const COUNTED: [Row; 8] = [
-    (7, "set k 0 0 3", "abc", Wanted::Stored),
-    (7, "add k 0 0 3", "abc", Wanted::NotStored),
-    (7, "get k z", "", Wanted::Hit(0, "abc", 1)),
-    (7, "gat 0 k z", "", Wanted::Hit(0, "abc", 1)),
-    (7, "cas k 0 0 1 9", "x", Wanted::Exists),
-    (7, "incr z 1", "", Wanted::NotFound),
-    (7, "delete z", "", Wanted::NotFound),
-    (7, "flush_all 9", "", Wanted::Done),
+    (7, "set k 0 0 3", "abc", "STORED", 0, "", 0),
+    (7, "add k 0 0 3", "abc", "NOT_STORED", 0, "", 0),
+    (7, "get k z", "", "HIT", 0, "abc", 1),
+    (7, "gat 0 k z", "", "HIT", 0, "abc", 1),
+    (7, "cas k 0 0 1 9", "x", "EXISTS", 0, "", 0),
+    (7, "incr z 1", "", "NOT_FOUND", 0, "", 0),
+    (7, "delete z", "", "NOT_FOUND", 0, "", 0),
+    (7, "flush_all 9", "", "OK", 0, "", 0),
 ];
 
 /// The counters after the commands of `COUNTED`.
@@ -234,12 +270,7 @@ fn stats(rt: &impl Abort, alloc: Global, cache: &mut Plain, second: u64) -> Resu
 fn stats_shows_the_counters_and_what_is_held(rt: HostRuntime) -> Result<(), Fail> {
     let alloc = rt.alloc();
     let mut cache = empty(alloc)?;
-    for (second, line, block, wanted) in &COUNTED {
-        let block = Vec::from_slice(alloc, block.as_bytes())?;
-        let command = command(alloc, line, block)?;
-        let outcome = done(&rt, alloc, &mut cache, *second, &command)?;
-        assert!(rt; is_wanted(&outcome, *wanted), "{line}");
-    }
+    expect(&rt, alloc, &mut cache, &COUNTED)?;
     let shown = stats(&rt, alloc, &mut cache, 15)?;
     assert!(rt; shown == counted());
     let flushed = stats(&rt, alloc, &mut cache, 16)?;
@@ -247,31 +278,35 @@ fn stats_shows_the_counters_and_what_is_held(rt: HostRuntime) -> Result<(), Fail
     Ok(())
 }
 
+const DUE: [Row; 1] = [(100, "set k 0 5 1", "a", "STORED", 0, "", 0)];
+
+const GONE: [Row; 1] = [(100, "get k", "", "MISS", 0, "", 0)];
+
+/// The second of a cache.
+fn second_of(cache: &Plain) -> u64 {
+    cache.live.moment.seconds()
+}
+
 #[test]
 fn maintenance_brings_the_cache_to_its_moment(rt: HostRuntime) -> Result<(), Fail> {
-    let alloc = rt.alloc();
-    let mut cache = empty(alloc)?;
-    let set = command(alloc, "set k 0 5 1", Vec::from_slice(alloc, b"a")?)?;
-    let _ = done(&rt, alloc, &mut cache, 100, &set)?;
+    let mut cache = empty(rt.alloc())?;
+    expect(&rt, rt.alloc(), &mut cache, &DUE)?;
     cache.maintain(Moment::new(105), 0);
-    assert_eq!(rt; cache.live.moment.seconds(), 105);
-    let get = command(alloc, "get k", Vec::new(alloc))?;
-    let outcome = done(&rt, alloc, &mut cache, 100, &get)?;
-    assert!(rt; is_wanted(&outcome, Wanted::Miss));
-    Ok(())
+    assert_eq!(rt; second_of(&cache), 105);
+    expect(&rt, rt.alloc(), &mut cache, &GONE)
 }
 
 const BEFORE: [Heavy; 3] = [
-    ("set a 0 0 30000", 30_000, Wanted::Stored),
-    ("set b 0 0 30000", 30_000, Wanted::Stored),
-    ("touch b 0", 0, Wanted::Touched),
+    ("set a 0 0 30000", 30_000, "STORED"),
+    ("set b 0 0 30000", 30_000, "STORED"),
+    ("touch b 0", 0, "TOUCHED"),
 ];
 
 const AFTER: [Heavy; 4] = [
-    ("set c 0 0 30000", 30_000, Wanted::Stored),
-    ("delete c", 0, Wanted::NotFound),
-    ("delete a", 0, Wanted::Deleted),
-    ("delete b", 0, Wanted::Deleted),
+    ("set c 0 0 30000", 30_000, "STORED"),
+    ("delete c", 0, "NOT_FOUND"),
+    ("delete a", 0, "DELETED"),
+    ("delete b", 0, "DELETED"),
 ];
 
 #[test]
@@ -280,9 +315,7 @@ fn a_frozen_cache_goes_on_as_the_cache_does(rt: HostRuntime) -> Result<(), Fail>
     let mut cache = empty(alloc)?;
     expect_heavy(&rt, alloc, &mut cache, &BEFORE)?;
     let mut frozen = cache.freeze(alloc)?;
-    assert_eq!(rt; frozen.last, 2);
-    assert_eq!(rt; frozen.live.areas.probation.len(), 1);
-    assert_eq!(rt; frozen.live.areas.protected.len(), 1);
+    assert_eq!(rt; counts_of(&frozen), (2, 0, 1, 1));
     expect_heavy(&rt, alloc, &mut frozen, &AFTER)?;
     expect_heavy(&rt, alloc, &mut cache, &AFTER)
 }

@@ -80,9 +80,11 @@ const COUNTERS: Counters = Counters {
 #[test]
 fn boxed_counters_are_what_was_put_in(rt: HostRuntime) -> Result<(), Fail> {
     let statistics = Statistics::new(rt.alloc(), COUNTERS)?;
-    let copied = statistics.copy(rt.alloc())?;
+    let mut copied = statistics.copy(rt.alloc())?;
     assert!(rt; *statistics.counters() == COUNTERS);
     assert!(rt; *copied.counters() == COUNTERS);
+    copied.set(Counters::new());
+    assert!(rt; *copied.counters() == Counters::new());
     Ok(())
 }
 

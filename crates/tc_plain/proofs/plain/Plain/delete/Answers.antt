@@ -26,7 +26,7 @@ returns-clause-state c =
     let l : Live = live_of c.advance.new.self in
     let key = c.args.key.now in
     subst (λ (s : UserCache). with_live k (record l { areas = areas_of c.take.new.self }) ≡ (deleted key (held key (advanced s.live c.args.now).areas) (advance s c.args.now)).1) c.self.view_is (
-      ap (λ a. with_live k (record l { areas = a })) (c.take.ensures.areas ∙ ap (λ q. without_key q l.areas) c.as_bytes.ensures.bytes)
-      ∙ ap (λ (j : Live). with_live k (record j { areas = without_key key j.areas })) c.advance.ensures.live
-      ∙ sym (deleted_leaves key (advance k c.args.now))
+    ap (λ a. with_live k (record l { areas = a })) (c.take.ensures.areas ∙ ap (λ q. without_key q l.areas) c.as_bytes.ensures.bytes)
+    ∙ ap (λ (j : Live). with_live k (record j { areas = without_key key j.areas })) c.advance.ensures.live
+    ∙ sym (deleted_leaves key (advance k c.args.now))
     )
