@@ -1,9 +1,9 @@
 -- Where a line ends, what a request takes, and what a longer stream begins with.
 use Rattle.std.specs.Prelude.{◌==◌, option_map, nat_lt, min, IfSome}
-use Rattle.std.proofs.Common.{◌≡◌, ◌≢◌, ℕ, zero, suc, ◌+◌, ◌-◌, ◌<◌, ◌≤◌, Bool, true, false, cond, List, [], ◌∷◌, ◌++◌, length, get_or, take, drop, Option, Some, None, refl, sym, ◌∙◌, ap, subst, arith, append_assoc, length-append, length-take, length-drop}
+use Rattle.std.proofs.Common.{◌≡◌, ◌≢◌, ℕ, zero, suc, ◌+◌, ◌-◌, ◌<◌, ◌≤◌, Bool, true, false, cond, List, [], ◌∷◌, ◌++◌, length, get_or, take, drop, Option, Some, None, refl, sym, ◌∙◌, ap, subst, inl, inr, arith, append_assoc, length-append, length-take, length-drop}
 use Rattle.std.proofs.lemmas.Bool.Decides.{nat_tests}
 use Rattle.std.proofs.Math.Nat.{zero-sub, sub-zero, zero-min, min-zero, suc-min-suc}
-use Rattle.std.proofs.lemmas.Bool.{ltb-true, ltb-false, le-ltb, lt-ltb}
+use Rattle.std.proofs.lemmas.Bool.{ltb-true, ltb-false, le-ltb, lt-ltb, eqb-true}
 use Rattle.std.proofs.lemmas.List.{take-append-le, drop-append-le, take-take, append-nil}
 use Rattle.tc_grammar.specs.declared.command.Head.{Head}
 use Rattle.tc_grammar.specs.declared.fault.Fault.TheVariants.{LineTooLong}
@@ -15,7 +15,7 @@ use Rattle.tc_feed.specs.declared.request.Taken.{Taken}
 use Rattle.tc_feed.specs.Stream.{Reader, line_length, line_room, block_request, block_of, line_request, first_by, first, trimmed}
 use Rattle.tc_feed.specs.CutStream.{IsFoundInMore, IsCutAnywhere}
 use Rattle.tc_feed.specs.Looking.{needed_of}
-use Rattle.tc_feed.specs.Scanned.{IsScanned, IsAwaited}
+use Rattle.tc_feed.specs.Scanned.{IsScanned, IsAwaited, IsRemembered}
 
 pub line_room-is : line_room ≡ 65537
 unfolding line_room
@@ -254,3 +254,48 @@ awaited_line limit u n needed e same bounded = record {
 -- with fewer bytes than are needed there is no whole request
 pub lacking_now : (limit needed : ℕ) (u : List ℕ) → IsAwaited limit needed u → length u < needed → first limit u ≡ None
 lacking_now limit needed u h lt = subst (λ v. first limit v ≡ None) (append-nil u) (h.lacking [] (omega (arith, length-append u [])))
+
+-- bytes without a line feed, fewer than a longest line has, need one more
+pub awaited_none : (limit : ℕ) (u : List ℕ) → line_length (take line_room u) ≡ None → length u ≤ 65536 → IsAwaited limit (length u + 1) u
+awaited_none limit u none short = record {
+  lacking = λ later lt. go later lt;
+  bounded = omega arith;
+}
+  where
+    here : first limit u ≡ None
+    here = let long : nat_lt 65536 (length u) ≡ false = le-ltb _ _ short in rw (none, long) refl
+
+    go : (later : List ℕ) → length (u ++ later) < length u + 1 → first limit (u ++ later) ≡ None
+    go [] lt = subst (λ v. first limit v ≡ None) (sym (append-nil u)) here
+    go (x ∷ later) lt = absurd (omega (arith, lt, length-append u (x ∷ later)))
+
+-- a line's end is a line feed
+at_line : (xs : List ℕ) (n : ℕ) → line_length xs ≡ Some n → get_or xs n 0 ≡ 10
+at_line [] n e = absurd (grind arith)
+at_line (x ∷ xs) n e = go (x == 10) refl (line_length xs) n (λ k h. at_line xs k h) e
+  where
+    go : (b : Bool) → (x == 10) ≡ b → (o : Option ℕ) (n : ℕ) → ((k : ℕ) → o ≡ Some k → get_or xs k 0 ≡ 10) → cond b (Some 0) (option_map suc o) ≡ Some n → get_or (x ∷ xs) n 0 ≡ 10
+    go true f o zero h e = eqb-true x 10 f
+    go true f o (suc n) h e = absurd (grind arith)
+    go false f None n h e = absurd (grind arith)
+    go false f (Some k) zero h e = absurd (grind arith)
+    go false f (Some k) (suc n) h e = let same : k ≡ n = grind arith in h n (ap Some same)
+
+get_take : (m : ℕ) (xs : List ℕ) (n : ℕ) → n < m → get_or (take m xs) n 0 ≡ get_or xs n 0
+get_take zero xs n lt = absurd (omega arith)
+get_take (suc m) [] n lt = refl
+get_take (suc m) (x ∷ xs) zero lt = refl
+get_take (suc m) (x ∷ xs) (suc n) lt = get_take m xs n (omega arith)
+
+-- a line whose request is not whole is remembered by its end
+pub remembered_line : (u : List ℕ) (n needed : ℕ) (said : Line) → line_length (take line_room u) ≡ Some n → needed ≡ needed_of (n + 1) said → line_request (n + 1) (drop (n + 1) u) said ≡ None → IsRemembered needed n u
+remembered_line u n needed said e same none =
+    let lt = line_front line_room u n e in
+    let more = needed_more (n + 1) (drop (n + 1) u) said none in
+    inr (inr (omega (arith, same, more), lt.1, sym (get_take line_room u n lt.0) ∙ at_line (take line_room u) n e))
+
+-- what is remembered stays so, whatever comes
+pub remembered_more : (needed scanned : ℕ) (u v : List ℕ) → IsRemembered needed scanned u → IsRemembered needed scanned (u ++ v)
+remembered_more needed scanned u v (inl h) = inl h
+remembered_more needed scanned u v (inr (inl h)) = inr (inl h)
+remembered_more needed scanned u v (inr (inr h)) = inr (inr (h.0, omega (arith, h.1, length-append u v), get_append u v scanned h.1 ∙ h.2))

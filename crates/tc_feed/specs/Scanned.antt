@@ -1,5 +1,5 @@
 -- What a feed keeps of the bytes that it looked through. Source: this project's own.
-use Rattle.std.specs.Prelude.{◌≡◌, ℕ, ◌+◌, ◌≤◌, ◌<◌, List, ◌++◌, length, take, drop, None}
+use Rattle.std.specs.Prelude.{◌≡◌, ℕ, ◌+◌, ◌≤◌, ◌<◌, ◌⊎◌, List, ◌++◌, length, take, drop, slice_index, None}
 use Rattle.tc_feed.specs.Stream.{line_length, first}
 
 -- of the bytes from start on, the first scanned hold no line feed; where some are owed, none is unread
@@ -13,3 +13,8 @@ pub record IsScanned (start scanned owed : ℕ) (bytes : List ℕ) : Type 0 wher
 pub record IsAwaited (limit needed : ℕ) (unread : List ℕ) : Type 0 where
   pub lacking : (later : List ℕ) → length (unread ++ later) < needed → first limit (unread ++ later) ≡ None
   pub bounded : needed ≤ limit + 65539
+
+-- what is remembered of a look that found no whole request: nothing; or that no byte is a line feed and one more is needed; or where the first line ends
+abbrev pub IsRemembered : ℕ → ℕ → List ℕ → Type 0
+IsRemembered needed scanned unread =
+    ((needed ≡ 0) × (scanned ≡ 0)) ⊎ ((needed ≡ scanned + 1) ⊎ ((0 < needed) × (scanned < length unread) × (slice_index unread scanned ≡ 10)))

@@ -34,9 +34,9 @@ impl Model for Feed {
 
     ghost view = { λ f. record { unread = drop f.start f.bytes.items; owed = f.owed } };
 
-    ghost use Rattle.tc_feed.specs.Scanned.{IsScanned, IsAwaited};
+    ghost use Rattle.tc_feed.specs.Scanned.{IsScanned, IsAwaited, IsRemembered};
 
-    ghost invariant = { λ f. IsScanned f.start f.scanned f.owed f.bytes.items × IsAwaited f.limit f.needed (drop f.start f.bytes.items) };
+    ghost invariant = { λ f. IsScanned f.start f.scanned f.owed f.bytes.items × (IsAwaited f.limit f.needed (drop f.start f.bytes.items) × IsRemembered f.needed f.scanned (drop f.start f.bytes.items)) };
 }
 
 impl Feed {

@@ -1,8 +1,8 @@
 //! The first request of unread bytes: small functions, one a case.
-ghost use Rattle.std.specs.Prelude.{◌≡◌, ◌+◌, ◌<◌, ◌≤◌, ◌^◌, length, take, drop, None, IfOk, IfSome};
+ghost use Rattle.std.specs.Prelude.{◌≡◌, ℕ, ◌+◌, ◌<◌, ◌≤◌, ◌^◌, length, take, drop, None, IfOk, IfSome};
 ghost use Rattle.tc_grammar.specs.Lines.{IsBounded};
 ghost use Rattle.tc_feed.specs.Stream.{line_length, line_room, trimmed, block_request, block_of, line_request, first_by, first};
-ghost use Rattle.tc_feed.specs.Scanned.{IsScanned, IsAwaited};
+ghost use Rattle.tc_feed.specs.Scanned.{IsScanned, IsAwaited, IsRemembered};
 ghost use Rattle.tc_grammar.specs.Reading.{reading};
 ghost use Rattle.tc_feed.specs.Looking.{needed_of};
 
@@ -116,21 +116,34 @@ fn look_at_line(
     Ok((taken, needed))
 }
 
-/// The request of bytes of which the first 65,537 hold no line feed.
-fn look_for_line(unread: &[u8]) -> Option<Taken>
-    ensures { result ≡ first_by 0 unread.now None }
+/// What is found in bytes of which the first 65,537 hold no line feed.
+fn look_for_line(unread: &[u8]) -> Finding
+    requires none { line_length (take line_room unread.now) ≡ None }
+    ensures first { result.taken ≡ first_by 0 unread.now None }
+    ensures scanned { IsScanned 0 result.scanned 0 unread.now }
+    ensures awaited { (limit : ℕ) → IsAwaited limit result.needed unread.now }
+    ensures remembered { result.taken ≡ None → IsRemembered result.needed result.scanned unread.now }
 {
     if unread.len() <= LONGEST_LINE {
-        return None;
+        return Finding {
+            taken: None,
+            scanned: unread.len(),
+            needed: unread.len() + 1,
+        };
     }
-    Some(Taken {
+    let taken = Taken {
         request: Request::Refused {
             fault: Fault::LineTooLong,
             quiet: false,
         },
         length: LONGEST_LINE + 1,
         skip: 0,
-    })
+    };
+    Finding {
+        taken: Some(taken),
+        scanned: LONGEST_LINE + 1,
+        needed: 0,
+    }
 }
 
 /// Where the first line of unread bytes ends, of which the first `scanned` hold no line feed.
@@ -158,15 +171,12 @@ pub(crate) fn look(
     requires none { line_length (take scanned unread.now) ≡ None }
     ensures first { IfOk result (λ r. r.taken ≡ first limit unread.now) }
     ensures scanned { IfOk result (λ r. IsScanned 0 r.scanned 0 unread.now) }
+    ensures remembered { IfOk result (λ r. r.taken ≡ None → IsRemembered r.needed r.scanned unread.now) }
     ensures awaited { IfOk result (λ r. IsAwaited limit r.needed unread.now) }
     ensures short { IfOk result (λ r. r.taken ≡ None → length unread.now ≤ limit + 65538) }
 {
     match find_end(unread, scanned) {
-        None => Ok(Finding {
-            taken: look_for_line(unread),
-            scanned: unread.len().min(LONGEST_LINE + 1),
-            needed: 0,
-        }),
+        None => Ok(look_for_line(unread)),
         Some(n) => {
             let (taken, needed) = look_at_line(alloc, limit, unread, n)?;
             Ok(Finding {
