@@ -112,16 +112,31 @@ fn expect_next(
     Ok(found)
 }
 
-/// The request that first becomes whole as a stream comes byte by byte, and at which byte.
-fn first_whole(alloc: Global, stream: &[u8]) -> Result<Option<(Request, usize)>, NoMemory> {
+/// Whether the next request is the one written by hand, or none is there where none is wanted.
+fn is_next(
+    alloc: Global,
+    feed: &mut Feed,
+    limit: u32,
+    wanted: Option<Wanted>,
+) -> Result<bool, NoMemory> {
+    match (next(alloc, feed, limit)?, wanted) {
+        (Some(request), Some(wanted)) => Ok(is_wanted(&request, wanted)),
+        (Some(_), None) | (None, Some(_)) => Ok(false),
+        (None, None) => Ok(true),
+    }
+}
+
+/// At which byte of a stream, which comes byte by byte, the first request is whole, and whether it is
+/// the one written by hand; 0 where none is.
+fn first_whole(alloc: Global, stream: &[u8], wanted: Wanted) -> Result<(usize, bool), NoMemory> {
     let mut feed = Feed::new(alloc);
     for (i, byte) in stream.iter().enumerate() {
         push(&mut feed, &[*byte])?;
         if let Some(request) = next(alloc, &mut feed, LIMIT)? {
-            return Ok(Some((request, i.saturating_add(1))));
+            return Ok((i.saturating_add(1), is_wanted(&request, wanted)));
         }
     }
-    Ok(None)
+    Ok((0, false))
 }
 
 /// A feed that holds a line of 65,536 bytes without its line feed.
@@ -163,28 +178,27 @@ fn a_stream_that_comes_byte_by_byte_holds_the_same_requests(rt: HostRuntime) -> 
     Ok(())
 }
 
+/// Streams, with their first request and its last byte, 0 where it is not whole.
+const FIRST_REQUESTS: [(&str, Wanted, usize); 7] = [
+    ("get a\r\nget b\r\n", Wanted::Get("a"), 7),
+    ("get a\nget b\r\n", Wanted::Get("a"), 6),
+    ("set k 0 0 2\r\nab\r\nget b\r\n", Wanted::Set("k", "ab"), 17),
+    (
+        "set k 0 0 2\r\nabcdget b\r\n",
+        Wanted::Answered(Fault::BadChunk),
+        17,
+    ),
+    ("set k 0 0 17\r\nab", Wanted::Answered(Fault::TooLarge), 14),
+    ("set k 0 x 2\r\nab", Wanted::Answered(Fault::BadFormat), 13),
+    ("set k 0 0 2 noreply\r\nab", Wanted::Version, 0),
+];
+
 #[test]
 fn a_request_is_whole_at_its_last_byte_and_no_earlier(rt: HostRuntime) -> Result<(), Fail> {
-    for (stream, wanted, at) in [
-        ("get a\r\nget b\r\n", Wanted::Get("a"), 7),
-        ("get a\nget b\r\n", Wanted::Get("a"), 6),
-        ("set k 0 0 2\r\nab\r\nget b\r\n", Wanted::Set("k", "ab"), 17),
-        (
-            "set k 0 0 2\r\nabcdget b\r\n",
-            Wanted::Answered(Fault::BadChunk),
-            17,
-        ),
-        ("set k 0 0 17\r\nab", Wanted::Answered(Fault::TooLarge), 14),
-        ("set k 0 x 2\r\nab", Wanted::Answered(Fault::BadFormat), 13),
-        ("set k 0 0 2 noreply\r\nab", Wanted::Version, 0),
-    ] {
-        match first_whole(rt.alloc(), stream.as_bytes())? {
-            None => assert_eq!(rt; at, 0, "{stream:?}"),
-            Some((request, whole)) => {
-                assert!(rt; is_wanted(&request, wanted), "{stream:?}");
-                assert_eq!(rt; whole, at, "{stream:?}");
-            }
-        }
+    for (stream, wanted, at) in &FIRST_REQUESTS {
+        let (whole, is_right) = first_whole(rt.alloc(), stream.as_bytes(), *wanted)?;
+        assert_eq!(rt; whole, *at, "{stream:?}");
+        assert_eq!(rt; is_right, *at > 0, "{stream:?}");
     }
     Ok(())
 }
@@ -192,23 +206,21 @@ fn a_request_is_whole_at_its_last_byte_and_no_earlier(rt: HostRuntime) -> Result
 #[test]
 fn a_line_of_65536_bytes_is_read(rt: HostRuntime) -> Result<(), Fail> {
     let mut feed = longest_line(rt.alloc(), "get a")?;
-    assert!(rt; next(rt.alloc(), &mut feed, LIMIT)?.is_none());
+    assert!(rt; is_next(rt.alloc(), &mut feed, LIMIT, None)?);
     assert_eq!(rt; feed.kept(), 65_536);
     push(&mut feed, b"\n")?;
-    let request = next(rt.alloc(), &mut feed, LIMIT)?.ok_or("no request")?;
-    assert!(rt; is_wanted(&request, Wanted::Get("a")));
+    assert!(rt; is_next(rt.alloc(), &mut feed, LIMIT, Some(Wanted::Get("a")))?);
     assert_eq!(rt; feed.kept(), 0);
     Ok(())
 }
 
 #[test]
 fn a_line_is_too_long_at_its_65537th_byte(rt: HostRuntime) -> Result<(), Fail> {
+    let too_long = Wanted::Answered(Fault::LineTooLong);
     let mut feed = longest_line(rt.alloc(), "get a")?;
     push(&mut feed, b"\rversion\r\n")?;
-    let request = next(rt.alloc(), &mut feed, LIMIT)?.ok_or("no request")?;
-    assert!(rt; is_wanted(&request, Wanted::Answered(Fault::LineTooLong)));
-    let request = next(rt.alloc(), &mut feed, LIMIT)?.ok_or("no request behind it")?;
-    assert!(rt; is_wanted(&request, Wanted::Version));
+    assert!(rt; is_next(rt.alloc(), &mut feed, LIMIT, Some(too_long))?);
+    assert!(rt; is_next(rt.alloc(), &mut feed, LIMIT, Some(Wanted::Version))?);
     Ok(())
 }
 
@@ -216,30 +228,29 @@ fn a_line_is_too_long_at_its_65537th_byte(rt: HostRuntime) -> Result<(), Fail> {
 fn the_most_that_waits_is_a_longest_line_and_all_but_a_byte_of_its_block(
     rt: HostRuntime,
 ) -> Result<(), Fail> {
+    let block = Wanted::Set("k", "0123456789abcdef");
     let mut feed = longest_line(rt.alloc(), "set k 0 0 16")?;
     push(&mut feed, b"\n0123456789abcdef\r")?;
-    assert!(rt; next(rt.alloc(), &mut feed, LIMIT)?.is_none());
+    assert!(rt; is_next(rt.alloc(), &mut feed, LIMIT, None)?);
     assert_eq!(rt; feed.kept(), 65_554);
     push(&mut feed, b"\n")?;
-    let request = next(rt.alloc(), &mut feed, LIMIT)?.ok_or("no request")?;
-    assert!(rt; is_wanted(&request, Wanted::Set("k", "0123456789abcdef")));
+    assert!(rt; is_next(rt.alloc(), &mut feed, LIMIT, Some(block))?);
     Ok(())
 }
 
 #[test]
 fn bytes_that_are_skipped_are_not_kept(rt: HostRuntime) -> Result<(), Fail> {
+    let too_large = Wanted::Answered(Fault::TooLarge);
     let mut feed = Feed::new(rt.alloc());
     push(&mut feed, b"set k 0 0 1048576\r\nget a\r\n")?;
-    let request = next(rt.alloc(), &mut feed, LIMIT)?.ok_or("no request")?;
-    assert!(rt; is_wanted(&request, Wanted::Answered(Fault::TooLarge)));
+    assert!(rt; is_next(rt.alloc(), &mut feed, LIMIT, Some(too_large))?);
     assert_eq!(rt; feed.kept(), 0);
     for _ in 7..1_048_578 {
         push(&mut feed, b"\n")?;
     }
     assert_eq!(rt; feed.kept(), 0);
     push(&mut feed, b"get b\n")?;
-    let request = next(rt.alloc(), &mut feed, LIMIT)?.ok_or("no request behind it")?;
-    assert!(rt; is_wanted(&request, Wanted::Get("b")));
+    assert!(rt; is_next(rt.alloc(), &mut feed, LIMIT, Some(Wanted::Get("b")))?);
     Ok(())
 }
 
@@ -247,10 +258,10 @@ fn bytes_that_are_skipped_are_not_kept(rt: HostRuntime) -> Result<(), Fail> {
 fn a_line_whose_block_has_not_come_is_judged_by_the_limit_handed_in(
     rt: HostRuntime,
 ) -> Result<(), Fail> {
+    let too_large = Wanted::Answered(Fault::TooLarge);
     let mut feed = Feed::new(rt.alloc());
     push(&mut feed, b"set k 0 0 17\r\nab")?;
-    assert!(rt; next(rt.alloc(), &mut feed, 17)?.is_none());
-    let request = next(rt.alloc(), &mut feed, LIMIT)?.ok_or("no request")?;
-    assert!(rt; is_wanted(&request, Wanted::Answered(Fault::TooLarge)));
+    assert!(rt; is_next(rt.alloc(), &mut feed, 17, None)?);
+    assert!(rt; is_next(rt.alloc(), &mut feed, LIMIT, Some(too_large))?);
     Ok(())
 }

@@ -30,270 +30,254 @@ fn access(rt: &impl Abort, lists: &mut Lists, slot: usize, weight: u64) {
     lists.access(Slot(slot), weight);
 }
 
+/// Takes a slot out, where it is held.
+fn remove(rt: &impl Abort, lists: &mut Lists, slot: usize) {
+    assert!(rt; lists.holds(Slot(slot)), "slot {slot} is held");
+    lists.remove(Slot(slot));
+}
+
 /// The next slot that is dropped, by how often each was seen.
 fn dropped(lists: &mut Lists, seen: &Vec<u8>) -> Option<usize> {
     let next = lists.settle_step(|slot| seen.get(slot.0).copied().unwrap_or(0));
     next.map(|slot| slot.0)
 }
 
-#[test]
-fn five_evictions_as_worked_by_hand(rt: HostRuntime) -> Result<(), Fail> {
-    let mut lists = Lists::new(rt.alloc(), 655, 64881, 51904);
-    lists.reserve(4)?;
-    let mut seen = vec![in rt.alloc(); 1u8, 1, 1, 1]?;
-    push(&rt, &mut lists, 0, 30065);
-    assert_eq!(rt; dropped(&mut lists, &seen), None, "a enters");
-    push(&rt, &mut lists, 1, 30065);
-    assert_eq!(rt; dropped(&mut lists, &seen), None, "b enters");
-    push(&rt, &mut lists, 2, 30065);
-    assert_eq!(rt;
-        dropped(&mut lists, &seen),
-        Some(2),
-        "c was seen as often as a"
-    );
-    assert_eq!(rt; dropped(&mut lists, &seen), None);
-    seen = vec![in rt.alloc(); 1u8, 1, 2, 1]?;
-    push(&rt, &mut lists, 2, 30065);
-    assert_eq!(rt;
-        dropped(&mut lists, &seen),
-        Some(0),
-        "c was seen more often than a"
-    );
-    assert_eq!(rt; dropped(&mut lists, &seen), None);
-    access(&rt, &mut lists, 1, 30065);
-    access(&rt, &mut lists, 1, 30065);
-    access(&rt, &mut lists, 1, 30065);
-    assert_eq!(rt;
-        lists.weights(),
-        Weights {
-            window: 0,
-            probation: 30065,
-            protected: 30065
+/// A call of lists, or what is to be seen of them.
+#[derive(Clone, Copy, Debug)]
+enum Move {
+    /// A slot of this weight is put into the window.
+    Push(usize, u64),
+    /// An access, with the slot's new weight.
+    Access(usize, u64),
+    Remove(usize),
+    /// From here on the slot was seen so often.
+    Seen(usize, u8),
+    /// What the next settle step drops.
+    Settle(Option<usize>),
+    /// What window, probation and protected weigh.
+    Weigh(u64, u64, u64),
+    /// Whether a slot is held.
+    Holds(usize, bool),
+}
+
+/// Makes one move.
+fn make(rt: &impl Abort, lists: &mut Lists, seen: &mut Vec<u8>, step: Move, at: usize) {
+    match step {
+        Move::Push(slot, weight) => push(rt, lists, slot, weight),
+        Move::Access(slot, weight) => access(rt, lists, slot, weight),
+        Move::Remove(slot) => remove(rt, lists, slot),
+        Move::Seen(slot, times) => {
+            if let Some(count) = seen.get_mut(slot) {
+                *count = times;
+            }
         }
-    );
-    seen = vec![in rt.alloc(); 2u8, 4, 2, 1]?;
-    push(&rt, &mut lists, 0, 30065);
-    assert_eq!(rt;
-        dropped(&mut lists, &seen),
-        Some(0),
-        "a was seen as often as c"
-    );
-    push(&rt, &mut lists, 3, 30065);
-    assert_eq!(rt;
-        dropped(&mut lists, &seen),
-        Some(3),
-        "d was seen less often than c"
-    );
-    seen = vec![in rt.alloc(); 3u8, 4, 2, 1]?;
-    push(&rt, &mut lists, 0, 30065);
-    assert_eq!(rt;
-        dropped(&mut lists, &seen),
-        Some(2),
-        "a was seen more often than c"
-    );
-    assert_eq!(rt; dropped(&mut lists, &seen), None);
-    assert!(rt; lists.holds(Slot(0)) && lists.holds(Slot(1)));
-    assert!(rt; !lists.holds(Slot(2)) && !lists.holds(Slot(3)));
+        Move::Settle(gone) => assert_eq!(rt; dropped(lists, seen), gone, "move {at}"),
+        Move::Weigh(window, probation, protected) => {
+            let weights = Weights {
+                window,
+                probation,
+                protected,
+            };
+            assert_eq!(rt; lists.weights(), weights, "move {at}");
+        }
+        Move::Holds(slot, held) => {
+            assert_eq!(rt; lists.holds(Slot(slot)), held, "move {at}");
+        }
+    }
+}
+
+/// Makes moves on empty lists with these limits, where each of five slots was seen once.
+fn play(
+    rt: &(impl Abort + AllocGlobal),
+    window: u64,
+    main: u64,
+    protected: u64,
+    moves: &[Move],
+) -> Result<(), Fail> {
+    let mut lists = Lists::new(rt.alloc(), window, main, protected);
+    lists.reserve(5)?;
+    let mut seen = vec![in rt.alloc(); 1u8, 1, 1, 1, 1]?;
+    for (at, step) in moves.iter().enumerate() {
+        make(rt, &mut lists, &mut seen, *step, at);
+    }
     Ok(())
 }
+
+/// a, b, c and d are the slots 0 to 3.
+const FIVE_EVICTIONS: [Move; 30] = [
+    Move::Push(0, 30065),
+    Move::Settle(None),
+    Move::Push(1, 30065),
+    Move::Settle(None),
+    // c was seen as often as a
+    Move::Push(2, 30065),
+    Move::Settle(Some(2)),
+    Move::Settle(None),
+    // c was seen more often than a
+    Move::Seen(2, 2),
+    Move::Push(2, 30065),
+    Move::Settle(Some(0)),
+    Move::Settle(None),
+    Move::Access(1, 30065),
+    Move::Access(1, 30065),
+    Move::Access(1, 30065),
+    Move::Weigh(0, 30065, 30065),
+    // a was seen as often as c
+    Move::Seen(1, 4),
+    Move::Seen(0, 2),
+    Move::Push(0, 30065),
+    Move::Settle(Some(0)),
+    // d was seen less often than c
+    Move::Push(3, 30065),
+    Move::Settle(Some(3)),
+    // a was seen more often than c
+    Move::Seen(0, 3),
+    Move::Push(0, 30065),
+    Move::Settle(Some(2)),
+    Move::Settle(None),
+    Move::Weigh(0, 30065, 30065),
+    Move::Holds(0, true),
+    Move::Holds(1, true),
+    Move::Holds(2, false),
+    Move::Holds(3, false),
+];
+
+#[test]
+fn five_evictions_as_worked_by_hand(rt: HostRuntime) -> Result<(), Fail> {
+    play(&rt, 655, 64881, 51904, &FIVE_EVICTIONS)
+}
+
+/// The last of main goes first: 0, 2 and then 1, which was accessed.
+const ALL_OF_MAIN: [Move; 14] = [
+    Move::Push(0, 20),
+    Move::Settle(None),
+    Move::Push(1, 20),
+    Move::Settle(None),
+    Move::Push(2, 20),
+    Move::Settle(None),
+    Move::Access(1, 20),
+    Move::Seen(3, 2),
+    Move::Push(3, 100),
+    Move::Settle(Some(0)),
+    Move::Settle(Some(2)),
+    Move::Settle(Some(1)),
+    Move::Settle(None),
+    Move::Weigh(0, 100, 0),
+];
 
 #[test]
 fn a_candidate_as_heavy_as_main_drops_all_of_it(rt: HostRuntime) -> Result<(), Fail> {
-    let mut lists = Lists::new(rt.alloc(), 10, 100, 80);
-    lists.reserve(4)?;
-    let seen = vec![in rt.alloc(); 1u8, 1, 1, 2]?;
-    for slot in 0..3 {
-        push(&rt, &mut lists, slot, 20);
-        assert_eq!(rt; dropped(&mut lists, &seen), None);
-    }
-    access(&rt, &mut lists, 1, 20);
-    push(&rt, &mut lists, 3, 100);
-    for victim in [0, 2, 1] {
-        assert_eq!(rt;
-            dropped(&mut lists, &seen),
-            Some(victim),
-            "from main's tail"
-        );
-    }
-    assert_eq!(rt; dropped(&mut lists, &seen), None);
-    assert_eq!(rt;
-        lists.weights(),
-        Weights {
-            window: 0,
-            probation: 100,
-            protected: 0
-        }
-    );
-    Ok(())
+    play(&rt, 10, 100, 80, &ALL_OF_MAIN)
 }
+
+const VICTIMS_IN_PROBATION: [Move; 15] = [
+    Move::Push(0, 25),
+    Move::Settle(None),
+    Move::Push(1, 25),
+    Move::Settle(None),
+    Move::Push(2, 25),
+    Move::Settle(None),
+    Move::Push(3, 25),
+    Move::Settle(None),
+    Move::Access(0, 25),
+    Move::Seen(4, 2),
+    Move::Push(4, 40),
+    Move::Settle(Some(1)),
+    Move::Settle(Some(2)),
+    Move::Settle(None),
+    Move::Weigh(0, 65, 25),
+];
 
 #[test]
 fn victims_in_probation_leave_protected_alone(rt: HostRuntime) -> Result<(), Fail> {
-    let mut lists = Lists::new(rt.alloc(), 10, 100, 80);
-    lists.reserve(5)?;
-    let seen = vec![in rt.alloc(); 1u8, 1, 1, 1, 2]?;
-    for slot in 0..4 {
-        push(&rt, &mut lists, slot, 25);
-        assert_eq!(rt; dropped(&mut lists, &seen), None);
-    }
-    access(&rt, &mut lists, 0, 25);
-    push(&rt, &mut lists, 4, 40);
-    assert_eq!(rt; dropped(&mut lists, &seen), Some(1));
-    assert_eq!(rt; dropped(&mut lists, &seen), Some(2));
-    assert_eq!(rt; dropped(&mut lists, &seen), None);
-    assert_eq!(rt;
-        lists.weights(),
-        Weights {
-            window: 0,
-            probation: 65,
-            protected: 25
-        }
-    );
-    Ok(())
+    play(&rt, 10, 100, 80, &VICTIMS_IN_PROBATION)
 }
+
+/// Slot 1 was seen as often as the candidate, slot 3.
+const SEEN_AS_OFTEN: [Move; 12] = [
+    Move::Seen(1, 3),
+    Move::Seen(3, 3),
+    Move::Push(0, 30),
+    Move::Settle(None),
+    Move::Push(1, 30),
+    Move::Settle(None),
+    Move::Push(2, 30),
+    Move::Settle(None),
+    Move::Push(3, 60),
+    Move::Settle(Some(3)),
+    Move::Settle(None),
+    Move::Weigh(0, 90, 0),
+];
 
 #[test]
 fn one_victim_seen_as_often_keeps_the_candidate_out(rt: HostRuntime) -> Result<(), Fail> {
-    let mut lists = Lists::new(rt.alloc(), 10, 100, 80);
-    lists.reserve(4)?;
-    let seen = vec![in rt.alloc(); 1u8, 3, 1, 3]?;
-    for slot in 0..3 {
-        push(&rt, &mut lists, slot, 30);
-        assert_eq!(rt; dropped(&mut lists, &seen), None);
-    }
-    push(&rt, &mut lists, 3, 60);
-    assert_eq!(rt;
-        dropped(&mut lists, &seen),
-        Some(3),
-        "slot 1 was seen as often"
-    );
-    assert_eq!(rt; dropped(&mut lists, &seen), None);
-    assert_eq!(rt;
-        lists.weights(),
-        Weights {
-            window: 0,
-            probation: 90,
-            protected: 0
-        }
-    );
-    Ok(())
+    play(&rt, 10, 100, 80, &SEEN_AS_OFTEN)
 }
+
+/// Slot 1 was demoted before slot 2.
+const HEAVIER_THAN_PROTECTED: [Move; 16] = [
+    Move::Push(0, 30),
+    Move::Settle(None),
+    Move::Push(1, 30),
+    Move::Settle(None),
+    Move::Push(2, 50),
+    Move::Settle(None),
+    Move::Access(1, 30),
+    Move::Weigh(0, 80, 30),
+    Move::Access(2, 50),
+    Move::Weigh(0, 110, 0),
+    Move::Seen(3, 2),
+    Move::Push(3, 120),
+    Move::Settle(Some(0)),
+    Move::Settle(Some(1)),
+    Move::Settle(Some(2)),
+    Move::Settle(None),
+];
 
 #[test]
 fn an_item_heavier_than_protected_goes_back_to_the_front_of_probation(
     rt: HostRuntime,
 ) -> Result<(), Fail> {
-    let mut lists = Lists::new(rt.alloc(), 10, 120, 40);
-    lists.reserve(4)?;
-    let seen = vec![in rt.alloc(); 1u8, 1, 1, 2]?;
-    for slot in [0, 1] {
-        push(&rt, &mut lists, slot, 30);
-        assert_eq!(rt; dropped(&mut lists, &seen), None);
-    }
-    push(&rt, &mut lists, 2, 50);
-    assert_eq!(rt; dropped(&mut lists, &seen), None);
-    access(&rt, &mut lists, 1, 30);
-    assert_eq!(rt;
-        lists.weights(),
-        Weights {
-            window: 0,
-            probation: 80,
-            protected: 30
-        }
-    );
-    access(&rt, &mut lists, 2, 50);
-    assert_eq!(rt;
-        lists.weights(),
-        Weights {
-            window: 0,
-            probation: 110,
-            protected: 0
-        }
-    );
-    push(&rt, &mut lists, 3, 120);
-    for victim in [0, 1, 2] {
-        assert_eq!(rt;
-            dropped(&mut lists, &seen),
-            Some(victim),
-            "1 was demoted before 2"
-        );
-    }
-    assert_eq!(rt; dropped(&mut lists, &seen), None);
-    Ok(())
+    play(&rt, 10, 120, 40, &HEAVIER_THAN_PROTECTED)
 }
+
+/// Slot 1 is the window's last at the end, and main has room for it.
+const WITHIN_THE_WINDOW: [Move; 7] = [
+    Move::Push(0, 10),
+    Move::Push(1, 10),
+    Move::Access(0, 25),
+    Move::Weigh(35, 0, 0),
+    Move::Push(2, 20),
+    Move::Settle(None),
+    Move::Weigh(45, 10, 0),
+];
 
 #[test]
 fn an_access_in_the_window_stays_there_and_takes_its_new_weight(
     rt: HostRuntime,
 ) -> Result<(), Fail> {
-    let mut lists = Lists::new(rt.alloc(), 50, 100, 80);
-    lists.reserve(3)?;
-    let seen = vec![in rt.alloc(); 1u8, 1, 1]?;
-    push(&rt, &mut lists, 0, 10);
-    push(&rt, &mut lists, 1, 10);
-    access(&rt, &mut lists, 0, 25);
-    assert_eq!(rt;
-        lists.weights(),
-        Weights {
-            window: 35,
-            probation: 0,
-            protected: 0
-        }
-    );
-    push(&rt, &mut lists, 2, 20);
-    assert_eq!(rt;
-        dropped(&mut lists, &seen),
-        None,
-        "slot 1 is the last, and main has room"
-    );
-    assert_eq!(rt;
-        lists.weights(),
-        Weights {
-            window: 45,
-            probation: 10,
-            protected: 0
-        }
-    );
-    Ok(())
+    play(&rt, 50, 100, 80, &WITHIN_THE_WINDOW)
 }
+
+/// Slot 5 has no room.
+const REMOVAL: [Move; 12] = [
+    Move::Push(0, 20),
+    Move::Push(1, 5),
+    Move::Settle(None),
+    Move::Weigh(5, 20, 0),
+    Move::Holds(0, true),
+    Move::Remove(0),
+    Move::Holds(0, false),
+    Move::Holds(1, true),
+    Move::Holds(5, false),
+    Move::Weigh(5, 0, 0),
+    Move::Push(0, 30),
+    Move::Weigh(35, 0, 0),
+];
 
 #[test]
 fn a_removed_slot_is_free_and_weighs_nothing(rt: HostRuntime) -> Result<(), Fail> {
-    let mut lists = Lists::new(rt.alloc(), 10, 100, 80);
-    lists.reserve(2)?;
-    let seen = vec![in rt.alloc(); 1u8, 1]?;
-    push(&rt, &mut lists, 0, 20);
-    push(&rt, &mut lists, 1, 5);
-    assert_eq!(rt; dropped(&mut lists, &seen), None);
-    assert_eq!(rt;
-        lists.weights(),
-        Weights {
-            window: 5,
-            probation: 20,
-            protected: 0
-        }
-    );
-    assert!(rt; lists.holds(Slot(0)));
-    lists.remove(Slot(0));
-    assert!(rt; !lists.holds(Slot(0)) && lists.holds(Slot(1)) && !lists.holds(Slot(2)));
-    assert_eq!(rt;
-        lists.weights(),
-        Weights {
-            window: 5,
-            probation: 0,
-            protected: 0
-        }
-    );
-    push(&rt, &mut lists, 0, 30);
-    assert_eq!(rt;
-        lists.weights(),
-        Weights {
-            window: 35,
-            probation: 0,
-            protected: 0
-        }
-    );
-    Ok(())
+    play(&rt, 10, 100, 80, &REMOVAL)
 }
 
 #[test]
