@@ -9,8 +9,8 @@ use std::alloc::Global;
 use std::process::Abort;
 use std::test::Fail;
 use table::{
-    ANSWERED, BEFORE_A_LOGIN, CALLED, COUNTERS, FAULTS, LOGINS, LOOK_UPS, REFUSALS, REPLIES, ROWS,
-    STREAM,
+    ANSWERED, BEFORE_A_LOGIN, CALLED, COUNTERS, FAULTS, LOGINS, LOOK_UPS, Move, QUITTING, REFUSALS,
+    REPLIES, ROWS, STAYING, STREAM, TOO_LONG, UNSENT, Wanted,
 };
 use tc_grammar::{Command, Line, parse_line};
 use tc_item::{Blob, Key, NoMemory};
@@ -50,10 +50,10 @@ fn users(alloc: Global) -> Result<Users, Fail> {
 }
 
 /// Takes a piece, once more where memory was refused.
-fn push(session: &mut Session, piece: &str) -> Result<(), NoMemory> {
-    match session.push(piece.as_bytes()) {
+fn push(session: &mut Session, piece: &[u8]) -> Result<(), NoMemory> {
+    match session.push(piece) {
         Ok(()) => Ok(()),
-        Err(NoMemory) => session.push(piece.as_bytes()),
+        Err(NoMemory) => session.push(piece),
     }
 }
 
@@ -67,38 +67,53 @@ fn next(alloc: Global, session: &mut Session, users: &Users) -> Result<Want, NoM
     }
 }
 
-/// A connection that alice's login has bound, with nothing to send.
-fn alice(alloc: Global, users: &Users) -> Result<Session, NoMemory> {
-    let mut session = Session::new(alloc);
-    push(&mut session, "set auth 0 0 9 noreply\r\nalice one\r\n")?;
-    let _ = next(alloc, &mut session, users)?;
-    Ok(session)
+/// What a request wants, without the command.
+fn wanted_of(want: &Want) -> Wanted {
+    match want {
+        Want::Nothing => Wanted::Nothing,
+        Want::Said => Wanted::Said,
+        Want::Call(user, Command::Store(..)) => Wanted::Store(user.number()),
+        Want::Call(user, _) => Wanted::Call(user.number()),
+        Want::Close => Wanted::Close,
+    }
 }
 
-/// The user whose cache is to do something, 0 where nobody's is.
-fn caller(want: &Want) -> u32 {
-    match want {
-        Want::Call(user, _) => user.number(),
-        Want::Nothing | Want::Said | Want::Close => 0,
+/// What the next request wants, without the command.
+fn wanted(alloc: Global, session: &mut Session, users: &Users) -> Result<Wanted, NoMemory>
+    ensures { OnOk result (64 ≤ session.new.room) }
+{
+    let want = next(alloc, session, users)?;
+    Ok(wanted_of(&want))
+}
+
+/// A connection that is new, or that alice's login has bound, with nothing to send.
+fn opened(alloc: Global, users: &Users, bound: bool) -> Result<Session, NoMemory> {
+    let mut session = Session::new(alloc);
+    if bound {
+        push(&mut session, b"set auth 0 0 9 noreply\r\nalice one\r\n")?;
+        wanted(alloc, &mut session, users)?;
     }
+    Ok(session)
 }
 
 /// Whose a connection is, 0 for nobody's, by what it makes of `version`.
 fn owner(alloc: Global, session: &mut Session, users: &Users) -> Result<u32, NoMemory> {
-    push(session, "version\r\n")?;
-    let want = next(alloc, session, users)?;
-    Ok(caller(&want))
+    push(session, b"version\r\n")?;
+    match wanted(alloc, session, users)? {
+        Wanted::Store(user) | Wanted::Call(user) => Ok(user),
+        Wanted::Nothing | Wanted::Said | Wanted::Close => Ok(0),
+    }
 }
 
 /// Says all that a connection says on its own; the first call or end is what is given.
-fn talk(alloc: Global, session: &mut Session, users: &Users) -> Result<Want, NoMemory> {
+fn talk(alloc: Global, session: &mut Session, users: &Users) -> Result<Wanted, NoMemory> {
     for _ in 0..session.kept() {
-        match next(alloc, session, users)? {
-            Want::Said => {}
-            want => return Ok(want),
+        let want = wanted(alloc, session, users)?;
+        if want != Wanted::Said {
+            return Ok(want);
         }
     }
-    Ok(Want::Nothing)
+    Ok(Wanted::Nothing)
 }
 
 /// Says a piece and all that the connection answers on its own; the first call or end is what is given.
@@ -108,11 +123,79 @@ fn expect_said(
     users: &Users,
     said: &str,
     reply: &str,
-) -> Result<Want, NoMemory> {
-    push(session, said)?;
+) -> Result<Wanted, NoMemory> {
+    push(session, said.as_bytes())?;
     let want = talk(rt.alloc(), session, users)?;
     assert_eq!(rt; session.out(), reply.as_bytes(), "{said:?}");
     Ok(want)
+}
+
+/// Says a piece on a new connection, which answers it on its own and is this user's then, 0 for nobody's.
+fn expect_owner(
+    rt: &(impl AllocGlobal + Abort),
+    users: &Users,
+    said: &str,
+    reply: &str,
+    user: u32,
+) -> Result<(), NoMemory> {
+    let mut session = Session::new(rt.alloc());
+    expect_said(rt, &mut session, users, said, reply)?;
+    assert_eq!(rt; owner(rt.alloc(), &mut session, users)?, user, "{said:?}");
+    Ok(())
+}
+
+/// Says a piece on a connection of alice's, which answers it on its own.
+fn expect_answered(
+    rt: &(impl AllocGlobal + Abort),
+    users: &Users,
+    said: &str,
+    reply: &str,
+) -> Result<(), NoMemory> {
+    let mut session = opened(rt.alloc(), users, true)?;
+    let want = expect_said(rt, &mut session, users, said, reply)?;
+    assert_eq!(rt; want, Wanted::Nothing, "{said:?}");
+    Ok(())
+}
+
+/// Makes one move.
+fn make(
+    rt: &(impl AllocGlobal + Abort),
+    session: &mut Session,
+    users: &Users,
+    step: Move,
+    at: usize,
+) -> Result<(), NoMemory> {
+    match step {
+        Move::Piece(piece) => push(session, piece.as_bytes())?,
+        Move::Fill(n) => {
+            for _ in 0..n {
+                push(session, b"x")?;
+            }
+        }
+        Move::Next(want) => {
+            assert_eq!(rt; wanted(rt.alloc(), session, users)?, want, "move {at}");
+        }
+        Move::Out(said) => assert_eq!(rt; session.out(), said.as_bytes(), "move {at}"),
+        Move::Sent(n) => session.sent(n),
+        Move::Kept(n) => assert_eq!(rt; session.kept(), n, "move {at}"),
+        Move::Shut => session.shut(),
+        Move::Closed(closed) => assert_eq!(rt; session.is_closed(), closed, "move {at}"),
+    }
+    Ok(())
+}
+
+/// Makes moves on a connection that is new, or alice's.
+fn play(
+    rt: &(impl AllocGlobal + Abort),
+    users: &Users,
+    bound: bool,
+    moves: &[Move],
+) -> Result<(), NoMemory> {
+    let mut session = opened(rt.alloc(), users, bound)?;
+    for (at, step) in moves.iter().enumerate() {
+        make(rt, &mut session, users, *step, at)?;
+    }
+    Ok(())
 }
 
 /// An outcome that a command can come to, where nothing is held.
@@ -165,23 +248,62 @@ fn command_of(alloc: Global, line: &str) -> Result<Command, Fail> {
     Ok(command.ok_or("no command")?)
 }
 
-/// What is to be sent for an outcome; where memory was refused, that is said, and then it is tried again.
-fn expect_reply(
+/// Answers a command; where memory was refused, that is said, and then it is tried again.
+fn answer(
     rt: &(impl AllocGlobal + Abort),
+    session: &mut Session,
     users: &Users,
     command: &Command,
     outcome: &Outcome,
-    reply: &str,
 ) -> Result<(), NoMemory> {
-    let mut session = Session::new(rt.alloc());
-    let _ = next(rt.alloc(), &mut session, users)?;
-    if session.answer(command, outcome).is_err() {
-        assert_eq!(rt; session.out(), b"SERVER_ERROR out of memory\r\n".as_slice());
-        session.sent(28);
-        let _ = next(rt.alloc(), &mut session, users)?;
-        session.answer(command, outcome)?;
+    wanted(rt.alloc(), session, users)?;
+    if session.answer(command, outcome).is_ok() {
+        return Ok(());
     }
-    assert_eq!(rt; session.out(), reply.as_bytes(), "{command:?}");
+    assert_eq!(rt; session.out(), b"SERVER_ERROR out of memory\r\n".as_slice());
+    session.sent(28);
+    wanted(rt.alloc(), session, users)?;
+    session.answer(command, outcome)
+}
+
+/// What is to be sent for an outcome of a line.
+fn expect_reply(
+    rt: &(impl AllocGlobal + Abort),
+    users: &Users,
+    line: &str,
+    outcome: &Outcome,
+    reply: &str,
+) -> Result<(), Fail> {
+    let command = command_of(rt.alloc(), line)?;
+    let mut session = Session::new(rt.alloc());
+    answer(rt, &mut session, users, &command, outcome)?;
+    assert_eq!(rt; session.out(), reply.as_bytes(), "{line}");
+    Ok(())
+}
+
+/// Refuses a command.
+fn refuse(
+    alloc: Global,
+    session: &mut Session,
+    users: &Users,
+    command: &Command,
+) -> Result<(), NoMemory> {
+    wanted(alloc, session, users)?;
+    session.refuse(command);
+    Ok(())
+}
+
+/// What is to be sent where the command of a line wants memory.
+fn expect_refused(
+    rt: &(impl AllocGlobal + Abort),
+    users: &Users,
+    line: &str,
+    reply: &str,
+) -> Result<(), Fail> {
+    let command = command_of(rt.alloc(), line)?;
+    let mut session = Session::new(rt.alloc());
+    refuse(rt.alloc(), &mut session, users, &command)?;
+    assert_eq!(rt; session.out(), reply.as_bytes(), "{line}");
     Ok(())
 }
 
@@ -189,9 +311,7 @@ fn expect_reply(
 fn a_login_binds_to_the_user_whose_name_and_token_it_has(rt: HostRuntime) -> Result<(), Fail> {
     let users = users(rt.alloc())?;
     for (said, reply, user) in &LOGINS {
-        let mut session = Session::new(rt.alloc());
-        let _ = expect_said(&rt, &mut session, &users, said, reply)?;
-        assert_eq!(rt; owner(rt.alloc(), &mut session, &users)?, *user, "{said:?}");
+        expect_owner(&rt, &users, said, reply, *user)?;
     }
     Ok(())
 }
@@ -200,63 +320,30 @@ fn a_login_binds_to_the_user_whose_name_and_token_it_has(rt: HostRuntime) -> Res
 fn nothing_but_a_login_is_done_before_it(rt: HostRuntime) -> Result<(), Fail> {
     let users = users(rt.alloc())?;
     for (said, reply) in &BEFORE_A_LOGIN {
-        let mut session = Session::new(rt.alloc());
-        let _ = expect_said(&rt, &mut session, &users, said, reply)?;
+        expect_owner(&rt, &users, said, reply, 0)?;
     }
     Ok(())
 }
 
 #[test]
 fn a_bound_connection_stays_its_users(rt: HostRuntime) -> Result<(), Fail> {
-    let users = users(rt.alloc())?;
-    let mut session = alice(rt.alloc(), &users)?;
-    push(&mut session, "set x 0 0 7\r\nbob two\r\n")?;
-    let want = next(rt.alloc(), &mut session, &users)?;
-    assert_eq!(rt; caller(&want), 1);
-    assert!(rt; matches!(want, Want::Call(_, Command::Store(..))));
-    assert_eq!(rt; session.out(), b"".as_slice());
-    assert_eq!(rt; owner(rt.alloc(), &mut session, &users)?, 1);
-    Ok(())
-}
-
-/// Says each line on a connection of alice's, which answers it on its own.
-fn expect_answered(rt: &(impl AllocGlobal + Abort), lines: &[(&str, &str)]) -> Result<(), Fail> {
-    let users = users(rt.alloc())?;
-    for (said, reply) in lines {
-        let mut session = alice(rt.alloc(), &users)?;
-        let want = expect_said(rt, &mut session, &users, said, reply)?;
-        assert!(rt; matches!(want, Want::Nothing), "{said:?}");
-    }
-    Ok(())
+    Ok(play(&rt, &users(rt.alloc())?, true, &STAYING)?)
 }
 
 #[test]
 fn a_bound_connection_says_its_faults_on_its_own(rt: HostRuntime) -> Result<(), Fail> {
-    expect_answered(&rt, &FAULTS)
-}
-
-/// A connection that is new, or alice's.
-fn opened(alloc: Global, users: &Users, bound: bool) -> Result<Session, NoMemory> {
-    if bound {
-        alice(alloc, users)
-    } else {
-        Ok(Session::new(alloc))
+    let users = users(rt.alloc())?;
+    for (said, reply) in &FAULTS {
+        expect_answered(&rt, &users, said, reply)?;
     }
+    Ok(())
 }
 
 #[test]
 fn a_line_too_long_is_answered_and_closes(rt: HostRuntime) -> Result<(), Fail> {
     let users = users(rt.alloc())?;
     for bound in [false, true] {
-        let mut session = opened(rt.alloc(), &users, bound)?;
-        for _ in 0..65_536 {
-            push(&mut session, "x")?;
-        }
-        assert!(rt; matches!(next(rt.alloc(), &mut session, &users)?, Want::Nothing));
-        push(&mut session, "x")?;
-        assert!(rt; matches!(next(rt.alloc(), &mut session, &users)?, Want::Close));
-        assert!(rt; session.is_closed());
-        assert_eq!(rt; session.out(), b"CLIENT_ERROR line too long\r\n".as_slice());
+        play(&rt, &users, bound, &TOO_LONG)?;
     }
     Ok(())
 }
@@ -265,15 +352,7 @@ fn a_line_too_long_is_answered_and_closes(rt: HostRuntime) -> Result<(), Fail> {
 fn quit_closes_with_no_reply_and_nothing_is_read_after_it(rt: HostRuntime) -> Result<(), Fail> {
     let users = users(rt.alloc())?;
     for bound in [false, true] {
-        let mut session = opened(rt.alloc(), &users, bound)?;
-        assert!(rt; !session.is_closed());
-        push(&mut session, "quit\r\nversion\r\n")?;
-        assert!(rt; matches!(next(rt.alloc(), &mut session, &users)?, Want::Close));
-        assert!(rt; session.is_closed());
-        push(&mut session, "version\r\n")?;
-        assert!(rt; matches!(next(rt.alloc(), &mut session, &users)?, Want::Nothing));
-        assert_eq!(rt; session.out(), b"".as_slice());
-        assert_eq!(rt; session.kept(), 9);
+        play(&rt, &users, bound, &QUITTING)?;
     }
     Ok(())
 }
@@ -282,8 +361,7 @@ fn quit_closes_with_no_reply_and_nothing_is_read_after_it(rt: HostRuntime) -> Re
 fn each_outcome_has_its_reply(rt: HostRuntime) -> Result<(), Fail> {
     let users = users(rt.alloc())?;
     for (line, outcome, reply) in &REPLIES {
-        let command = command_of(rt.alloc(), line)?;
-        expect_reply(&rt, &users, &command, outcome, reply)?;
+        expect_reply(&rt, &users, line, outcome, reply)?;
     }
     Ok(())
 }
@@ -308,103 +386,104 @@ fn try_hits(alloc: Global) -> Result<Hits, NoMemory> {
     Ok(hits)
 }
 
+/// The same, tried once more where memory was refused.
+fn hits(alloc: Global) -> Result<Hits, NoMemory> {
+    match try_hits(alloc) {
+        Ok(hits) => Ok(hits),
+        Err(NoMemory) => try_hits(alloc),
+    }
+}
+
 #[test]
 fn hits_are_shown_in_order_with_cas_numbers_where_asked(rt: HostRuntime) -> Result<(), Fail> {
-    let hits = match try_hits(rt.alloc()) {
-        Ok(hits) => hits,
-        Err(NoMemory) => try_hits(rt.alloc())?,
-    };
-    let outcome = Outcome::Values(hits);
+    let outcome = Outcome::Values(hits(rt.alloc())?);
     let users = users(rt.alloc())?;
     for (line, reply) in &LOOK_UPS {
-        let command = command_of(rt.alloc(), line)?;
-        expect_reply(&rt, &users, &command, &outcome, reply)?;
+        expect_reply(&rt, &users, line, &outcome, reply)?;
     }
     Ok(())
 }
 
 #[test]
 fn a_look_up_that_finds_nothing_is_answered_with_the_end(rt: HostRuntime) -> Result<(), Fail> {
-    let users = users(rt.alloc())?;
-    let command = command_of(rt.alloc(), "get a")?;
-    expect_reply(
-        &rt,
-        &users,
-        &command,
-        &Outcome::Values(Hits::new()),
-        "END\r\n",
-    )?;
-    Ok(())
+    let nothing = Outcome::Values(Hits::new());
+    expect_reply(&rt, &users(rt.alloc())?, "get a", &nothing, "END\r\n")
 }
 
 #[test]
 fn stats_shows_the_rows_and_the_end(rt: HostRuntime) -> Result<(), Fail> {
-    let users = users(rt.alloc())?;
     let outcome = Outcome::Stats(Statistics::new(rt.alloc(), COUNTERS)?);
-    expect_reply(&rt, &users, &Command::Stats, &outcome, ROWS)?;
-    Ok(())
+    expect_reply(&rt, &users(rt.alloc())?, "stats", &outcome, ROWS)
 }
 
 #[test]
 fn a_refusal_is_said_unless_the_line_is_quiet(rt: HostRuntime) -> Result<(), Fail> {
     let users = users(rt.alloc())?;
     for (line, reply) in &REFUSALS {
-        let command = command_of(rt.alloc(), line)?;
-        let mut session = Session::new(rt.alloc());
-        let _ = next(rt.alloc(), &mut session, &users)?;
-        session.refuse(&command);
-        assert_eq!(rt; session.out(), reply.as_bytes(), "{line}");
+        expect_refused(&rt, &users, line, reply)?;
     }
     Ok(())
 }
 
 #[test]
 fn what_was_sent_is_given_up_and_the_rest_waits(rt: HostRuntime) -> Result<(), Fail> {
-    let users = users(rt.alloc())?;
+    Ok(play(&rt, &users(rt.alloc())?, false, &UNSENT)?)
+}
+
+/// Says the stream in two pieces.
+fn expect_cut(
+    rt: &(impl AllocGlobal + Abort),
+    users: &Users,
+    first: &[u8],
+    second: &[u8],
+) -> Result<(), NoMemory> {
     let mut session = Session::new(rt.alloc());
-    push(&mut session, "get k\r\nbogus\r\nget")?;
-    let _ = talk(rt.alloc(), &mut session, &users)?;
-    assert_eq!(rt; session.kept(), 3);
-    session.sent(13);
-    assert_eq!(rt; session.out(), b"unauthenticated\r\nERROR\r\n".as_slice());
-    session.sent(17);
-    assert_eq!(rt; session.out(), b"ERROR\r\n".as_slice());
-    session.sent(8);
-    assert_eq!(rt; session.out(), b"".as_slice());
-    push(&mut session, "\r\n")?;
-    session.shut();
-    assert!(rt; session.is_closed());
-    assert!(rt; matches!(next(rt.alloc(), &mut session, &users)?, Want::Nothing));
+    push(&mut session, first)?;
+    converse(rt.alloc(), &mut session, users)?;
+    push(&mut session, second)?;
+    converse(rt.alloc(), &mut session, users)?;
+    assert_eq!(rt;
+        session.out(),
+        ANSWERED.as_bytes(),
+        "cut at {}",
+        first.len()
+    );
+    assert!(rt; session.is_closed(), "cut at {}", first.len());
     Ok(())
 }
 
 #[test]
 fn a_connection_cut_anywhere_is_sent_the_same_bytes(rt: HostRuntime) -> Result<(), Fail> {
     let users = users(rt.alloc())?;
-    let stream = STREAM.as_bytes();
-    for cut in 0..=stream.len() {
-        let mut session = Session::new(rt.alloc());
-        for piece in [&stream[..cut], &stream[cut..]] {
-            if session.push(piece).is_err() {
-                session.push(piece)?;
-            }
-            converse(rt.alloc(), &mut session, &users)?;
-        }
-        assert_eq!(rt; session.out(), ANSWERED.as_bytes(), "cut at {cut}");
-        assert!(rt; session.is_closed(), "cut at {cut}");
+    for cut in 0..=STREAM.len() {
+        let (first, second) = STREAM.as_bytes().split_at(cut);
+        expect_cut(&rt, &users, first, second)?;
     }
+    Ok(())
+}
+
+/// Says a piece on a connection of alice's, whose cache is to do it.
+fn expect_called(
+    rt: &(impl AllocGlobal + Abort),
+    users: &Users,
+    said: &str,
+) -> Result<(), NoMemory> {
+    let mut session = opened(rt.alloc(), users, true)?;
+    push(&mut session, said.as_bytes())?;
+    let want = wanted(rt.alloc(), &mut session, users)?;
+    assert!(rt;
+        matches!(want, Wanted::Store(1) | Wanted::Call(1)),
+        "{said:?}"
+    );
+    assert_eq!(rt; session.out(), b"".as_slice(), "{said:?}");
     Ok(())
 }
 
 #[test]
 fn a_bound_command_is_handed_to_its_users_cache(rt: HostRuntime) -> Result<(), Fail> {
     let users = users(rt.alloc())?;
-    for said in CALLED {
-        let mut session = alice(rt.alloc(), &users)?;
-        push(&mut session, said)?;
-        let want = next(rt.alloc(), &mut session, &users)?;
-        assert_eq!(rt; caller(&want), 1, "{said:?}");
-        assert_eq!(rt; session.out(), b"".as_slice(), "{said:?}");
+    for said in &CALLED {
+        expect_called(&rt, &users, said)?;
     }
     Ok(())
 }

@@ -76,6 +76,86 @@ pub const CALLED: [&str; 13] = [
     "version\r\n",
 ];
 
+/// What a connection's next request wants, without the command.
+#[derive(Clone, Copy, Debug, PartialEq, Eq)]
+pub enum Wanted {
+    Nothing,
+    Said,
+    /// A storage command for this user's cache.
+    Store(u32),
+    /// Another command for this user's cache.
+    Call(u32),
+    Close,
+}
+
+/// What is done with a connection, or is to be seen of it.
+#[derive(Clone, Copy)]
+pub enum Move {
+    /// A piece comes.
+    Piece(&'static str),
+    /// So many bytes `x` come, one by one.
+    Fill(usize),
+    /// What its next request wants.
+    Next(Wanted),
+    /// All that waits to be sent.
+    Out(&'static str),
+    /// So many bytes were sent.
+    Sent(usize),
+    /// How many bytes are unread.
+    Kept(usize),
+    Shut,
+    /// Whether it is closed.
+    Closed(bool),
+}
+
+/// What a connection of alice's makes of bob's login.
+pub const STAYING: [Move; 5] = [
+    Move::Piece("set x 0 0 7\r\nbob two\r\n"),
+    Move::Next(Wanted::Store(1)),
+    Move::Out(""),
+    Move::Piece("version\r\n"),
+    Move::Next(Wanted::Call(1)),
+];
+
+pub const TOO_LONG: [Move; 6] = [
+    Move::Fill(65_536),
+    Move::Next(Wanted::Nothing),
+    Move::Fill(1),
+    Move::Next(Wanted::Close),
+    Move::Closed(true),
+    Move::Out("CLIENT_ERROR line too long\r\n"),
+];
+
+pub const QUITTING: [Move; 8] = [
+    Move::Closed(false),
+    Move::Piece("quit\r\nversion\r\n"),
+    Move::Next(Wanted::Close),
+    Move::Closed(true),
+    Move::Piece("version\r\n"),
+    Move::Next(Wanted::Nothing),
+    Move::Out(""),
+    Move::Kept(9),
+];
+
+/// What waits is sent bit by bit, the last of it with more bytes than there are.
+pub const UNSENT: [Move; 15] = [
+    Move::Piece("get k\r\nbogus\r\nget"),
+    Move::Next(Wanted::Said),
+    Move::Next(Wanted::Said),
+    Move::Next(Wanted::Nothing),
+    Move::Kept(3),
+    Move::Sent(13),
+    Move::Out("unauthenticated\r\nERROR\r\n"),
+    Move::Sent(17),
+    Move::Out("ERROR\r\n"),
+    Move::Sent(8),
+    Move::Out(""),
+    Move::Piece("\r\n"),
+    Move::Shut,
+    Move::Closed(true),
+    Move::Next(Wanted::Nothing),
+];
+
 /// A stream of a login, with requests before it and after it.
 pub const STREAM: &str = "get k\r\n\
     set x 0 0 9\r\nalice two\r\n\
