@@ -43,7 +43,7 @@ fn dropped(lists: &mut Lists, seen: &Vec<u8>) -> Option<usize> {
 }
 
 /// A call of lists, or what is to be seen of them.
-#[derive(Clone, Copy, Debug)]
+#[derive(Clone, Copy)]
 enum Move {
     /// A slot of this weight is put into the window.
     Push(usize, u64),
