@@ -5,7 +5,6 @@ use crate::fault::Fault;
 use crate::measuring::{Extent, Tally, Topic, Work, report};
 use std::alloc::Global;
 use tc_feed::Feed;
-use tc_grammar::Command;
 use tc_item::{Blob, Key, NoMemory};
 use tc_session::{Session, Want};
 use tc_stats::{Hit, Hits, Outcome};
@@ -143,6 +142,14 @@ fn one_hit(alloc: Global) -> Result<Hits, Fault> {
     Ok(hits)
 }
 
+/// What the cache comes to for a request.
+fn outcome_of(alloc: Global, request: Request) -> Result<Outcome, Fault> {
+    match request {
+        Request::Get => Ok(Outcome::Values(one_hit(alloc)?)),
+        Request::Set(_) => Ok(Outcome::Stored),
+    }
+}
+
 /// A stream that a feed reads.
 #[derive(Clone, Copy)]
 struct Fed<'a> {
@@ -180,13 +187,11 @@ impl Work for Fed<'_> {
     }
 }
 
-/// What a connection is served from: the users, and what their cache comes to for a look-up and for
-/// all else.
+/// What a connection is served from: the users, and what each of their commands comes to.
 #[derive(Clone, Copy)]
 struct Cache<'a> {
     users: &'a Users,
-    found: &'a Outcome,
-    stored: &'a Outcome,
+    outcome: &'a Outcome,
 }
 
 /// What came of a look for the next request.
@@ -198,17 +203,10 @@ enum Turn {
 }
 
 impl Cache<'_> {
-    fn outcome(&self, command: &Command) -> &Outcome {
-        match command {
-            Command::Get { .. } => self.found,
-            _ => self.stored,
-        }
-    }
-
     fn serve_one(&self, alloc: Global, session: &mut Session) -> Result<Turn, NoMemory> {
         match session.next(alloc, self.users)? {
             Want::Call(_, command) => {
-                session.answer(&command, self.outcome(&command))?;
+                session.answer(&command, self.outcome)?;
                 Ok(Turn::Served)
             }
             Want::Said => Ok(Turn::Said),
@@ -267,7 +265,7 @@ impl Work for Served<'_> {
 
 fn report_stream(
     rt: &HostRuntime,
-    cache: Cache,
+    users: &Users,
     asked: Stream,
     extent: Extent,
 ) -> Result<(), Fault> {
@@ -278,6 +276,11 @@ fn report_stream(
     let stream = stream_of(rt.alloc(), asked.request, times)?;
     let fed = Fed { stream: &stream };
     report(rt, topic(asked.fed, "bytes read"), &fed, extent)?;
+    let outcome = outcome_of(rt.alloc(), asked.request)?;
+    let cache = Cache {
+        users,
+        outcome: &outcome,
+    };
     let served = Served {
         cache,
         stream: &stream,
@@ -287,14 +290,8 @@ fn report_stream(
 
 pub(crate) fn run(rt: &HostRuntime, extent: Extent) -> Result<(), Fault> {
     let users = one_user(rt.alloc())?;
-    let found = Outcome::Values(one_hit(rt.alloc())?);
-    let cache = Cache {
-        users: &users,
-        found: &found,
-        stored: &Outcome::Stored,
-    };
     for stream in STREAMS {
-        report_stream(rt, cache, stream, extent)?;
+        report_stream(rt, &users, stream, extent)?;
     }
     Ok(())
 }

@@ -54,23 +54,24 @@ fn count(rt: &HostRuntime) -> Result<(), Fault> {
     Ok(())
 }
 
-/// Records distinct hashes one after another, and gives the last.
-fn record_all(sketch: &mut Sketch) -> u64 {
+/// Records distinct hashes one after another, each so much more than the one before, and gives the
+/// last.
+fn record_all(sketch: &mut Sketch, step: u64) -> u64 {
     let mut hash: u64 = 0;
     for _ in 0..CALLS {
-        hash = hash.wrapping_add(STEP);
+        hash = hash.wrapping_add(step);
         sketch.record(hash);
     }
     hash
 }
 
 /// The sum of the frequencies of those hashes, from the last on.
-fn sum_all(sketch: &Sketch, last: u64) -> u32 {
+fn sum_all(sketch: &Sketch, last: u64, step: u64) -> u32 {
     let mut hash = last;
     let mut sum: u32 = 0;
     for _ in 0..CALLS {
         sum = sum.wrapping_add(u32::from(sketch.freq(hash)));
-        hash = hash.wrapping_sub(STEP);
+        hash = hash.wrapping_sub(step);
     }
     sum
 }
@@ -78,10 +79,10 @@ fn sum_all(sketch: &Sketch, last: u64) -> u32 {
 /// What records and looks take that follow one another, in a sketch.
 fn time_calls(rt: &HostRuntime, sketch: &mut Sketch) -> Result<(Duration, Duration, u32), Fault> {
     let start = Instant::now(rt)?;
-    let last = record_all(sketch);
+    let last = record_all(sketch, STEP);
     let recorded = start.elapsed(rt)?;
     let start = Instant::now(rt)?;
-    let sum = sum_all(sketch, last);
+    let sum = sum_all(sketch, last, STEP);
     Ok((recorded, start.elapsed(rt)?, sum))
 }
 
@@ -100,6 +101,17 @@ fn measure_calls(rt: &HostRuntime, width: u32, part: &str) -> Result<(), Fault>
     print_time(rt, Topic { part, calls, sum }, looked, tally)
 }
 
+/// How many words are not 0.
+fn count_set(words: &[u64]) -> u32 {
+    let mut sum: u32 = 0;
+    for word in words {
+        if *word != 0 {
+            sum = sum.wrapping_add(1);
+        }
+    }
+    sum
+}
+
 /// Times the halving of a largest sketch.
 fn measure_halving(rt: &HostRuntime) -> Result<(), Fault> {
     let mut words = vec![in rt.alloc(); u64::MAX; LARGEST_WORDS]?;
@@ -110,7 +122,7 @@ fn measure_halving(rt: &HostRuntime) -> Result<(), Fault> {
     let spent = start.elapsed(rt)?;
     let tally = Tally {
         calls: HALVINGS,
-        sum: words.iter().fold(0, |sum: u32, word| sum.wrapping_add(u32::from(*word != 0))),
+        sum: count_set(&words),
     };
     print_time(rt, HALVED, spent, tally)
 }

@@ -207,7 +207,7 @@ fn turn(wheel: &mut Wheel, second: u32, slots: u32) -> u32 {
             Some(slot) => add(
                 wheel,
                 slot,
-                later(second, slot.0 as u64 ^ u64::from(second)),
+                later(second, (slot.0 as u64).wrapping_add(u64::from(second))),
             ),
             None => return given,
         }
