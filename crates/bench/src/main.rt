@@ -1,0 +1,107 @@
+//! Measures the parts of the server: `bench PART --measure` prints what their calls take.
+//!
+//! Without `--measure` it does a little of the part, and without any word a little of each, and
+//! prints what the calls came to and no times. bench/README.md says what each part measures.
+#![tactic(auto)]
+
+mod fault;
+mod grammar;
+mod item;
+mod measuring;
+mod session;
+mod sketch;
+mod slru;
+mod wheel;
+
+use fault::Fault;
+use measuring::Extent;
+use std::env;
+use std::process::ExitCode;
+
+/// What is measured.
+#[derive(Clone, Copy)]
+enum Part {
+    Sketch,
+    Item,
+    Grammar,
+    Slru,
+    Wheel,
+    Session,
+}
+
+/// The parts, under the words that ask for them.
+const PARTS: [(&str, Part); 6] = [
+    ("sketch", Part::Sketch),
+    ("item", Part::Item),
+    ("grammar", Part::Grammar),
+    ("slru", Part::Slru),
+    ("wheel", Part::Wheel),
+    ("session", Part::Session),
+];
+
+/// What the command line asks for.
+#[derive(Clone, Copy)]
+enum Asked {
+    /// A little of each part.
+    Each,
+    One(Part, Extent),
+}
+
+fn named(word: &str) -> Result<Part, Fault> {
+    for (name, part) in PARTS {
+        if word == name {
+            return Ok(part);
+        }
+    }
+    Err(Fault::Usage)
+}
+
+/// What the words ask for, the program's name first.
+fn parse(words: &[String]) -> Result<Asked, Fault> {
+    match words {
+        [] | [_] => Ok(Asked::Each),
+        [_, part] => Ok(Asked::One(named(part.as_str())?, Extent::Counted)),
+        [_, part, how] if how.as_str() == "--measure" => {
+            Ok(Asked::One(named(part.as_str())?, Extent::Measured))
+        }
+        _ => Err(Fault::Usage),
+    }
+}
+
+fn read_words(rt: &HostRuntime) -> Result<Asked, Fault> {
+    let words: Vec<String> = env::args(rt)?.collect(rt.alloc())?;
+    parse(&words)
+}
+
+fn run_part(rt: &HostRuntime, part: Part, extent: Extent) -> Result<(), Fault> {
+    match part {
+        Part::Sketch => sketch::run(rt, extent),
+        Part::Item => item::run(rt, extent),
+        Part::Grammar => grammar::run(rt, extent),
+        Part::Slru => slru::run(rt, extent),
+        Part::Wheel => wheel::run(rt, extent),
+        Part::Session => session::run(rt, extent),
+    }
+}
+
+fn run(rt: &HostRuntime) -> Result<(), Fault> {
+    match read_words(rt)? {
+        Asked::One(part, extent) => run_part(rt, part, extent),
+        Asked::Each => {
+            for (_, part) in PARTS {
+                run_part(rt, part, Extent::Counted)?;
+            }
+            Ok(())
+        }
+    }
+}
+
+fn main(rt: HostRuntime) -> ExitCode {
+    match run(&rt) {
+        Ok(()) => ExitCode::from(0),
+        Err(fault) => {
+            let _ = eprintln!(rt; "{}", fault.text());
+            ExitCode::from(fault.status())
+        }
+    }
+}

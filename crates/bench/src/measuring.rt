@@ -1,0 +1,93 @@
+//! What all parts share: how often work is done, what a call takes, and the lines of output.
+
+use crate::fault::Fault;
+use std::alloc::Global;
+use std::time::{Duration, Instant};
+use tc_item::NoMemory;
+
+/// How many runs the best is taken of.
+const RUNS: u32 = 10;
+
+/// How much of a part is done.
+#[derive(Clone, Copy)]
+pub(crate) enum Extent {
+    /// A little, of which only counts are printed.
+    Counted,
+    /// As much as times want.
+    Measured,
+}
+
+/// How many calls were made, and what they came to. The sums are printed, which keeps the calls
+/// from being left out.
+#[derive(Clone, Copy)]
+pub(crate) struct Tally {
+    pub(crate) calls: u32,
+    pub(crate) sum: u32,
+}
+
+/// What a line of output speaks of.
+#[derive(Clone, Copy)]
+pub(crate) struct Topic<'a> {
+    pub(crate) part: &'a str,
+    /// What was called.
+    pub(crate) calls: &'a str,
+    /// What the calls came to.
+    pub(crate) sum: &'a str,
+}
+
+/// Work that can be done again and again.
+pub(crate) trait Work {
+    /// Does it once.
+    fn run(&self, alloc: Global) -> Result<Tally, NoMemory>;
+}
+
+/// Nanoseconds of one of so many calls.
+fn nanos_a_call(spent: Duration, calls: u32) -> f64 {
+    spent.as_secs_f64() * 1e9 / f64::from(calls)
+}
+
+/// Prints how many calls there were, and what they came to.
+pub(crate) fn print_count(rt: &HostRuntime, topic: Topic, tally: Tally) -> Result<(), Fault> {
+    let Topic { part, calls, sum } = topic;
+    println!(rt; "{part}, {calls}: {}; {sum}: {}", tally.calls, tally.sum)?;
+    Ok(())
+}
+
+/// Prints what a call took, and what it came to on the average.
+pub(crate) fn print_time(
+    rt: &HostRuntime,
+    topic: Topic,
+    spent: Duration,
+    tally: Tally,
+) -> Result<(), Fault> {
+    let Topic { part, calls, sum } = topic;
+    let nanos = nanos_a_call(spent, tally.calls);
+    let each = f64::from(tally.sum) / f64::from(tally.calls);
+    println!(rt; "{part}, {calls}: {nanos:.1} ns each; {sum}: {each:.2} each")?;
+    Ok(())
+}
+
+/// What work took in the best of some runs.
+fn best_of<W: Work>(rt: &HostRuntime, work: &W) -> Result<Duration, Fault> {
+    let mut best = Duration::MAX;
+    for _ in 0..RUNS {
+        let start = Instant::now(rt)?;
+        let _tally = work.run(rt.alloc())?;
+        best = best.min(start.elapsed(rt)?);
+    }
+    Ok(best)
+}
+
+/// Does work once and prints what it came to, or prints what a call took in the best of some runs.
+pub(crate) fn report<W: Work>(
+    rt: &HostRuntime,
+    topic: Topic,
+    work: &W,
+    extent: Extent,
+) -> Result<(), Fault> {
+    let tally = work.run(rt.alloc())?;
+    match extent {
+        Extent::Counted => print_count(rt, topic, tally),
+        Extent::Measured => print_time(rt, topic, best_of(rt, work)?, tally),
+    }
+}
