@@ -1,9 +1,11 @@
 //! What no clause says of the settings: texts in, the numbers and the words of their faults out,
 //! and each call with memory to spare. A test that a refused allocation reaches ends in an error.
 
-use crate::{Field, Found, Settings, SettingsFault, Text, TextFault, UserNo, UserSpec, Users};
+mod faults;
+
 use std::alloc::Global;
 use std::test::Fail;
+use tc_users::{Field, Found, Settings, SettingsFault, Text, TextFault, UserNo, UserSpec, Users};
 
 /// The text of `examples/partcached.toml`; `scripts/examples` compares the two.
 const EXAMPLE: &str =

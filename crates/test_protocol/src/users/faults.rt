@@ -1,7 +1,7 @@
 //! The words of the settings' faults, as an operator reads them.
 
-use crate::{Field, Found, Settings, SettingsFault, TextFault};
 use std::test::Fail;
+use tc_users::{Field, Found, Settings, SettingsFault, TextFault};
 
 #[test]
 fn a_fault_says_what_was_found_and_what_is_wanted(rt: HostRuntime) -> Result<(), Fail> {

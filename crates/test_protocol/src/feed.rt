@@ -1,10 +1,10 @@
 //! What no clause says of streams: each call with memory to spare, and requests by hand of streams
 //! cut at every byte. A call that meets a refused allocation is made again.
 
-use super::*;
 use std::alloc::Global;
 use std::process::Abort;
 use std::test::Fail;
+use tc_feed::{Feed, Request, cutting};
 use tc_grammar::{Command, Fault, StoreKind};
 use tc_item::NoMemory;
 

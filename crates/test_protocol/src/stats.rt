@@ -1,11 +1,11 @@
 //! What no clause says of outcomes, hits and counters: each call with memory to spare.
 
-use crate::{Counters, Hit, Hits, Outcome, Statistics};
 use std::alloc::Global;
 use std::process::Abort;
 use std::test::Fail;
 use tc_grammar::{Command, Line, parse_line};
 use tc_item::{Blob, Key};
+use tc_stats::{Counters, Hit, Hits, Outcome, Statistics};
 
 fn hit(alloc: Global, key: &[u8], cas: u64) -> Result<Hit, Fail> {
     Ok(Hit {

@@ -3,11 +3,11 @@
 
 mod table;
 
-use super::*;
 use std::alloc::{AllocError, Global};
 use std::process::Abort;
 use std::test::Fail;
 use table::{COUNTERS, KEYED, NAMES, REFUSED_STORAGE, RETRIEVAL, STORAGE, UNKEYED};
+use tc_grammar::{Command, Fault, Line, parse_line};
 use tc_item::{Blob, NoMemory};
 
 /// What a line spells, read once more where memory was refused.

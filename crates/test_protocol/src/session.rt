@@ -4,7 +4,6 @@ ghost use Rattle.std.specs.Prelude.{◌≤◌, OnOk};
 
 mod table;
 
-use super::*;
 use std::alloc::Global;
 use std::process::Abort;
 use std::test::Fail;
@@ -14,6 +13,7 @@ use table::{
 };
 use tc_grammar::{Command, Line, parse_line};
 use tc_item::{Blob, Key, NoMemory};
+use tc_session::{Session, Want};
 use tc_stats::{Hit, Hits, Outcome, Statistics};
 use tc_users::{Text, UserSpec, Users};
 
