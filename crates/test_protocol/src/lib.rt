@@ -6,6 +6,8 @@
 #[cfg(test)]
 mod feed;
 #[cfg(test)]
+mod fixtures;
+#[cfg(test)]
 mod grammar;
 #[cfg(test)]
 mod session;

@@ -4,50 +4,19 @@ ghost use Rattle.std.specs.Prelude.{◌≤◌, OnOk};
 
 mod table;
 
+use crate::fixtures::{hit, users};
 use std::alloc::Global;
 use std::process::Abort;
 use std::test::Fail;
 use table::{
-    ANSWERED, BEFORE_A_LOGIN, CALLED, COUNTERS, FAULTS, LOGINS, LOOK_UPS, Move, QUITTING, REFUSALS,
-    REPLIES, ROWS, STAYING, STREAM, TOO_LONG, UNSENT, Wanted,
+    ANSWERED, BEFORE_A_LOGIN, CALLED, CAME_TO, COUNTERS, FAULTS, LINE_TOO_LONG, LOGINS, LOOK_UPS,
+    Left, QUITTING, REFUSALS, REPLIES, ROWS, SHUT, STAYING, STREAM, Step, Turn, UNSENT, Wanted,
 };
-use tc_grammar::{Command, Line, parse_line};
-use tc_item::{Blob, Key, NoMemory};
+use tc_grammar::Command;
+use tc_item::NoMemory;
 use tc_session::{Session, Want};
-use tc_stats::{Hit, Hits, Outcome, Statistics};
-use tc_users::{Text, UserSpec, Users};
-
-/// A row of a user.
-fn row(alloc: Global, name: &str, token: &str, second: Option<&str>) -> Result<UserSpec, NoMemory> {
-    let second = match second {
-        None => None,
-        Some(token) => Some(Text::new(Vec::from_slice(alloc, token.as_bytes())?)),
-    };
-    Ok(UserSpec {
-        name: Text::new(Vec::from_slice(alloc, name.as_bytes())?),
-        token: Text::new(Vec::from_slice(alloc, token.as_bytes())?),
-        second,
-        budget: 65_536,
-        largest: 1_048_576,
-    })
-}
-
-/// The rows of alice, who is 1, and of bob, who is 2 and has a second token.
-fn try_rows(alloc: Global) -> Result<Vec<UserSpec>, NoMemory> {
-    let mut rows = Vec::new(alloc);
-    rows.push(row(alloc, "alice", "one", None)?)?;
-    rows.push(row(alloc, "bob", "two", Some("zwei"))?)?;
-    Ok(rows)
-}
-
-/// Their table, with rows made once more where memory was refused.
-fn users(alloc: Global) -> Result<Users, Fail> {
-    let rows = match try_rows(alloc) {
-        Ok(rows) => rows,
-        Err(NoMemory) => try_rows(alloc)?,
-    };
-    Ok(Users::build(rows)?)
-}
+use tc_stats::{Hits, Outcome, Statistics};
+use tc_users::Users;
 
 /// Takes a piece, once more where memory was refused.
 fn push(session: &mut Session, piece: &[u8]) -> Result<(), NoMemory> {
@@ -72,7 +41,6 @@ fn wanted_of(want: &Want) -> Wanted {
     match want {
         Want::Nothing => Wanted::Nothing,
         Want::Said => Wanted::Said,
-        Want::Call(user, Command::Store(..)) => Wanted::Store(user.number()),
         Want::Call(user, _) => Wanted::Call(user.number()),
         Want::Close => Wanted::Close,
     }
@@ -96,156 +64,146 @@ fn opened(alloc: Global, users: &Users, bound: bool) -> Result<Session, NoMemory
     Ok(session)
 }
 
-/// Whose a connection is, 0 for nobody's, by what it makes of `version`.
-fn owner(alloc: Global, session: &mut Session, users: &Users) -> Result<u32, NoMemory> {
-    push(session, b"version\r\n")?;
-    match wanted(alloc, session, users)? {
-        Wanted::Store(user) | Wanted::Call(user) => Ok(user),
-        Wanted::Nothing | Wanted::Said | Wanted::Close => Ok(0),
-    }
-}
-
-/// Says all that a connection says on its own; the first call or end is what is given.
-fn talk(alloc: Global, session: &mut Session, users: &Users) -> Result<Wanted, NoMemory> {
-    for _ in 0..session.kept() {
-        let want = wanted(alloc, session, users)?;
-        if want != Wanted::Said {
-            return Ok(want);
-        }
-    }
-    Ok(Wanted::Nothing)
-}
-
-/// Says a piece and all that the connection answers on its own; the first call or end is what is given.
-fn expect_said(
+/// Takes a turn.
+fn expect_turn(
     rt: &(impl AllocGlobal + Abort),
     session: &mut Session,
     users: &Users,
-    said: &str,
-    reply: &str,
-) -> Result<Wanted, NoMemory> {
+    turn: &Turn,
+) -> Result<(), NoMemory> {
+    let (said, want, out) = *turn;
     push(session, said.as_bytes())?;
-    let want = talk(rt.alloc(), session, users)?;
-    assert_eq!(rt; session.out(), reply.as_bytes(), "{said:?}");
-    Ok(want)
+    assert_eq!(rt; wanted(rt.alloc(), session, users)?, want, "{said:?}");
+    assert_eq!(rt; session.out(), out.as_bytes(), "{said:?}");
+    Ok(())
 }
 
-/// Says a piece on a new connection, which answers it on its own and is this user's then, 0 for nobody's.
+/// Takes a turn on a connection that is new, or alice's, which makes this of `version` then.
 fn expect_owner(
     rt: &(impl AllocGlobal + Abort),
     users: &Users,
-    said: &str,
-    reply: &str,
-    user: u32,
+    bound: bool,
+    turn: &Turn,
+    version: Wanted,
 ) -> Result<(), NoMemory> {
-    let mut session = Session::new(rt.alloc());
-    expect_said(rt, &mut session, users, said, reply)?;
-    assert_eq!(rt; owner(rt.alloc(), &mut session, users)?, user, "{said:?}");
+    let mut session = opened(rt.alloc(), users, bound)?;
+    expect_turn(rt, &mut session, users, turn)?;
+    push(&mut session, b"version\r\n")?;
+    let want = wanted(rt.alloc(), &mut session, users)?;
+    assert_eq!(rt; want, version, "{turn:?}");
     Ok(())
 }
 
-/// Says a piece on a connection of alice's, which answers it on its own.
-fn expect_answered(
-    rt: &(impl AllocGlobal + Abort),
-    users: &Users,
-    said: &str,
-    reply: &str,
-) -> Result<(), NoMemory> {
-    let mut session = opened(rt.alloc(), users, true)?;
-    let want = expect_said(rt, &mut session, users, said, reply)?;
-    assert_eq!(rt; want, Wanted::Nothing, "{said:?}");
-    Ok(())
+/// How much is unread, and whether the connection is closed.
+fn left_of(session: &Session) -> Left {
+    let kept = session.kept();
+    if session.is_closed() {
+        Left::Closed(kept)
+    } else {
+        Left::Open(kept)
+    }
 }
 
-/// Makes one move.
-fn make(
+/// Takes steps.
+fn expect_steps(
     rt: &(impl AllocGlobal + Abort),
     session: &mut Session,
     users: &Users,
-    step: Move,
-    at: usize,
+    steps: &[Step],
 ) -> Result<(), NoMemory> {
-    match step {
-        Move::Piece(piece) => push(session, piece.as_bytes())?,
-        Move::Fill(n) => {
-            for _ in 0..n {
-                push(session, b"x")?;
-            }
-        }
-        Move::Next(want) => {
-            assert_eq!(rt; wanted(rt.alloc(), session, users)?, want, "move {at}");
-        }
-        Move::Out(said) => assert_eq!(rt; session.out(), said.as_bytes(), "move {at}"),
-        Move::Sent(n) => session.sent(n),
-        Move::Kept(n) => assert_eq!(rt; session.kept(), n, "move {at}"),
-        Move::Shut => session.shut(),
-        Move::Closed(closed) => assert_eq!(rt; session.is_closed(), closed, "move {at}"),
+    for (sent, turn, left) in steps {
+        session.sent(*sent);
+        expect_turn(rt, session, users, turn)?;
+        assert_eq!(rt; left_of(session), *left, "{turn:?}");
     }
     Ok(())
 }
 
-/// Makes moves on a connection that is new, or alice's.
-fn play(
+#[test]
+fn a_login_binds_to_the_user_whose_name_and_token_it_has(rt: HostRuntime) -> Result<(), Fail> {
+    let users = users(rt.alloc())?;
+    for (turn, version) in &LOGINS {
+        expect_owner(&rt, &users, false, turn, *version)?;
+    }
+    Ok(())
+}
+
+#[test]
+fn nothing_but_a_login_is_done_before_it(rt: HostRuntime) -> Result<(), Fail> {
+    let users = users(rt.alloc())?;
+    for (turn, version) in &BEFORE_A_LOGIN {
+        expect_owner(&rt, &users, false, turn, *version)?;
+    }
+    Ok(())
+}
+
+#[test]
+fn a_bound_connection_stays_its_users(rt: HostRuntime) -> Result<(), Fail> {
+    let users = users(rt.alloc())?;
+    expect_owner(&rt, &users, true, &STAYING, Wanted::Call(1))?;
+    Ok(())
+}
+
+#[test]
+fn a_bound_connection_says_its_faults_on_its_own(rt: HostRuntime) -> Result<(), Fail> {
+    let users = users(rt.alloc())?;
+    for (turn, version) in &FAULTS {
+        expect_owner(&rt, &users, true, turn, *version)?;
+    }
+    Ok(())
+}
+
+#[test]
+fn a_bound_command_is_handed_to_its_users_cache(rt: HostRuntime) -> Result<(), Fail> {
+    let users = users(rt.alloc())?;
+    for said in &CALLED {
+        let turn = (*said, Wanted::Call(1), "");
+        expect_owner(&rt, &users, true, &turn, Wanted::Call(1))?;
+    }
+    Ok(())
+}
+
+/// Says a line of 65,537 bytes.
+fn expect_too_long(
     rt: &(impl AllocGlobal + Abort),
     users: &Users,
     bound: bool,
-    moves: &[Move],
 ) -> Result<(), NoMemory> {
     let mut session = opened(rt.alloc(), users, bound)?;
-    for (at, step) in moves.iter().enumerate() {
-        make(rt, &mut session, users, *step, at)?;
+    for _ in 1..65_536 {
+        push(&mut session, b"x")?;
+    }
+    expect_steps(rt, &mut session, users, &LINE_TOO_LONG)
+}
+
+#[test]
+fn a_line_too_long_is_answered_and_closes(rt: HostRuntime) -> Result<(), Fail> {
+    let users = users(rt.alloc())?;
+    for bound in [false, true] {
+        expect_too_long(&rt, &users, bound)?;
     }
     Ok(())
 }
 
-/// An outcome that a command can come to, where nothing is held.
-fn outcome_of(command: &Command) -> Outcome {
-    match command {
-        Command::Store(..) => Outcome::Stored,
-        Command::Get { .. } => Outcome::Values(Hits::new()),
-        Command::Version => Outcome::Version,
-        _ => Outcome::Done,
-    }
-}
-
-/// Does all requests that are there, as if nothing were held.
-fn converse(alloc: Global, session: &mut Session, users: &Users) -> Result<(), NoMemory> {
-    for _ in 0..session.kept() {
-        match next(alloc, session, users)? {
-            Want::Nothing | Want::Close => return Ok(()),
-            Want::Said => {}
-            Want::Call(_, command) => {
-                let outcome = outcome_of(&command);
-                if session.answer(&command, &outcome).is_err() {
-                    session.sent(28);
-                    let _ = next(alloc, session, users)?;
-                    session.answer(&command, &outcome)?;
-                }
-            }
-        }
+#[test]
+fn quit_closes_with_no_reply_and_nothing_is_read_after_it(rt: HostRuntime) -> Result<(), Fail> {
+    let users = users(rt.alloc())?;
+    for bound in [false, true] {
+        let mut session = opened(rt.alloc(), &users, bound)?;
+        expect_steps(&rt, &mut session, &users, &QUITTING)?;
     }
     Ok(())
 }
 
-/// A command of a line, over the block `x` where it needs one.
-fn try_command(alloc: Global, line: &str) -> Result<Option<Command>, NoMemory> {
-    match parse_line(alloc, line.as_bytes(), 1)? {
-        Line::Ready(command) => Ok(Some(command)),
-        Line::NeedsBlock(head, _) => {
-            let blob = Blob::new(alloc, Vec::from_slice(alloc, b"x")?)?;
-            Ok(Some(Command::Store(head, blob)))
-        }
-        Line::Refused { .. } => Ok(None),
-    }
-}
-
-/// The same, tried once more where memory was refused.
-fn command_of(alloc: Global, line: &str) -> Result<Command, Fail> {
-    let command = match try_command(alloc, line) {
-        Ok(command) => command,
-        Err(NoMemory) => try_command(alloc, line)?,
-    };
-    Ok(command.ok_or("no command")?)
+#[test]
+fn what_was_sent_is_given_up_and_the_rest_waits(rt: HostRuntime) -> Result<(), Fail> {
+    let users = users(rt.alloc())?;
+    let mut session = Session::new(rt.alloc());
+    expect_steps(&rt, &mut session, &users, &UNSENT)?;
+    push(&mut session, b"\r\n")?;
+    session.shut();
+    expect_steps(&rt, &mut session, &users, &SHUT)?;
+    Ok(())
 }
 
 /// Answers a command; where memory was refused, that is said, and then it is tried again.
@@ -255,8 +213,9 @@ fn answer(
     users: &Users,
     command: &Command,
     outcome: &Outcome,
-) -> Result<(), NoMemory> {
-    wanted(rt.alloc(), session, users)?;
+) -> Result<(), NoMemory>
+    requires { 64 ≤ session.old.room }
+{
     if session.answer(command, outcome).is_ok() {
         return Ok(());
     }
@@ -266,168 +225,128 @@ fn answer(
     session.answer(command, outcome)
 }
 
-/// What is to be sent for an outcome of a line.
+/// Does the next request, which comes to this outcome where it is for a cache.
+fn serve(
+    rt: &(impl AllocGlobal + Abort),
+    session: &mut Session,
+    users: &Users,
+    outcome: &Outcome,
+) -> Result<Wanted, NoMemory> {
+    let want = next(rt.alloc(), session, users)?;
+    if let Want::Call(_, command) = &want {
+        answer(rt, session, users, command, outcome)?;
+    }
+    Ok(wanted_of(&want))
+}
+
+/// What is to be sent for an outcome of a command.
 fn expect_reply(
     rt: &(impl AllocGlobal + Abort),
     users: &Users,
-    line: &str,
+    said: &str,
     outcome: &Outcome,
     reply: &str,
-) -> Result<(), Fail> {
-    let command = command_of(rt.alloc(), line)?;
-    let mut session = Session::new(rt.alloc());
-    answer(rt, &mut session, users, &command, outcome)?;
-    assert_eq!(rt; session.out(), reply.as_bytes(), "{line}");
-    Ok(())
-}
-
-/// Refuses a command.
-fn refuse(
-    alloc: Global,
-    session: &mut Session,
-    users: &Users,
-    command: &Command,
 ) -> Result<(), NoMemory> {
-    wanted(alloc, session, users)?;
-    session.refuse(command);
-    Ok(())
-}
-
-/// What is to be sent where the command of a line wants memory.
-fn expect_refused(
-    rt: &(impl AllocGlobal + Abort),
-    users: &Users,
-    line: &str,
-    reply: &str,
-) -> Result<(), Fail> {
-    let command = command_of(rt.alloc(), line)?;
-    let mut session = Session::new(rt.alloc());
-    refuse(rt.alloc(), &mut session, users, &command)?;
-    assert_eq!(rt; session.out(), reply.as_bytes(), "{line}");
-    Ok(())
-}
-
-#[test]
-fn a_login_binds_to_the_user_whose_name_and_token_it_has(rt: HostRuntime) -> Result<(), Fail> {
-    let users = users(rt.alloc())?;
-    for (said, reply, user) in &LOGINS {
-        expect_owner(&rt, &users, said, reply, *user)?;
-    }
-    Ok(())
-}
-
-#[test]
-fn nothing_but_a_login_is_done_before_it(rt: HostRuntime) -> Result<(), Fail> {
-    let users = users(rt.alloc())?;
-    for (said, reply) in &BEFORE_A_LOGIN {
-        expect_owner(&rt, &users, said, reply, 0)?;
-    }
-    Ok(())
-}
-
-#[test]
-fn a_bound_connection_stays_its_users(rt: HostRuntime) -> Result<(), Fail> {
-    Ok(play(&rt, &users(rt.alloc())?, true, &STAYING)?)
-}
-
-#[test]
-fn a_bound_connection_says_its_faults_on_its_own(rt: HostRuntime) -> Result<(), Fail> {
-    let users = users(rt.alloc())?;
-    for (said, reply) in &FAULTS {
-        expect_answered(&rt, &users, said, reply)?;
-    }
-    Ok(())
-}
-
-#[test]
-fn a_line_too_long_is_answered_and_closes(rt: HostRuntime) -> Result<(), Fail> {
-    let users = users(rt.alloc())?;
-    for bound in [false, true] {
-        play(&rt, &users, bound, &TOO_LONG)?;
-    }
-    Ok(())
-}
-
-#[test]
-fn quit_closes_with_no_reply_and_nothing_is_read_after_it(rt: HostRuntime) -> Result<(), Fail> {
-    let users = users(rt.alloc())?;
-    for bound in [false, true] {
-        play(&rt, &users, bound, &QUITTING)?;
-    }
+    let mut session = opened(rt.alloc(), users, true)?;
+    push(&mut session, said.as_bytes())?;
+    let want = serve(rt, &mut session, users, outcome)?;
+    assert_eq!(rt; want, Wanted::Call(1), "{said:?}");
+    assert_eq!(rt; session.out(), reply.as_bytes(), "{said:?}");
     Ok(())
 }
 
 #[test]
 fn each_outcome_has_its_reply(rt: HostRuntime) -> Result<(), Fail> {
     let users = users(rt.alloc())?;
-    for (line, outcome, reply) in &REPLIES {
-        expect_reply(&rt, &users, line, outcome, reply)?;
+    for (said, outcome, reply) in &REPLIES {
+        expect_reply(&rt, &users, said, outcome, reply)?;
     }
     Ok(())
 }
 
-/// A hit.
-fn hit(alloc: Global, name: &str, data: &str, flags: u32, cas: u64) -> Result<Hit, NoMemory> {
-    let key = Key::new(alloc, name.as_bytes()).map_err(|_| NoMemory)?;
-    let blob = Blob::new(alloc, Vec::from_slice(alloc, data.as_bytes())?)?;
-    Ok(Hit {
-        key,
-        flags,
-        blob,
-        cas,
-    })
-}
-
 /// Two hits, one of them of a block that looks like a reply's end.
-fn try_hits(alloc: Global) -> Result<Hits, NoMemory> {
+fn hits(alloc: Global) -> Result<Hits, Fail> {
     let mut hits = Hits::new();
     hits.push(alloc, hit(alloc, "a", "\r\nEND\r\n", u32::MAX, u64::MAX)?)?;
     hits.push(alloc, hit(alloc, "b", "", 0, 1)?)?;
     Ok(hits)
 }
 
-/// The same, tried once more where memory was refused.
-fn hits(alloc: Global) -> Result<Hits, NoMemory> {
-    match try_hits(alloc) {
-        Ok(hits) => Ok(hits),
-        Err(NoMemory) => try_hits(alloc),
-    }
-}
-
 #[test]
 fn hits_are_shown_in_order_with_cas_numbers_where_asked(rt: HostRuntime) -> Result<(), Fail> {
-    let outcome = Outcome::Values(hits(rt.alloc())?);
     let users = users(rt.alloc())?;
-    for (line, reply) in &LOOK_UPS {
-        expect_reply(&rt, &users, line, &outcome, reply)?;
+    let outcome = Outcome::Values(hits(rt.alloc())?);
+    for (said, reply) in &LOOK_UPS {
+        expect_reply(&rt, &users, said, &outcome, reply)?;
     }
     Ok(())
 }
 
 #[test]
 fn a_look_up_that_finds_nothing_is_answered_with_the_end(rt: HostRuntime) -> Result<(), Fail> {
+    let users = users(rt.alloc())?;
     let nothing = Outcome::Values(Hits::new());
-    expect_reply(&rt, &users(rt.alloc())?, "get a", &nothing, "END\r\n")
+    expect_reply(&rt, &users, "get a\r\n", &nothing, "END\r\n")?;
+    Ok(())
 }
 
 #[test]
 fn stats_shows_the_rows_and_the_end(rt: HostRuntime) -> Result<(), Fail> {
+    let users = users(rt.alloc())?;
     let outcome = Outcome::Stats(Statistics::new(rt.alloc(), COUNTERS)?);
-    expect_reply(&rt, &users(rt.alloc())?, "stats", &outcome, ROWS)
+    expect_reply(&rt, &users, "stats\r\n", &outcome, ROWS)?;
+    Ok(())
+}
+
+/// Refuses the next request, which is for a cache.
+fn refuse(alloc: Global, session: &mut Session, users: &Users) -> Result<(), NoMemory> {
+    let want = next(alloc, session, users)?;
+    if let Want::Call(_, command) = &want {
+        session.refuse(command);
+    }
+    Ok(())
+}
+
+/// What is to be sent where a command wants memory.
+fn expect_refused(
+    rt: &(impl AllocGlobal + Abort),
+    users: &Users,
+    said: &str,
+    reply: &str,
+) -> Result<(), NoMemory> {
+    let mut session = opened(rt.alloc(), users, true)?;
+    push(&mut session, said.as_bytes())?;
+    refuse(rt.alloc(), &mut session, users)?;
+    assert_eq!(rt; session.out(), reply.as_bytes(), "{said:?}");
+    Ok(())
 }
 
 #[test]
 fn a_refusal_is_said_unless_the_line_is_quiet(rt: HostRuntime) -> Result<(), Fail> {
     let users = users(rt.alloc())?;
-    for (line, reply) in &REFUSALS {
-        expect_refused(&rt, &users, line, reply)?;
+    for (said, reply) in &REFUSALS {
+        expect_refused(&rt, &users, said, reply)?;
     }
     Ok(())
 }
 
-#[test]
-fn what_was_sent_is_given_up_and_the_rest_waits(rt: HostRuntime) -> Result<(), Fail> {
-    Ok(play(&rt, &users(rt.alloc())?, false, &UNSENT)?)
+/// Does all requests that are there, and counts on how many were for a cache.
+fn converse(
+    rt: &(impl AllocGlobal + Abort),
+    session: &mut Session,
+    users: &Users,
+    done: usize,
+) -> Result<usize, NoMemory> {
+    let mut done = done;
+    for _ in 0..session.kept() {
+        let outcome = &CAME_TO[done.min(CAME_TO.len() - 1)];
+        match serve(rt, session, users, outcome)? {
+            Wanted::Nothing | Wanted::Close => return Ok(done),
+            Wanted::Said => {}
+            Wanted::Call(_) => done = done.saturating_add(1),
+        }
+    }
+    Ok(done)
 }
 
 /// Says the stream in two pieces.
@@ -439,16 +358,12 @@ fn expect_cut(
 ) -> Result<(), NoMemory> {
     let mut session = Session::new(rt.alloc());
     push(&mut session, first)?;
-    converse(rt.alloc(), &mut session, users)?;
+    let done = converse(rt, &mut session, users, 0)?;
     push(&mut session, second)?;
-    converse(rt.alloc(), &mut session, users)?;
-    assert_eq!(rt;
-        session.out(),
-        ANSWERED.as_bytes(),
-        "cut at {}",
-        first.len()
-    );
-    assert!(rt; session.is_closed(), "cut at {}", first.len());
+    converse(rt, &mut session, users, done)?;
+    let cut = first.len();
+    assert_eq!(rt; session.out(), ANSWERED.as_bytes(), "cut at {cut}");
+    assert!(rt; session.is_closed(), "cut at {cut}");
     Ok(())
 }
 
@@ -458,32 +373,6 @@ fn a_connection_cut_anywhere_is_sent_the_same_bytes(rt: HostRuntime) -> Result<(
     for cut in 0..=STREAM.len() {
         let (first, second) = STREAM.as_bytes().split_at(cut);
         expect_cut(&rt, &users, first, second)?;
-    }
-    Ok(())
-}
-
-/// Says a piece on a connection of alice's, whose cache is to do it.
-fn expect_called(
-    rt: &(impl AllocGlobal + Abort),
-    users: &Users,
-    said: &str,
-) -> Result<(), NoMemory> {
-    let mut session = opened(rt.alloc(), users, true)?;
-    push(&mut session, said.as_bytes())?;
-    let want = wanted(rt.alloc(), &mut session, users)?;
-    assert!(rt;
-        matches!(want, Wanted::Store(1) | Wanted::Call(1)),
-        "{said:?}"
-    );
-    assert_eq!(rt; session.out(), b"".as_slice(), "{said:?}");
-    Ok(())
-}
-
-#[test]
-fn a_bound_command_is_handed_to_its_users_cache(rt: HostRuntime) -> Result<(), Fail> {
-    let users = users(rt.alloc())?;
-    for said in &CALLED {
-        expect_called(&rt, &users, said)?;
     }
     Ok(())
 }

@@ -1,23 +1,25 @@
-//! What no clause says of outcomes, hits and counters: each call with memory to spare.
+//! What no clause says of outcomes, hits and counters: the rows of `stats`, counts by hand, and each
+//! call with memory to spare.
 
+use crate::fixtures::{command, hit, one_hit};
 use std::alloc::Global;
 use std::process::Abort;
 use std::test::Fail;
-use tc_grammar::{Command, Line, parse_line};
-use tc_item::{Blob, Key};
-use tc_stats::{Counters, Hit, Hits, Outcome, Statistics};
+use tc_item::NoMemory;
+use tc_stats::{Counters, Hits, Outcome, Statistics};
 
-fn hit(alloc: Global, key: &[u8], cas: u64) -> Result<Hit, Fail> {
-    Ok(Hit {
-        key: Key::new(alloc, key)?,
-        flags: 7,
-        blob: Blob::new(alloc, Vec::from_slice(alloc, b"data")?)?,
-        cas,
-    })
+/// Three hits, two of them of one key, with the cas numbers 1 to 3.
+fn three_hits(alloc: Global) -> Result<Hits, Fail> {
+    let mut hits = Hits::new();
+    for (name, cas) in &[("a", 1), ("b", 2), ("a", 3)] {
+        hits.push(alloc, hit(alloc, name, "data", 7, *cas)?)?;
+    }
+    Ok(hits)
 }
 
 fn expect_cas(rt: &impl Abort, hits: &Hits, wanted: &[u64]) {
     assert_eq!(rt; hits.len(), wanted.len());
+    assert_eq!(rt; hits.is_empty(), wanted.is_empty());
     for (hit, cas) in hits.as_slice().iter().zip(wanted) {
         assert_eq!(rt; hit.cas, *cas);
     }
@@ -25,28 +27,10 @@ fn expect_cas(rt: &impl Abort, hits: &Hits, wanted: &[u64]) {
 
 #[test]
 fn hits_stand_in_the_order_pushed(rt: HostRuntime) -> Result<(), Fail> {
-    let alloc = rt.alloc();
-    let mut hits = Hits::new();
-    assert!(rt; hits.is_empty());
-    expect_cas(&rt, &hits, &[]);
-    hits.push(alloc, hit(alloc, b"a", 1)?)?;
-    expect_cas(&rt, &hits, &[1]);
-    hits.push(alloc, hit(alloc, b"b", 2)?)?;
-    hits.push(alloc, hit(alloc, b"a", 3)?)?;
-    assert!(rt; !hits.is_empty());
+    expect_cas(&rt, &Hits::new(), &[]);
+    let hits = three_hits(rt.alloc())?;
     expect_cas(&rt, &hits, &[1, 2, 3]);
-    let copied = hits.copy(alloc)?;
-    expect_cas(&rt, &copied, &[1, 2, 3]);
-    Ok(())
-}
-
-#[test]
-fn a_copied_hit_shows_the_same_data(rt: HostRuntime) -> Result<(), Fail> {
-    let alloc = rt.alloc();
-    let first = hit(alloc, b"key", 9)?;
-    let second = first.copy(alloc)?;
-    assert!(rt; first == second);
-    assert_eq!(rt; second.blob.as_slice(), b"data".as_slice());
+    expect_cas(&rt, &hits.copy(rt.alloc())?, &[1, 2, 3]);
     Ok(())
 }
 
@@ -79,81 +63,62 @@ const COUNTERS: Counters = Counters {
 
 #[test]
 fn boxed_counters_are_what_was_put_in(rt: HostRuntime) -> Result<(), Fail> {
-    let statistics = Statistics::new(rt.alloc(), COUNTERS)?;
-    let mut copied = statistics.copy(rt.alloc())?;
-    assert!(rt; *statistics.counters() == COUNTERS);
+    let mut statistics = Statistics::new(rt.alloc(), COUNTERS)?;
+    let copied = statistics.copy(rt.alloc())?;
+    statistics.set(Counters::new());
     assert!(rt; *copied.counters() == COUNTERS);
-    copied.set(Counters::new());
-    assert!(rt; *copied.counters() == Counters::new());
+    assert!(rt; *statistics.counters() == Counters::new());
     Ok(())
+}
+
+/// Outcomes that hold no data.
+const OUTCOMES: [Outcome; 12] = [
+    Outcome::Stored,
+    Outcome::NotStored,
+    Outcome::Exists,
+    Outcome::NotFound,
+    Outcome::Deleted,
+    Outcome::Touched,
+    Outcome::Number(5),
+    Outcome::Done,
+    Outcome::Version,
+    Outcome::TooLarge,
+    Outcome::NotNumeric,
+    Outcome::CasWorn,
+];
+
+/// Whether there is memory for a copy.
+fn is_copied(alloc: Global, outcome: &Outcome) -> bool {
+    outcome.copy(alloc).is_ok()
 }
 
 #[test]
-fn outcomes_that_hold_no_data_are_copied(rt: HostRuntime) -> Result<(), Fail> {
-    let outcomes = [
-        Outcome::Stored,
-        Outcome::NotStored,
-        Outcome::Exists,
-        Outcome::NotFound,
-        Outcome::Deleted,
-        Outcome::Touched,
-        Outcome::Number(5),
-        Outcome::Done,
-        Outcome::Version,
-        Outcome::TooLarge,
-        Outcome::NotNumeric,
-        Outcome::CasWorn,
-    ];
-    for outcome in &outcomes {
-        assert!(rt; outcome.copy(rt.alloc()).is_ok());
+fn outcomes_that_hold_no_data_are_copied(rt: HostRuntime) {
+    for outcome in &OUTCOMES {
+        assert!(rt; is_copied(rt.alloc(), outcome));
     }
-    let Outcome::Number(number) = Outcome::Number(5).copy(rt.alloc())? else {
-        return Err("not a number".into());
-    };
-    assert_eq!(rt; number, 5);
-    Ok(())
 }
 
 #[test]
-fn outcomes_that_hold_something_are_copied_whole(rt: HostRuntime) -> Result<(), Fail> {
-    let alloc = rt.alloc();
-    let mut hits = Hits::new();
-    hits.push(alloc, hit(alloc, b"a", 4)?)?;
-    let Outcome::Values(copied) = Outcome::Values(hits).copy(alloc)? else {
-        return Err("not a look-up's outcome".into());
-    };
-    expect_cas(&rt, &copied, &[4]);
-    let statistics = Statistics::new(alloc, COUNTERS)?;
-    let Outcome::Stats(copied) = Outcome::Stats(statistics).copy(alloc)? else {
-        return Err("not an outcome of stats".into());
-    };
-    assert!(rt; *copied.counters() == COUNTERS);
+fn outcomes_that_hold_something_are_copied(rt: HostRuntime) -> Result<(), Fail> {
+    let hits = Outcome::Values(three_hits(rt.alloc())?);
+    assert!(rt; is_copied(rt.alloc(), &hits));
+    let statistics = Outcome::Stats(Statistics::new(rt.alloc(), COUNTERS)?);
+    assert!(rt; is_copied(rt.alloc(), &statistics));
     Ok(())
-}
-
-/// A command of a line, over the block `x` where it needs one.
-fn command(alloc: Global, line: &str) -> Result<Command, Fail> {
-    match parse_line(alloc, line.as_bytes(), 1)? {
-        Line::Ready(command) => Ok(command),
-        Line::NeedsBlock(head, _) => {
-            let blob = Blob::new(alloc, Vec::from_slice(alloc, b"x")?)?;
-            Ok(Command::Store(head, blob))
-        }
-        Line::Refused { .. } => Err("no command".into()),
-    }
 }
 
 /// Counts a command that came to this outcome.
-fn note(alloc: Global, counters: &mut Counters, line: &str, outcome: &Outcome) -> Result<(), Fail> {
-    counters.note(&command(alloc, line)?, outcome);
+fn note(alloc: Global, counters: &mut Counters, said: &str, outcome: &Outcome) -> Result<(), Fail> {
+    let command = command(alloc, said)?;
+    counters.note(&command, outcome);
     Ok(())
 }
 
-/// The outcome of a look-up that found one key.
-fn one_hit(alloc: Global) -> Result<Outcome, Fail> {
-    let mut hits = Hits::new();
-    hits.push(alloc, hit(alloc, b"k", 1)?)?;
-    Ok(Outcome::Values(hits))
+/// Counts a look-up that found one key.
+fn note_hit(alloc: Global, counters: &mut Counters, said: &str) -> Result<(), Fail> {
+    let outcome = Outcome::Values(one_hit(alloc)?);
+    note(alloc, counters, said, &outcome)
 }
 
 /// The rows after a miss, a `set` of one byte and a hit.
@@ -165,53 +130,64 @@ const ROWS: &str = "STAT version 1.0.0-partcached\r\nSTAT curr_items 1\r\nSTAT t
     STAT touch_hits 0\r\nSTAT touch_misses 0\r\nSTAT evictions 0\r\n\
     STAT limit_maxbytes 65536\r\nSTAT item_size_max 1048576\r\nSTAT store_too_large 0\r\n";
 
-#[test]
-fn a_miss_a_set_and_a_hit_have_these_rows(rt: HostRuntime) -> Result<(), Fail> {
-    let alloc = rt.alloc();
+/// The counters after these, in a cache that holds the one item.
+fn after_a_hit(alloc: Global) -> Result<Counters, Fail> {
     let mut counters = Counters::new();
+    let nothing = Outcome::Values(Hits::new());
+    note(alloc, &mut counters, "gets k\r\n", &nothing)?;
     note(
         alloc,
         &mut counters,
-        "gets k",
-        &Outcome::Values(Hits::new()),
+        "set k 0 0 1\r\nx\r\n",
+        &Outcome::Stored,
     )?;
-    note(alloc, &mut counters, "set k 0 0 1", &Outcome::Stored)?;
-    note(alloc, &mut counters, "gets k", &one_hit(alloc)?)?;
+    note_hit(alloc, &mut counters, "gets k\r\n")?;
     counters.curr_items = 1;
     counters.bytes = 66;
     counters.limit_maxbytes = 65_536;
     counters.item_size_max = 1_048_576;
-    let mut out = Vec::new(alloc);
-    if counters.render(&mut out).is_err() {
-        assert!(rt; out.is_empty());
-        counters.render(&mut out)?;
+    Ok(counters)
+}
+
+/// Appends the rows, once more where memory was refused.
+fn render(counters: &Counters, out: &mut Vec<u8>) -> Result<(), NoMemory> {
+    match counters.render(out) {
+        Ok(()) => Ok(()),
+        Err(NoMemory) => counters.render(out),
     }
+}
+
+#[test]
+fn a_miss_a_set_and_a_hit_have_these_rows(rt: HostRuntime) -> Result<(), Fail> {
+    let counters = after_a_hit(rt.alloc())?;
+    let mut out = Vec::new(rt.alloc());
+    render(&counters, &mut out)?;
     assert_eq!(rt; out.as_slice(), ROWS.as_bytes());
     Ok(())
 }
 
-/// Command lines, what they came to, and how often.
+/// Commands, what they came to, and how often.
 const NOTED: [(&str, Outcome, u32); 20] = [
-    ("set k 0 0 1", Outcome::Stored, 1),
-    ("add k 0 0 1", Outcome::NotStored, 1),
-    ("append k 0 0 1", Outcome::TooLarge, 2),
-    ("replace k 0 0 1", Outcome::CasWorn, 1),
-    ("cas k 0 0 1 5", Outcome::NotFound, 3),
-    ("cas k 0 0 1 5", Outcome::Stored, 4),
-    ("cas k 0 0 1 5", Outcome::Exists, 5),
-    ("touch k 5", Outcome::Touched, 2),
-    ("touch k 5", Outcome::NotFound, 1),
-    ("delete k", Outcome::NotFound, 1),
-    ("delete k", Outcome::Deleted, 2),
-    ("incr k 1", Outcome::NotFound, 3),
-    ("incr k 1", Outcome::Number(7), 4),
-    ("incr k 1", Outcome::NotNumeric, 1),
-    ("decr k 1", Outcome::NotFound, 5),
-    ("decr k 1", Outcome::Number(6), 6),
-    ("decr k 1", Outcome::CasWorn, 1),
-    ("flush_all", Outcome::Done, 7),
-    ("verbosity 1", Outcome::Done, 1),
-    ("version", Outcome::Version, 1),
+    ("set k 0 0 1\r\nx\r\n", Outcome::Stored, 1),
+    ("add k 0 0 1\r\nx\r\n", Outcome::NotStored, 1),
+    ("append k 0 0 1\r\nx\r\n", Outcome::TooLarge, 2),
+    ("replace k 0 0 1\r\nx\r\n", Outcome::CasWorn, 1),
+    ("cas k 0 0 1 5\r\nx\r\n", Outcome::NotFound, 3),
+    ("cas k 0 0 1 5\r\nx\r\n", Outcome::Stored, 4),
+    ("cas k 0 0 1 5\r\nx\r\n", Outcome::Exists, 5),
+    ("touch k 5\r\n", Outcome::Touched, 2),
+    ("touch k 5\r\n", Outcome::NotFound, 1),
+    ("delete k\r\n", Outcome::NotFound, 1),
+    ("delete k\r\n", Outcome::Deleted, 2),
+    ("incr k 1\r\n", Outcome::NotFound, 3),
+    ("incr k 1\r\n", Outcome::Number(7), 4),
+    ("incr k 1\r\n", Outcome::NotNumeric, 1),
+    ("decr k 1\r\n", Outcome::NotFound, 5),
+    ("decr k 1\r\n", Outcome::Number(6), 6),
+    ("decr k 1\r\n", Outcome::CasWorn, 1),
+    ("flush_all\r\n", Outcome::Done, 7),
+    ("verbosity 1\r\n", Outcome::Done, 1),
+    ("version\r\n", Outcome::Version, 1),
 ];
 
 /// The counters after these, a `get` that found one of three keys and a `gats` that found one of two.
@@ -245,14 +221,13 @@ const COUNTED: Counters = Counters {
 #[test]
 fn each_command_counts_by_what_it_came_to(rt: HostRuntime) -> Result<(), Fail> {
     let mut counters = Counters::new();
-    for (line, outcome, times) in &NOTED {
+    for (said, outcome, times) in &NOTED {
         for _ in 0..*times {
-            note(rt.alloc(), &mut counters, line, outcome)?;
+            note(rt.alloc(), &mut counters, said, outcome)?;
         }
     }
-    let outcome = one_hit(rt.alloc())?;
-    note(rt.alloc(), &mut counters, "get a b c", &outcome)?;
-    note(rt.alloc(), &mut counters, "gats 0 a b", &outcome)?;
+    note_hit(rt.alloc(), &mut counters, "get a b c\r\n")?;
+    note_hit(rt.alloc(), &mut counters, "gats 0 a b\r\n")?;
     assert_eq!(rt; counters, COUNTED);
     Ok(())
 }
@@ -262,7 +237,7 @@ fn a_counter_stops_at_the_top(rt: HostRuntime) -> Result<(), Fail> {
     let mut counters = COUNTERS;
     counters.cmd_flush = u64::MAX - 1;
     for _ in 0..3 {
-        note(rt.alloc(), &mut counters, "flush_all", &Outcome::Done)?;
+        note(rt.alloc(), &mut counters, "flush_all\r\n", &Outcome::Done)?;
     }
     assert_eq!(rt; counters.cmd_flush, u64::MAX);
     Ok(())

@@ -2,62 +2,99 @@
 
 use tc_stats::{Counters, Outcome};
 
+/// What a connection's next request wants, without the command.
+#[derive(Clone, Copy, Debug, PartialEq, Eq)]
+pub enum Wanted {
+    Nothing,
+    Said,
+    /// A command for this user's cache.
+    Call(u32),
+    Close,
+}
+
+/// A piece that comes, what the next request wants then, and all that waits to be sent after it.
+pub type Turn = (&'static str, Wanted, &'static str);
+
 const FAILURE: &str = "CLIENT_ERROR authentication failure\r\n";
 
-/// Logins, their answers, and whose the connection is then.
-pub const LOGINS: [(&str, &str, u32); 12] = [
-    ("set x 0 0 9\r\nalice one\r\n", "STORED\r\n", 1),
-    ("set y 7 -1 7\r\nbob two\r\n", "STORED\r\n", 2),
-    ("set y 7 -1 8\r\nbob zwei\r\n", "STORED\r\n", 2),
-    ("set x 0 0 9 noreply\r\nalice one\r\n", "", 1),
-    ("set x 0 0 9\r\nalice two\r\n", FAILURE, 0),
-    ("set x 0 0 9\r\ncarol one\r\n", FAILURE, 0),
-    ("set x 0 0 10\r\nalice zwei\r\n", FAILURE, 0),
-    ("set x 0 0 10\r\nalice one \r\n", FAILURE, 0),
-    ("set x 0 0 10\r\nalice  one\r\n", FAILURE, 0),
-    ("set x 0 0 5\r\nalice\r\n", FAILURE, 0),
-    ("set x 0 0 0\r\n\r\n", FAILURE, 0),
-    ("set x 0 0 9 noreply\r\nalice two\r\n", "", 0),
+const SAID: Wanted = Wanted::Said;
+
+/// Logins, and what `version` wants then: the cache of the user whose the connection is, or nothing
+/// but its answer.
+pub const LOGINS: [(Turn, Wanted); 12] = [
+    (
+        ("set x 0 0 9\r\nalice one\r\n", SAID, "STORED\r\n"),
+        Wanted::Call(1),
+    ),
+    (
+        ("set y 7 -1 7\r\nbob two\r\n", SAID, "STORED\r\n"),
+        Wanted::Call(2),
+    ),
+    (
+        ("set y 7 -1 8\r\nbob zwei\r\n", SAID, "STORED\r\n"),
+        Wanted::Call(2),
+    ),
+    (
+        ("set x 0 0 9 noreply\r\nalice one\r\n", SAID, ""),
+        Wanted::Call(1),
+    ),
+    (("set x 0 0 9\r\nalice two\r\n", SAID, FAILURE), SAID),
+    (("set x 0 0 9\r\ncarol one\r\n", SAID, FAILURE), SAID),
+    (("set x 0 0 10\r\nalice zwei\r\n", SAID, FAILURE), SAID),
+    (("set x 0 0 10\r\nalice one \r\n", SAID, FAILURE), SAID),
+    (("set x 0 0 10\r\nalice  one\r\n", SAID, FAILURE), SAID),
+    (("set x 0 0 5\r\nalice\r\n", SAID, FAILURE), SAID),
+    (("set x 0 0 0\r\n\r\n", SAID, FAILURE), SAID),
+    (("set x 0 0 9 noreply\r\nalice two\r\n", SAID, ""), SAID),
 ];
 
 const DENIED: &str = "CLIENT_ERROR unauthenticated\r\n";
 
-/// What a connection that is bound to nobody is told.
-pub const BEFORE_A_LOGIN: [(&str, &str); 12] = [
-    ("get k\r\n", DENIED),
-    ("stats\r\n", DENIED),
-    ("add x 0 0 9\r\nalice one\r\n", DENIED),
-    ("cas x 0 0 9 1\r\nalice one\r\n", DENIED),
+const BAD_FORMAT: &str = "CLIENT_ERROR bad command line format\r\n";
+
+const BAD_CHUNK: &str = "CLIENT_ERROR bad data chunk\r\n";
+
+const BAD_DELTA: &str = "CLIENT_ERROR invalid numeric delta argument\r\n";
+
+const TOO_LARGE: &str = "SERVER_ERROR object too large for cache\r\n";
+
+/// What a connection that is bound to nobody is told, and what `version` wants then: nothing where
+/// it is part of a block.
+pub const BEFORE_A_LOGIN: [(Turn, Wanted); 12] = [
+    (("get k\r\n", SAID, DENIED), SAID),
+    (("stats\r\n", SAID, DENIED), SAID),
+    (("add x 0 0 9\r\nalice one\r\n", SAID, DENIED), SAID),
+    (("cas x 0 0 9 1\r\nalice one\r\n", SAID, DENIED), SAID),
+    (("add x 0 0 9\r\nalice one..", SAID, BAD_CHUNK), SAID),
+    (("delete k noreply\r\n", SAID, ""), SAID),
+    (("bogus\r\n", SAID, "ERROR\r\n"), SAID),
+    (("set k\r\n", SAID, BAD_FORMAT), SAID),
+    (("incr k x noreply\r\n", SAID, BAD_DELTA), SAID),
     (
-        "add x 0 0 9\r\nalice one..",
-        "CLIENT_ERROR bad data chunk\r\n",
-    ),
-    ("delete k noreply\r\n", ""),
-    ("bogus\r\n", "ERROR\r\n"),
-    ("set k\r\n", "CLIENT_ERROR bad command line format\r\n"),
-    (
-        "incr k x noreply\r\n",
-        "CLIENT_ERROR invalid numeric delta argument\r\n",
+        ("set x 0 0 257\r\nalice one\r\n", SAID, TOO_LARGE),
+        Wanted::Nothing,
     ),
     (
-        "set x 0 0 257\r\nalice one\r\n",
-        "SERVER_ERROR object too large for cache\r\n",
+        ("set x 0 0 257 noreply\r\nalice one\r\n", SAID, ""),
+        Wanted::Nothing,
     ),
-    ("set x 0 0 257 noreply\r\nalice one\r\n", ""),
-    ("set x 0 0 256\r\nalice one\r\n", ""),
+    (
+        ("set x 0 0 256\r\nalice one\r\n", Wanted::Nothing, ""),
+        Wanted::Nothing,
+    ),
 ];
 
-/// Lines that are refused, and their faults.
-pub const FAULTS: [(&str, &str); 5] = [
-    ("bogus\r\n", "ERROR\r\n"),
-    ("get\r\n", "CLIENT_ERROR bad command line format\r\n"),
-    ("set k 0 0 1\r\nabc", "CLIENT_ERROR bad data chunk\r\n"),
-    ("set k 0 0 1 noreply\r\nabc", ""),
-    (
-        "set k 0 0 1048577\r\n",
-        "SERVER_ERROR object too large for cache\r\n",
-    ),
+/// Lines of a connection of alice's that are refused, and what `version` wants then.
+pub const FAULTS: [(Turn, Wanted); 5] = [
+    (("bogus\r\n", SAID, "ERROR\r\n"), Wanted::Call(1)),
+    (("get\r\n", SAID, BAD_FORMAT), Wanted::Call(1)),
+    (("set k 0 0 1\r\nabc", SAID, BAD_CHUNK), Wanted::Call(1)),
+    (("set k 0 0 1 noreply\r\nabc", SAID, ""), Wanted::Call(1)),
+    (("set k 0 0 1048577\r\n", SAID, TOO_LARGE), Wanted::Nothing),
 ];
+
+/// What a connection of alice's makes of bob's login.
+pub const STAYING: Turn = ("set x 0 0 7\r\nbob two\r\n", Wanted::Call(1), "");
 
 /// Lines that a bound connection hands to its user's cache.
 pub const CALLED: [&str; 13] = [
@@ -76,85 +113,52 @@ pub const CALLED: [&str; 13] = [
     "version\r\n",
 ];
 
-/// What a connection's next request wants, without the command.
+/// What is left of a connection: so many bytes are unread.
 #[derive(Clone, Copy, Debug, PartialEq, Eq)]
-pub enum Wanted {
-    Nothing,
-    Said,
-    /// A storage command for this user's cache.
-    Store(u32),
-    /// Another command for this user's cache.
-    Call(u32),
-    Close,
+pub enum Left {
+    Open(usize),
+    Closed(usize),
 }
 
-/// What is done with a connection, or is to be seen of it.
-#[derive(Clone, Copy)]
-pub enum Move {
-    /// A piece comes.
-    Piece(&'static str),
-    /// So many bytes `x` come, one by one.
-    Fill(usize),
-    /// What its next request wants.
-    Next(Wanted),
-    /// All that waits to be sent.
-    Out(&'static str),
-    /// So many bytes were sent.
-    Sent(usize),
-    /// How many bytes are unread.
-    Kept(usize),
-    Shut,
-    /// Whether it is closed.
-    Closed(bool),
-}
+/// How many bytes are sent, a turn that is taken then, and what is left.
+pub type Step = (usize, Turn, Left);
 
-/// What a connection of alice's makes of bob's login.
-pub const STAYING: [Move; 5] = [
-    Move::Piece("set x 0 0 7\r\nbob two\r\n"),
-    Move::Next(Wanted::Store(1)),
-    Move::Out(""),
-    Move::Piece("version\r\n"),
-    Move::Next(Wanted::Call(1)),
+const NONE: Wanted = Wanted::Nothing;
+
+/// The last byte of a line of 65,536 bytes, and one more.
+pub const LINE_TOO_LONG: [Step; 2] = [
+    (0, ("x", NONE, ""), Left::Open(65_536)),
+    (
+        0,
+        ("x", Wanted::Close, "CLIENT_ERROR line too long\r\n"),
+        Left::Closed(0),
+    ),
 ];
 
-pub const TOO_LONG: [Move; 6] = [
-    Move::Fill(65_536),
-    Move::Next(Wanted::Nothing),
-    Move::Fill(1),
-    Move::Next(Wanted::Close),
-    Move::Closed(true),
-    Move::Out("CLIENT_ERROR line too long\r\n"),
-];
-
-pub const QUITTING: [Move; 8] = [
-    Move::Closed(false),
-    Move::Piece("quit\r\nversion\r\n"),
-    Move::Next(Wanted::Close),
-    Move::Closed(true),
-    Move::Piece("version\r\n"),
-    Move::Next(Wanted::Nothing),
-    Move::Out(""),
-    Move::Kept(9),
+pub const QUITTING: [Step; 3] = [
+    (0, ("", NONE, ""), Left::Open(0)),
+    (
+        0,
+        ("quit\r\nversion\r\n", Wanted::Close, ""),
+        Left::Closed(9),
+    ),
+    (0, ("version\r\n", NONE, ""), Left::Closed(9)),
 ];
 
 /// What waits is sent bit by bit, the last of it with more bytes than there are.
-pub const UNSENT: [Move; 15] = [
-    Move::Piece("get k\r\nbogus\r\nget"),
-    Move::Next(Wanted::Said),
-    Move::Next(Wanted::Said),
-    Move::Next(Wanted::Nothing),
-    Move::Kept(3),
-    Move::Sent(13),
-    Move::Out("unauthenticated\r\nERROR\r\n"),
-    Move::Sent(17),
-    Move::Out("ERROR\r\n"),
-    Move::Sent(8),
-    Move::Out(""),
-    Move::Piece("\r\n"),
-    Move::Shut,
-    Move::Closed(true),
-    Move::Next(Wanted::Nothing),
+pub const UNSENT: [Step; 4] = [
+    (0, ("get k\r\nbogus\r\nget", SAID, DENIED), Left::Open(10)),
+    (
+        13,
+        ("", SAID, "unauthenticated\r\nERROR\r\n"),
+        Left::Open(3),
+    ),
+    (17, ("", NONE, "ERROR\r\n"), Left::Open(3)),
+    (8, ("", NONE, ""), Left::Open(3)),
 ];
+
+/// What a connection that was shut makes of a line that is unread.
+pub const SHUT: [Step; 1] = [(0, ("", NONE, ""), Left::Closed(5))];
 
 /// A stream of a login, with requests before it and after it.
 pub const STREAM: &str = "get k\r\n\
@@ -163,55 +167,70 @@ pub const STREAM: &str = "get k\r\n\
     set k 0 0 7\r\n\r\nEND\r\n\r\n\
     set k 0 0 7\r\nbob two\r\n\
     set k 0 0 9 noreply\r\nquit\r\nget\r\n\
-    get k\r\n\
-    gets k l\r\n\
+    delete k\r\n\
+    incr k 1\r\n\
     version\r\n\
     verbosity 1\r\n\
     quit\r\n\
     version\r\n";
 
+/// What its commands came to, one after another.
+pub const CAME_TO: [Outcome; 7] = [
+    Outcome::Stored,
+    Outcome::Stored,
+    Outcome::Stored,
+    Outcome::Deleted,
+    Outcome::Number(8),
+    Outcome::Version,
+    Outcome::Done,
+];
+
 /// What it is answered.
 pub const ANSWERED: &str = "CLIENT_ERROR unauthenticated\r\n\
     CLIENT_ERROR authentication failure\r\n\
     STORED\r\nSTORED\r\nSTORED\r\n\
-    END\r\nEND\r\n\
+    DELETED\r\n8\r\n\
     VERSION 1.0.0-partcached\r\nOK\r\n";
 
-/// Command lines, what they came to, and their replies.
+/// Commands, what they came to, and their replies.
 pub const REPLIES: [(&str, Outcome, &str); 17] = [
-    ("set k 0 0 1", Outcome::Stored, "STORED\r\n"),
-    ("set k 0 0 1 noreply", Outcome::Stored, ""),
-    ("add k 0 0 1", Outcome::NotStored, "NOT_STORED\r\n"),
-    ("cas k 0 0 1 5", Outcome::Exists, "EXISTS\r\n"),
-    ("cas k 0 0 1 5", Outcome::NotFound, "NOT_FOUND\r\n"),
+    ("set k 0 0 1\r\nx\r\n", Outcome::Stored, "STORED\r\n"),
+    ("set k 0 0 1 noreply\r\nx\r\n", Outcome::Stored, ""),
+    ("add k 0 0 1\r\nx\r\n", Outcome::NotStored, "NOT_STORED\r\n"),
+    ("cas k 0 0 1 5\r\nx\r\n", Outcome::Exists, "EXISTS\r\n"),
+    ("cas k 0 0 1 5\r\nx\r\n", Outcome::NotFound, "NOT_FOUND\r\n"),
     (
-        "set k 0 0 1",
+        "set k 0 0 1\r\nx\r\n",
         Outcome::TooLarge,
         "SERVER_ERROR object too large for cache\r\n",
     ),
     (
-        "incr k 1",
+        "incr k 1\r\n",
         Outcome::CasWorn,
         "SERVER_ERROR cas numbers exhausted\r\n",
     ),
     (
-        "incr k 1",
+        "incr k 1\r\n",
         Outcome::Number(u64::MAX),
         "18446744073709551615\r\n",
     ),
-    ("decr k 1", Outcome::Number(0), "0\r\n"),
+    ("decr k 1\r\n", Outcome::Number(0), "0\r\n"),
     (
-        "incr k 1",
+        "incr k 1\r\n",
         Outcome::NotNumeric,
         "CLIENT_ERROR cannot increment or decrement non-numeric value\r\n",
     ),
-    ("delete k", Outcome::Deleted, "DELETED\r\n"),
-    ("touch k 5", Outcome::Touched, "TOUCHED\r\n"),
-    ("flush_all", Outcome::Done, "OK\r\n"),
-    ("verbosity 1", Outcome::Done, "OK\r\n"),
-    ("verbosity 1 noreply", Outcome::Done, ""),
-    ("version", Outcome::Version, "VERSION 1.0.0-partcached\r\n"),
-    ("version", Outcome::Stored, ""),
+    ("delete k\r\n", Outcome::Deleted, "DELETED\r\n"),
+    ("touch k 5\r\n", Outcome::Touched, "TOUCHED\r\n"),
+    ("flush_all\r\n", Outcome::Done, "OK\r\n"),
+    ("verbosity 1\r\n", Outcome::Done, "OK\r\n"),
+    ("verbosity 1 noreply\r\n", Outcome::Done, ""),
+    (
+        "version\r\n",
+        Outcome::Version,
+        "VERSION 1.0.0-partcached\r\n",
+    ),
+    ("version\r\n", Outcome::Stored, ""),
 ];
 
 const BARE: &str = "VALUE a 4294967295 7\r\n\r\nEND\r\n\r\nVALUE b 0 0\r\n\r\nEND\r\n";
@@ -221,17 +240,19 @@ const WITH_CAS: &str = "VALUE a 4294967295 7 18446744073709551615\r\n\r\nEND\r\n
 
 /// Look-ups that find the two, and their replies.
 pub const LOOK_UPS: [(&str, &str); 4] = [
-    ("get a b", BARE),
-    ("gets a b", WITH_CAS),
-    ("gat 0 a b", BARE),
-    ("gats 0 a b", WITH_CAS),
+    ("get a b\r\n", BARE),
+    ("gets a b\r\n", WITH_CAS),
+    ("gat 0 a b\r\n", BARE),
+    ("gats 0 a b\r\n", WITH_CAS),
 ];
 
-/// Command lines, and what is said where they want memory.
+const NO_MEMORY: &str = "SERVER_ERROR out of memory\r\n";
+
+/// Commands, and what is said where they want memory.
 pub const REFUSALS: [(&str, &str); 3] = [
-    ("get k", "SERVER_ERROR out of memory\r\n"),
-    ("set k 0 0 1", "SERVER_ERROR out of memory\r\n"),
-    ("set k 0 0 1 noreply", ""),
+    ("get k\r\n", NO_MEMORY),
+    ("set k 0 0 1\r\nx\r\n", NO_MEMORY),
+    ("set k 0 0 1 noreply\r\nx\r\n", ""),
 ];
 
 /// The counters after a too large `set`, a `set` of three bytes, a too large `append`, a `set` of one
