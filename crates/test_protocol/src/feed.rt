@@ -1,12 +1,13 @@
 //! What no clause says of streams: each call with memory to spare, and requests by hand of streams
 //! cut at every byte. A call that meets a refused allocation is made again.
 
-use std::alloc::Global;
+use crate::fixtures::{expect_number, expect_text};
+use std::alloc::{AllocError, Global};
 use std::process::Abort;
 use std::test::Fail;
 use tc_feed::{Feed, Request, cutting};
-use tc_grammar::Command;
-use tc_item::NoMemory;
+use tc_grammar::{Command, Head};
+use tc_item::{Blob, NoMemory};
 
 /// The limit of blocks in these tests.
 const LIMIT: u32 = 16;
@@ -73,52 +74,86 @@ fn next(alloc: Global, feed: &mut Feed, limit: u32) -> Result<Option<Request>, N
     }
 }
 
+/// A storage command as its name, its key and its block.
+fn store_text(alloc: Global, head: &Head, blob: &Blob) -> Result<String, AllocError> {
+    let block = str::from_utf8(blob.as_slice()).unwrap_or("no text");
+    format!(in alloc; "{:?} {:?} {block:?}", head.kind, head.key)
+}
+
 /// A request as text.
-fn text_of(alloc: Global, request: &Request) -> Result<String, Fail> {
-    if let Request::Ask(Command::Store(head, blob)) = request {
-        let (kind, key) = (head.kind, &head.key);
-        let block = str::from_utf8(blob.as_slice()).ok().ok_or("no text")?;
-        return Ok(format!(in alloc; "{kind:?} {key:?} {block:?}")?);
+fn text_of(alloc: Global, request: &Request) -> Result<String, AllocError> {
+    match request {
+        Request::Ask(Command::Store(head, blob)) => store_text(alloc, head, blob),
+        _ => format!(in alloc; "{request:?}"),
     }
-    Ok(format!(in alloc; "{request:?}")?)
+}
+
+/// The same, where there is one.
+fn text_of_next(alloc: Global, request: &Option<Request>) -> Result<String, AllocError> {
+    match request {
+        Some(request) => text_of(alloc, request),
+        None => String::from_str(alloc, NOTHING),
+    }
 }
 
 /// The next request as text.
 fn shown(alloc: Global, feed: &mut Feed, limit: u32) -> Result<String, Fail> {
-    match next(alloc, feed, limit)? {
-        Some(request) => text_of(alloc, &request),
-        None => Ok(format!(in alloc; "{NOTHING}")?),
+    let request = next(alloc, feed, limit)?;
+    Ok(text_of_next(alloc, &request)?)
+}
+
+/// The request of this number of the stream.
+fn request_at(number: usize) -> &'static str {
+    match REQUESTS.get(number) {
+        Some(request) => *request,
+        None => "no request is left",
     }
 }
 
-/// Takes all requests that are there, which are the next ones of those by hand, and counts on.
-fn expect_requests(
+/// Whether there is a next request, which is the one of this number.
+fn expect_request(
     rt: &(impl AllocGlobal + Abort),
     feed: &mut Feed,
-    found: usize,
-) -> Result<usize, Fail> {
-    let mut found = found;
-    for _ in 0..=REQUESTS.len() {
-        let shown = shown(rt.alloc(), feed, LIMIT)?;
-        if shown.as_str() == NOTHING {
-            return Ok(found);
-        }
-        assert!(rt; found < REQUESTS.len(), "more requests than there are");
-        assert_eq!(rt; shown.as_str(), REQUESTS[found], "request {found}");
-        found += 1;
+    number: usize,
+) -> Result<bool, Fail> {
+    let shown = shown(rt.alloc(), feed, LIMIT)?;
+    if shown.as_str() == NOTHING {
+        return Ok(false);
     }
-    Ok(found)
+    expect_text(rt, shown.as_str(), request_at(number), "stream");
+    Ok(true)
+}
+
+/// Takes a piece and all requests that are there then, from this number on; the number of the next.
+fn expect_piece(
+    rt: &(impl AllocGlobal + Abort),
+    feed: &mut Feed,
+    piece: &[u8],
+    number: usize,
+) -> Result<usize, Fail> {
+    push(feed, piece)?;
+    let mut number = number;
+    for _ in 0..=REQUESTS.len() {
+        if !expect_request(rt, feed, number)? {
+            return Ok(number);
+        }
+        number = number.saturating_add(1);
+    }
+    Ok(number)
+}
+
+/// Whether all requests were found and nothing is unread.
+fn expect_end(rt: &impl Abort, feed: &Feed, number: usize) {
+    expect_number(rt, number as u64, REQUESTS.len() as u64, "found");
+    expect_number(rt, feed.kept() as u64, 0, "kept");
 }
 
 /// Whether the stream holds the same requests where it comes in these two pieces.
 fn expect_cut(rt: &(impl AllocGlobal + Abort), first: &[u8], second: &[u8]) -> Result<(), Fail> {
     let mut feed = Feed::new(rt.alloc());
-    push(&mut feed, first)?;
-    let found = expect_requests(rt, &mut feed, 0)?;
-    push(&mut feed, second)?;
-    let found = expect_requests(rt, &mut feed, found)?;
-    let cut = first.len();
-    assert_eq!(rt; (found, feed.kept()), (REQUESTS.len(), 0), "cut at {cut}");
+    let found = expect_piece(rt, &mut feed, first, 0)?;
+    let found = expect_piece(rt, &mut feed, second, found)?;
+    expect_end(rt, &feed, found);
     Ok(())
 }
 
@@ -137,67 +172,78 @@ fn a_stream_that_comes_byte_by_byte_holds_the_same_requests(rt: HostRuntime) -> 
     let mut feed = Feed::new(rt.alloc());
     let mut found = 0;
     for byte in STREAM.as_bytes() {
-        push(&mut feed, &[*byte])?;
-        found = expect_requests(&rt, &mut feed, found)?;
+        found = expect_piece(&rt, &mut feed, &[*byte], found)?;
     }
-    assert_eq!(rt; (found, feed.kept()), (REQUESTS.len(), 0));
-    Ok(())
-}
-
-/// Streams, with their first request and its last byte, 0 where it is not whole.
-const FIRST_REQUESTS: [(&str, &str, usize); 7] = [
-    ("get a\r\nget b\r\n", GET_A, 7),
-    ("get a\nget b\r\n", GET_A, 6),
-    ("set k 0 0 2\r\nab\r\nget b\r\n", r#"Set "k" "ab""#, 17),
-    ("set k 0 0 2\r\nabcdget b\r\n", BAD_CHUNK, 17),
-    ("set k 0 0 17\r\nab", TOO_LARGE, 14),
-    ("set k 0 x 2\r\nab", BAD_FORMAT, 13),
-    ("set k 0 0 2 noreply\r\nab", NOTHING, 0),
-];
-
-/// Whether the first request of a stream, which comes byte by byte, is whole at this byte.
-fn expect_first(
-    rt: &(impl AllocGlobal + Abort),
-    stream: &str,
-    request: &str,
-    at: usize,
-) -> Result<(), Fail> {
-    let mut feed = Feed::new(rt.alloc());
-    for (i, byte) in stream.as_bytes().iter().enumerate() {
-        push(&mut feed, &[*byte])?;
-        let shown = shown(rt.alloc(), &mut feed, LIMIT)?;
-        if shown.as_str() != NOTHING {
-            assert_eq!(rt; shown.as_str(), request, "{stream:?}");
-            assert_eq!(rt; i.saturating_add(1), at, "{stream:?}");
-            return Ok(());
-        }
-    }
-    assert_eq!(rt; 0, at, "{stream:?}");
-    Ok(())
-}
-
-#[test]
-fn a_request_is_whole_at_its_last_byte_and_no_earlier(rt: HostRuntime) -> Result<(), Fail> {
-    for (stream, request, at) in &FIRST_REQUESTS {
-        expect_first(&rt, stream, request, *at)?;
-    }
+    expect_end(&rt, &feed, found);
     Ok(())
 }
 
 /// A piece that comes, the limit, the next request then, and how many bytes are unread after it.
-type Look = (&'static str, u32, &'static str, usize);
+type Look = (&'static str, u32, &'static str, u64);
 
-/// Takes pieces, and looks for a request behind each.
+/// Takes a piece, and looks for a request behind it.
+fn expect_look(rt: &(impl AllocGlobal + Abort), feed: &mut Feed, look: &Look) -> Result<(), Fail> {
+    let (piece, limit, request, kept) = *look;
+    push(feed, piece.as_bytes())?;
+    let shown = shown(rt.alloc(), feed, limit)?;
+    expect_text(rt, shown.as_str(), request, piece);
+    expect_number(rt, feed.kept() as u64, kept, piece);
+    Ok(())
+}
+
 fn expect_looks(
     rt: &(impl AllocGlobal + Abort),
     feed: &mut Feed,
     looks: &[Look],
 ) -> Result<(), Fail> {
-    for (piece, limit, request, kept) in looks {
-        push(feed, piece.as_bytes())?;
-        let shown = shown(rt.alloc(), feed, *limit)?;
-        assert_eq!(rt; shown.as_str(), *request, "{piece:?}");
-        assert_eq!(rt; feed.kept(), *kept, "{piece:?}");
+    for look in looks {
+        expect_look(rt, feed, look)?;
+    }
+    Ok(())
+}
+
+/// Streams up to the byte before the last one of their first request, and that byte.
+const FIRST_REQUESTS: [[Look; 2]; 7] = [
+    [("get a\r", LIMIT, NOTHING, 6), ("\n", LIMIT, GET_A, 0)],
+    [("get a", LIMIT, NOTHING, 5), ("\n", LIMIT, GET_A, 0)],
+    [
+        ("set k 0 0 2\r\nab\r", LIMIT, NOTHING, 16),
+        ("\n", LIMIT, r#"Set "k" "ab""#, 0),
+    ],
+    [
+        ("set k 0 0 2\r\nabc", LIMIT, NOTHING, 16),
+        ("d", LIMIT, BAD_CHUNK, 0),
+    ],
+    [
+        ("set k 0 0 17\r", LIMIT, NOTHING, 13),
+        ("\n", LIMIT, TOO_LARGE, 0),
+    ],
+    [
+        ("set k 0 x 2\r", LIMIT, NOTHING, 12),
+        ("\n", LIMIT, BAD_FORMAT, 0),
+    ],
+    [
+        ("set k 0 0 2 noreply\r\nab", LIMIT, NOTHING, 23),
+        ("\r", LIMIT, NOTHING, 24),
+    ],
+];
+
+fn expect_each(rt: &(impl AllocGlobal + Abort), streams: &[[Look; 2]]) -> Result<(), Fail> {
+    for looks in streams {
+        expect_looks(rt, &mut Feed::new(rt.alloc()), looks)?;
+    }
+    Ok(())
+}
+
+#[test]
+fn a_request_is_whole_at_its_last_byte_and_no_earlier(rt: HostRuntime) -> Result<(), Fail> {
+    expect_each(&rt, &FIRST_REQUESTS)
+}
+
+/// Takes so many pieces that are alike.
+fn push_often(feed: &mut Feed, piece: &[u8], times: usize) -> Result<(), NoMemory> {
+    for _ in 0..times {
+        push(feed, piece)?;
     }
     Ok(())
 }
@@ -210,63 +256,63 @@ fn expect_after_longest_line(
 ) -> Result<(), Fail> {
     let mut feed = Feed::new(rt.alloc());
     push(&mut feed, begin.as_bytes())?;
-    for _ in begin.len()..65_536 {
-        push(&mut feed, b" ")?;
-    }
+    push_often(&mut feed, b" ", 65_536_usize.saturating_sub(begin.len()))?;
     expect_looks(rt, &mut feed, looks)
 }
 
+const LONGEST_LINE: [Look; 2] = [("", LIMIT, NOTHING, 65_536), ("\n", LIMIT, GET_A, 0)];
+
 #[test]
 fn a_line_of_65536_bytes_is_read(rt: HostRuntime) -> Result<(), Fail> {
-    let looks = [("", LIMIT, NOTHING, 65_536), ("\n", LIMIT, GET_A, 0)];
-    expect_after_longest_line(&rt, "get a", &looks)
+    expect_after_longest_line(&rt, "get a", &LONGEST_LINE)
 }
+
+const LINE_TOO_LONG: &str = "Refused { fault: LineTooLong, quiet: false }";
+
+const BEYOND_LONGEST_LINE: [Look; 2] = [
+    ("\rversion\r\n", LIMIT, LINE_TOO_LONG, 9),
+    ("", LIMIT, VERSION, 0),
+];
 
 #[test]
 fn a_line_is_too_long_at_its_65537th_byte(rt: HostRuntime) -> Result<(), Fail> {
-    let too_long = "Refused { fault: LineTooLong, quiet: false }";
-    let looks = [
-        ("\rversion\r\n", LIMIT, too_long, 9),
-        ("", LIMIT, VERSION, 0),
-    ];
-    expect_after_longest_line(&rt, "get a", &looks)
+    expect_after_longest_line(&rt, "get a", &BEYOND_LONGEST_LINE)
 }
+
+const LONGEST_WAIT: [Look; 2] = [
+    ("\n0123456789abcdef\r", LIMIT, NOTHING, 65_554),
+    ("\n", LIMIT, r#"Set "k" "0123456789abcdef""#, 0),
+];
 
 #[test]
 fn the_most_that_waits_is_a_longest_line_and_all_but_a_byte_of_its_block(
     rt: HostRuntime,
 ) -> Result<(), Fail> {
-    let looks = [
-        ("\n0123456789abcdef\r", LIMIT, NOTHING, 65_554),
-        ("\n", LIMIT, r#"Set "k" "0123456789abcdef""#, 0),
-    ];
-    expect_after_longest_line(&rt, "set k 0 0 16", &looks)
+    expect_after_longest_line(&rt, "set k 0 0 16", &LONGEST_WAIT)
 }
+
+/// A block and its line end of 1,048,578 bytes, of which the first 1,048,572 come between these.
+const SKIPPING: [Look; 1] = [("set k 0 0 1048576\r\n", LIMIT, TOO_LARGE, 0)];
+
+const SKIPPED: [Look; 2] = [("get a\n", LIMIT, NOTHING, 0), ("get b\n", LIMIT, GET_B, 0)];
 
 #[test]
 fn bytes_that_are_skipped_are_not_kept(rt: HostRuntime) -> Result<(), Fail> {
     let mut feed = Feed::new(rt.alloc());
-    expect_looks(
-        &rt,
-        &mut feed,
-        &[("set k 0 0 1048576\r\n", LIMIT, TOO_LARGE, 0)],
-    )?;
-    // The block and its line end are 1,048,578 bytes.
-    for _ in 1..174_763 {
-        push(&mut feed, b"get a\n")?;
-    }
-    let looks = [("get a\n", LIMIT, NOTHING, 0), ("get b\n", LIMIT, GET_B, 0)];
-    expect_looks(&rt, &mut feed, &looks)
+    expect_looks(&rt, &mut feed, &SKIPPING)?;
+    push_often(&mut feed, b"get a\n", 174_762)?;
+    expect_looks(&rt, &mut feed, &SKIPPED)
 }
+
+/// A line whose block has not come, at its length and below.
+const LOWER_LIMIT: [[Look; 2]; 1] = [[
+    ("set k 0 0 17\r\nab", 17, NOTHING, 16),
+    ("", LIMIT, TOO_LARGE, 0),
+]];
 
 #[test]
 fn a_line_whose_block_has_not_come_is_judged_by_the_limit_handed_in(
     rt: HostRuntime,
 ) -> Result<(), Fail> {
-    let mut feed = Feed::new(rt.alloc());
-    let looks = [
-        ("set k 0 0 17\r\nab", 17, NOTHING, 16),
-        ("", LIMIT, TOO_LARGE, 0),
-    ];
-    expect_looks(&rt, &mut feed, &looks)
+    expect_each(&rt, &LOWER_LIMIT)
 }

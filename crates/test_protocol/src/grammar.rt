@@ -3,12 +3,15 @@
 
 mod table;
 
-use crate::fixtures::command;
+use crate::fixtures::{command, expect_number, expect_text};
 use std::alloc::{AllocError, Global};
 use std::process::Abort;
 use std::test::Fail;
-use table::{COPIED, COUNTERS, FAULTS, KEYED, NAMES, REFUSED_STORAGE, RETRIEVAL, STORAGE, UNKEYED};
-use tc_grammar::{Line, each_line_spells_one_thing, parse_line};
+use table::{
+    AT_A_MEBIBYTE, COPIED, COUNTERS, FAULTS, KEYED, LONG_KEY, NAMES, REFUSED_STORAGE, RETRIEVAL,
+    STORAGE, UNKEYED,
+};
+use tc_grammar::{Command, Fault, Line, each_line_spells_one_thing, parse_line};
 use tc_item::NoMemory;
 
 /// What a line spells, read once more where memory was refused.
@@ -19,107 +22,115 @@ fn said(alloc: Global, line: &str, block_limit: u32) -> Result<Line, NoMemory> {
     }
 }
 
+fn text_of(alloc: Global, line: &Line) -> Result<String, AllocError> {
+    format!(in alloc; "{line:?}")
+}
+
 /// What a line spells, as text.
-fn shown(alloc: Global, line: &str, block_limit: u32) -> Result<String, AllocError> {
-    match said(alloc, line, block_limit) {
-        Ok(said) => format!(in alloc; "{said:?}"),
-        Err(NoMemory) => format!(in alloc; "out of memory"),
-    }
+fn shown(alloc: Global, line: &str, block_limit: u32) -> Result<String, Fail> {
+    let said = said(alloc, line, block_limit)?;
+    Ok(text_of(alloc, &said)?)
 }
 
-/// Whether each line of a table is read as the table says, at a limit of 256 bytes for a block.
-fn assert_rows(rt: &(impl AllocGlobal + Abort), rows: &[(&str, &str)]) -> Result<(), AllocError> {
+/// Whether a line is read as it should be.
+fn expect_line(
+    rt: &(impl AllocGlobal + Abort),
+    line: &str,
+    block_limit: u32,
+    want: &str,
+) -> Result<(), Fail> {
+    let shown = shown(rt.alloc(), line, block_limit)?;
+    expect_text(rt, shown.as_str(), want, line);
+    Ok(())
+}
+
+/// Whether each line of a table is read as the table says.
+fn expect_lines(
+    rt: &(impl AllocGlobal + Abort),
+    block_limit: u32,
+    rows: &[(&str, &str)],
+) -> Result<(), Fail> {
     for (line, want) in rows {
-        let text = shown(rt.alloc(), line, 256)?;
-        assert_eq!(rt; text.as_str(), *want, "at {line}");
+        expect_line(rt, line, block_limit, want)?;
     }
     Ok(())
 }
 
 #[test]
-fn each_name_of_the_table_is_read(rt: HostRuntime) -> Result<(), AllocError> {
+fn each_name_of_the_table_is_read(rt: HostRuntime) -> Result<(), Fail> {
     each_line_spells_one_thing();
-    assert_rows(&rt, &NAMES)
+    expect_lines(&rt, 256, &NAMES)
 }
 
 #[test]
-fn each_retrieval_line_of_the_table_is_read(rt: HostRuntime) -> Result<(), AllocError> {
-    assert_rows(&rt, &RETRIEVAL)
+fn each_retrieval_line_of_the_table_is_read(rt: HostRuntime) -> Result<(), Fail> {
+    expect_lines(&rt, 256, &RETRIEVAL)
 }
 
 #[test]
-fn each_storage_line_of_the_table_is_read(rt: HostRuntime) -> Result<(), AllocError> {
-    assert_rows(&rt, &STORAGE)
+fn each_storage_line_of_the_table_is_read(rt: HostRuntime) -> Result<(), Fail> {
+    expect_lines(&rt, 256, &STORAGE)
 }
 
 #[test]
-fn each_refused_storage_line_of_the_table_is_read(rt: HostRuntime) -> Result<(), AllocError> {
-    assert_rows(&rt, &REFUSED_STORAGE)
+fn each_refused_storage_line_of_the_table_is_read(rt: HostRuntime) -> Result<(), Fail> {
+    expect_lines(&rt, 256, &REFUSED_STORAGE)
 }
 
 #[test]
-fn each_counter_line_of_the_table_is_read(rt: HostRuntime) -> Result<(), AllocError> {
-    assert_rows(&rt, &COUNTERS)
+fn each_counter_line_of_the_table_is_read(rt: HostRuntime) -> Result<(), Fail> {
+    expect_lines(&rt, 256, &COUNTERS)
 }
 
 #[test]
-fn each_delete_and_touch_of_the_table_is_read(rt: HostRuntime) -> Result<(), AllocError> {
-    assert_rows(&rt, &KEYED)
+fn each_delete_and_touch_of_the_table_is_read(rt: HostRuntime) -> Result<(), Fail> {
+    expect_lines(&rt, 256, &KEYED)
 }
 
 #[test]
-fn each_line_without_a_key_of_the_table_is_read(rt: HostRuntime) -> Result<(), AllocError> {
-    assert_rows(&rt, &UNKEYED)
+fn each_line_without_a_key_of_the_table_is_read(rt: HostRuntime) -> Result<(), Fail> {
+    expect_lines(&rt, 256, &UNKEYED)
 }
 
 #[test]
-fn a_key_of_251_bytes_is_of_no_form(rt: HostRuntime) -> Result<(), AllocError> {
-    let line = format!(in rt.alloc(); "set {:k>251} 0 0 1", "")?;
-    let want = "Refused { fault: BadFormat, quiet: false, skip: 3 }";
-    assert_rows(&rt, &[(line.as_str(), want)])
+fn a_key_of_251_bytes_is_of_no_form(rt: HostRuntime) -> Result<(), Fail> {
+    expect_lines(&rt, 256, &LONG_KEY)
 }
 
-/// Lines at a limit of 1,048,576 bytes for a block.
-const AT_A_MEBIBYTE: [(&str, &str); 2] = [
-    (
-        "set k 0 0 1048576",
-        "NeedsBlock(Head { kind: Set, key: \"k\", flags: 0, exptime: 0, cas_unique: 0, \
-            quiet: false }, 1048576)",
-    ),
-    (
-        "set k 0 0 1048577",
-        "Refused { fault: TooLarge, quiet: false, skip: 1048579 }",
-    ),
-];
-
 #[test]
-fn the_limit_of_a_block_is_the_one_handed_in(rt: HostRuntime) -> Result<(), AllocError> {
-    for (line, want) in &AT_A_MEBIBYTE {
-        let text = shown(rt.alloc(), line, 1_048_576)?;
-        assert_eq!(rt; text.as_str(), *want, "at {line}");
-    }
+fn the_limit_of_a_block_is_the_one_handed_in(rt: HostRuntime) -> Result<(), Fail> {
+    expect_lines(&rt, 1_048_576, &AT_A_MEBIBYTE)
+}
+
+/// Whether there is memory for a copy of a command, and the copy equals it.
+fn expect_copy(rt: &(impl AllocGlobal + Abort), command: &Command) -> Result<(), NoMemory> {
+    let copied = command.copy(rt.alloc())?;
+    assert!(rt; copied == *command);
     Ok(())
 }
 
-/// Whether a command equals its copy.
-fn equals_its_copy(alloc: Global, stream: &str) -> Result<bool, Fail> {
-    let command = command(alloc, stream)?;
-    let copied = command.copy(alloc)?;
-    Ok(copied == command)
+/// The same of the commands that streams begin with.
+fn expect_copies(rt: &(impl AllocGlobal + Abort), streams: &[&str]) -> Result<(), Fail> {
+    for stream in streams {
+        expect_copy(rt, &command(rt.alloc(), stream)?)?;
+    }
+    Ok(())
 }
 
 #[test]
 fn a_copy_of_a_command_equals_it(rt: HostRuntime) -> Result<(), Fail> {
-    for stream in &COPIED {
-        assert!(rt; equals_its_copy(rt.alloc(), stream)?, "{stream}");
+    expect_copies(&rt, &COPIED)
+}
+
+/// Whether faults have these numbers and texts.
+fn expect_faults(rt: &impl Abort, rows: &[(Fault, u64, &str)]) {
+    for (fault, number, text) in rows {
+        expect_number(rt, u64::from(fault.number()), *number, text);
+        expect_text(rt, fault.text(), text, text);
     }
-    Ok(())
 }
 
 #[test]
 fn each_fault_has_its_number_and_its_text(rt: HostRuntime) {
-    for (fault, number, text) in &FAULTS {
-        assert_eq!(rt; fault.number(), *number, "{text}");
-        assert_eq!(rt; fault.text(), *text);
-    }
+    expect_faults(&rt, &FAULTS);
 }

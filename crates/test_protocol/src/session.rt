@@ -4,18 +4,20 @@ ghost use Rattle.std.specs.Prelude.{◌≤◌, OnOk};
 
 mod table;
 
-use crate::fixtures::{hit, users};
+use crate::fixtures::{expect_bytes, users};
+use crate::stats::{look_up, stats_of};
 use std::alloc::Global;
 use std::process::Abort;
 use std::test::Fail;
 use table::{
-    ANSWERED, BEFORE_A_LOGIN, CALLED, CAME_TO, COUNTERS, FAULTS, LINE_TOO_LONG, LOGINS, LOOK_UPS,
-    Left, QUITTING, REFUSALS, REPLIES, ROWS, SHUT, STAYING, STREAM, Step, Turn, UNSENT, Wanted,
+    ANSWERED, BEFORE_A_LOGIN, CALLED, CAME_TO, COUNTERS, FAULTS, FOUND, LINE_TOO_LONG, LOGINS,
+    LOOK_UPS, Left, MISS, QUITTING, REFUSALS, REPLIES, Reply, SHUT, STATS, STAYING, STREAM, Step,
+    Turn, UNSENT, Wanted,
 };
 use tc_grammar::Command;
 use tc_item::NoMemory;
 use tc_session::{Session, Want};
-use tc_stats::{Hits, Outcome, Statistics};
+use tc_stats::Outcome;
 use tc_users::Users;
 
 /// Takes a piece, once more where memory was refused.
@@ -64,6 +66,11 @@ fn opened(alloc: Global, users: &Users, bound: bool) -> Result<Session, NoMemory
     Ok(session)
 }
 
+/// Whether a request wants this here.
+fn expect_wanted(rt: &impl Abort, got: Wanted, want: Wanted, at: &str) {
+    assert_eq!(rt; got, want, "{at}");
+}
+
 /// Takes a turn.
 fn expect_turn(
     rt: &(impl AllocGlobal + Abort),
@@ -73,25 +80,75 @@ fn expect_turn(
 ) -> Result<(), NoMemory> {
     let (said, want, out) = *turn;
     push(session, said.as_bytes())?;
-    assert_eq!(rt; wanted(rt.alloc(), session, users)?, want, "{said:?}");
-    assert_eq!(rt; session.out(), out.as_bytes(), "{said:?}");
+    let got = wanted(rt.alloc(), session, users)?;
+    expect_wanted(rt, got, want, said);
+    expect_bytes(rt, session.out(), out.as_bytes(), said);
     Ok(())
 }
 
-/// Takes a turn on a connection that is new, or alice's, which makes this of `version` then.
+/// Takes a turn on a connection, which makes this of `version` then.
 fn expect_owner(
     rt: &(impl AllocGlobal + Abort),
+    session: &mut Session,
     users: &Users,
-    bound: bool,
     turn: &Turn,
     version: Wanted,
 ) -> Result<(), NoMemory> {
-    let mut session = opened(rt.alloc(), users, bound)?;
-    expect_turn(rt, &mut session, users, turn)?;
-    push(&mut session, b"version\r\n")?;
-    let want = wanted(rt.alloc(), &mut session, users)?;
-    assert_eq!(rt; want, version, "{turn:?}");
+    expect_turn(rt, session, users, turn)?;
+    push(session, b"version\r\n")?;
+    let got = wanted(rt.alloc(), session, users)?;
+    expect_wanted(rt, got, version, turn.0);
     Ok(())
+}
+
+/// Takes each turn on a connection of its own, which is new, or alice's.
+fn expect_each_owner(
+    rt: &(impl AllocGlobal + Abort),
+    users: &Users,
+    bound: bool,
+    rows: &[(Turn, Wanted)],
+) -> Result<(), NoMemory> {
+    for (turn, version) in rows {
+        let mut session = opened(rt.alloc(), users, bound)?;
+        expect_owner(rt, &mut session, users, turn, *version)?;
+    }
+    Ok(())
+}
+
+/// The same, of alice and bob.
+fn expect_owners(
+    rt: &(impl AllocGlobal + Abort),
+    bound: bool,
+    rows: &[(Turn, Wanted)],
+) -> Result<(), Fail> {
+    let users = users(rt.alloc())?;
+    expect_each_owner(rt, &users, bound, rows)?;
+    Ok(())
+}
+
+#[test]
+fn a_login_binds_to_the_user_whose_name_and_token_it_has(rt: HostRuntime) -> Result<(), Fail> {
+    expect_owners(&rt, false, &LOGINS)
+}
+
+#[test]
+fn nothing_but_a_login_is_done_before_it(rt: HostRuntime) -> Result<(), Fail> {
+    expect_owners(&rt, false, &BEFORE_A_LOGIN)
+}
+
+#[test]
+fn a_bound_connection_stays_its_users(rt: HostRuntime) -> Result<(), Fail> {
+    expect_owners(&rt, true, &STAYING)
+}
+
+#[test]
+fn a_bound_connection_says_its_faults_on_its_own(rt: HostRuntime) -> Result<(), Fail> {
+    expect_owners(&rt, true, &FAULTS)
+}
+
+#[test]
+fn a_bound_command_is_handed_to_its_users_cache(rt: HostRuntime) -> Result<(), Fail> {
+    expect_owners(&rt, true, &CALLED)
 }
 
 /// How much is unread, and whether the connection is closed.
@@ -104,6 +161,11 @@ fn left_of(session: &Session) -> Left {
     }
 }
 
+/// Whether this is left here.
+fn expect_left(rt: &impl Abort, got: Left, want: Left, at: &str) {
+    assert_eq!(rt; got, want, "{at}");
+}
+
 /// Takes steps.
 fn expect_steps(
     rt: &(impl AllocGlobal + Abort),
@@ -114,95 +176,64 @@ fn expect_steps(
     for (sent, turn, left) in steps {
         session.sent(*sent);
         expect_turn(rt, session, users, turn)?;
-        assert_eq!(rt; left_of(session), *left, "{turn:?}");
+        expect_left(rt, left_of(session), *left, turn.0);
     }
     Ok(())
 }
 
-#[test]
-fn a_login_binds_to_the_user_whose_name_and_token_it_has(rt: HostRuntime) -> Result<(), Fail> {
-    let users = users(rt.alloc())?;
-    for (turn, version) in &LOGINS {
-        expect_owner(&rt, &users, false, turn, *version)?;
-    }
-    Ok(())
-}
-
-#[test]
-fn nothing_but_a_login_is_done_before_it(rt: HostRuntime) -> Result<(), Fail> {
-    let users = users(rt.alloc())?;
-    for (turn, version) in &BEFORE_A_LOGIN {
-        expect_owner(&rt, &users, false, turn, *version)?;
-    }
-    Ok(())
-}
-
-#[test]
-fn a_bound_connection_stays_its_users(rt: HostRuntime) -> Result<(), Fail> {
-    let users = users(rt.alloc())?;
-    expect_owner(&rt, &users, true, &STAYING, Wanted::Call(1))?;
-    Ok(())
-}
-
-#[test]
-fn a_bound_connection_says_its_faults_on_its_own(rt: HostRuntime) -> Result<(), Fail> {
-    let users = users(rt.alloc())?;
-    for (turn, version) in &FAULTS {
-        expect_owner(&rt, &users, true, turn, *version)?;
-    }
-    Ok(())
-}
-
-#[test]
-fn a_bound_command_is_handed_to_its_users_cache(rt: HostRuntime) -> Result<(), Fail> {
-    let users = users(rt.alloc())?;
-    for said in &CALLED {
-        let turn = (*said, Wanted::Call(1), "");
-        expect_owner(&rt, &users, true, &turn, Wanted::Call(1))?;
-    }
-    Ok(())
-}
-
-/// Says a line of 65,537 bytes.
-fn expect_too_long(
+/// Takes steps behind so many bytes `x`, on a connection that is new, or alice's.
+fn expect_talk(
     rt: &(impl AllocGlobal + Abort),
-    users: &Users,
     bound: bool,
-) -> Result<(), NoMemory> {
-    let mut session = opened(rt.alloc(), users, bound)?;
-    for _ in 1..65_536 {
-        push(&mut session, b"x")?;
+    filled: usize,
+    steps: &[Step],
+) -> Result<(), Fail> {
+    let users = users(rt.alloc())?;
+    let mut session = opened(rt.alloc(), &users, bound)?;
+    fill(&mut session, filled)?;
+    expect_steps(rt, &mut session, &users, steps)?;
+    Ok(())
+}
+
+/// Takes so many bytes `x`, one by one.
+fn fill(session: &mut Session, filled: usize) -> Result<(), NoMemory> {
+    for _ in 0..filled {
+        push(session, b"x")?;
     }
-    expect_steps(rt, &mut session, users, &LINE_TOO_LONG)
+    Ok(())
 }
 
 #[test]
 fn a_line_too_long_is_answered_and_closes(rt: HostRuntime) -> Result<(), Fail> {
-    let users = users(rt.alloc())?;
-    for bound in [false, true] {
-        expect_too_long(&rt, &users, bound)?;
-    }
-    Ok(())
+    expect_talk(&rt, false, 65_535, &LINE_TOO_LONG)?;
+    expect_talk(&rt, true, 65_535, &LINE_TOO_LONG)
 }
 
 #[test]
 fn quit_closes_with_no_reply_and_nothing_is_read_after_it(rt: HostRuntime) -> Result<(), Fail> {
-    let users = users(rt.alloc())?;
-    for bound in [false, true] {
-        let mut session = opened(rt.alloc(), &users, bound)?;
-        expect_steps(&rt, &mut session, &users, &QUITTING)?;
-    }
-    Ok(())
+    expect_talk(&rt, false, 0, &QUITTING)?;
+    expect_talk(&rt, true, 0, &QUITTING)
+}
+
+/// Takes steps, is shut with a whole line unread, and takes steps.
+fn expect_shut(
+    rt: &(impl AllocGlobal + Abort),
+    session: &mut Session,
+    users: &Users,
+    before: &[Step],
+    after: &[Step],
+) -> Result<(), NoMemory> {
+    expect_steps(rt, session, users, before)?;
+    push(session, b"\r\n")?;
+    session.shut();
+    expect_steps(rt, session, users, after)
 }
 
 #[test]
 fn what_was_sent_is_given_up_and_the_rest_waits(rt: HostRuntime) -> Result<(), Fail> {
     let users = users(rt.alloc())?;
     let mut session = Session::new(rt.alloc());
-    expect_steps(&rt, &mut session, &users, &UNSENT)?;
-    push(&mut session, b"\r\n")?;
-    session.shut();
-    expect_steps(&rt, &mut session, &users, &SHUT)?;
+    expect_shut(&rt, &mut session, &users, &UNSENT, &SHUT)?;
     Ok(())
 }
 
@@ -219,134 +250,187 @@ fn answer(
     if session.answer(command, outcome).is_ok() {
         return Ok(());
     }
-    assert_eq!(rt; session.out(), b"SERVER_ERROR out of memory\r\n".as_slice());
+    let refused = b"SERVER_ERROR out of memory\r\n";
+    expect_bytes(rt, session.out(), refused, "refused");
     session.sent(28);
     wanted(rt.alloc(), session, users)?;
     session.answer(command, outcome)
 }
 
-/// Does the next request, which comes to this outcome where it is for a cache.
+/// Does what a request wants, which comes to this outcome where it is for a cache.
 fn serve(
+    rt: &(impl AllocGlobal + Abort),
+    session: &mut Session,
+    users: &Users,
+    want: &Want,
+    outcome: &Outcome,
+) -> Result<(), NoMemory>
+    requires { 64 ≤ session.old.room }
+{
+    match want {
+        Want::Call(_, command) => answer(rt, session, users, command, outcome),
+        _ => Ok(()),
+    }
+}
+
+/// Does the next request.
+fn serve_next(
     rt: &(impl AllocGlobal + Abort),
     session: &mut Session,
     users: &Users,
     outcome: &Outcome,
 ) -> Result<Wanted, NoMemory> {
     let want = next(rt.alloc(), session, users)?;
-    if let Want::Call(_, command) = &want {
-        answer(rt, session, users, command, outcome)?;
-    }
+    serve(rt, session, users, &want, outcome)?;
     Ok(wanted_of(&want))
 }
 
-/// What is to be sent for an outcome of a command.
+/// What is to be sent for an outcome of a command on a connection.
 fn expect_reply(
     rt: &(impl AllocGlobal + Abort),
+    session: &mut Session,
     users: &Users,
-    said: &str,
     outcome: &Outcome,
-    reply: &str,
+    reply: &Reply,
 ) -> Result<(), NoMemory> {
-    let mut session = opened(rt.alloc(), users, true)?;
-    push(&mut session, said.as_bytes())?;
-    let want = serve(rt, &mut session, users, outcome)?;
-    assert_eq!(rt; want, Wanted::Call(1), "{said:?}");
-    assert_eq!(rt; session.out(), reply.as_bytes(), "{said:?}");
+    let (said, out) = *reply;
+    push(session, said.as_bytes())?;
+    let got = serve_next(rt, session, users, outcome)?;
+    expect_wanted(rt, got, Wanted::Call(1), said);
+    expect_bytes(rt, session.out(), out.as_bytes(), said);
+    Ok(())
+}
+
+/// The same, each on a connection of alice's own.
+fn expect_each_reply(
+    rt: &(impl AllocGlobal + Abort),
+    users: &Users,
+    outcome: &Outcome,
+    replies: &[Reply],
+) -> Result<(), NoMemory> {
+    for reply in replies {
+        let mut session = opened(rt.alloc(), users, true)?;
+        expect_reply(rt, &mut session, users, outcome, reply)?;
+    }
+    Ok(())
+}
+
+/// The same, of commands, what they came to, and the reply.
+fn expect_replies(
+    rt: &(impl AllocGlobal + Abort),
+    users: &Users,
+    rows: &[(&'static str, Outcome, &'static str)],
+) -> Result<(), NoMemory> {
+    for (said, outcome, reply) in rows {
+        expect_each_reply(rt, users, outcome, &[(*said, *reply)])?;
+    }
     Ok(())
 }
 
 #[test]
 fn each_outcome_has_its_reply(rt: HostRuntime) -> Result<(), Fail> {
     let users = users(rt.alloc())?;
-    for (said, outcome, reply) in &REPLIES {
-        expect_reply(&rt, &users, said, outcome, reply)?;
-    }
+    expect_replies(&rt, &users, &REPLIES)?;
     Ok(())
 }
 
-/// Two hits, one of them of a block that looks like a reply's end.
-fn hits(alloc: Global) -> Result<Hits, Fail> {
-    let mut hits = Hits::new();
-    hits.push(alloc, hit(alloc, "a", "\r\nEND\r\n", u32::MAX, u64::MAX)?)?;
-    hits.push(alloc, hit(alloc, "b", "", 0, 1)?)?;
-    Ok(hits)
+/// The replies to an outcome that holds something.
+fn expect_long_replies(
+    rt: &(impl AllocGlobal + Abort),
+    outcome: &Outcome,
+    replies: &[Reply],
+) -> Result<(), Fail> {
+    let users = users(rt.alloc())?;
+    expect_each_reply(rt, &users, outcome, replies)?;
+    Ok(())
 }
 
 #[test]
 fn hits_are_shown_in_order_with_cas_numbers_where_asked(rt: HostRuntime) -> Result<(), Fail> {
-    let users = users(rt.alloc())?;
-    let outcome = Outcome::Values(hits(rt.alloc())?);
-    for (said, reply) in &LOOK_UPS {
-        expect_reply(&rt, &users, said, &outcome, reply)?;
-    }
-    Ok(())
+    expect_long_replies(&rt, &look_up(rt.alloc(), &FOUND)?, &LOOK_UPS)
 }
 
 #[test]
 fn a_look_up_that_finds_nothing_is_answered_with_the_end(rt: HostRuntime) -> Result<(), Fail> {
-    let users = users(rt.alloc())?;
-    let nothing = Outcome::Values(Hits::new());
-    expect_reply(&rt, &users, "get a\r\n", &nothing, "END\r\n")?;
-    Ok(())
+    expect_long_replies(&rt, &look_up(rt.alloc(), &[])?, &MISS)
 }
 
 #[test]
 fn stats_shows_the_rows_and_the_end(rt: HostRuntime) -> Result<(), Fail> {
-    let users = users(rt.alloc())?;
-    let outcome = Outcome::Stats(Statistics::new(rt.alloc(), COUNTERS)?);
-    expect_reply(&rt, &users, "stats\r\n", &outcome, ROWS)?;
-    Ok(())
+    expect_long_replies(&rt, &stats_of(rt.alloc(), &COUNTERS)?, &STATS)
 }
 
-/// Refuses the next request, which is for a cache.
-fn refuse(alloc: Global, session: &mut Session, users: &Users) -> Result<(), NoMemory> {
-    let want = next(alloc, session, users)?;
-    if let Want::Call(_, command) = &want {
+/// Refuses what a request wants of a cache.
+fn refuse(session: &mut Session, want: &Want)
+    requires { 64 ≤ session.old.room }
+{
+    if let Want::Call(_, command) = want {
         session.refuse(command);
     }
-    Ok(())
 }
 
 /// What is to be sent where a command wants memory.
 fn expect_refused(
     rt: &(impl AllocGlobal + Abort),
+    session: &mut Session,
     users: &Users,
-    said: &str,
-    reply: &str,
+    reply: &Reply,
 ) -> Result<(), NoMemory> {
-    let mut session = opened(rt.alloc(), users, true)?;
-    push(&mut session, said.as_bytes())?;
-    refuse(rt.alloc(), &mut session, users)?;
-    assert_eq!(rt; session.out(), reply.as_bytes(), "{said:?}");
+    let (said, out) = *reply;
+    push(session, said.as_bytes())?;
+    let want = next(rt.alloc(), session, users)?;
+    refuse(session, &want);
+    expect_bytes(rt, session.out(), out.as_bytes(), said);
+    Ok(())
+}
+
+/// The same, each on a connection of alice's own.
+fn expect_each_refused(
+    rt: &(impl AllocGlobal + Abort),
+    users: &Users,
+    replies: &[Reply],
+) -> Result<(), NoMemory> {
+    for reply in replies {
+        let mut session = opened(rt.alloc(), users, true)?;
+        expect_refused(rt, &mut session, users, reply)?;
+    }
     Ok(())
 }
 
 #[test]
 fn a_refusal_is_said_unless_the_line_is_quiet(rt: HostRuntime) -> Result<(), Fail> {
     let users = users(rt.alloc())?;
-    for (said, reply) in &REFUSALS {
-        expect_refused(&rt, &users, said, reply)?;
-    }
+    expect_each_refused(&rt, &users, &REFUSALS)?;
     Ok(())
 }
 
-/// Does all requests that are there, and counts on how many were for a cache.
+/// Takes a piece and does all requests that are there then, from the command of this number on; the
+/// number of the next.
 fn converse(
     rt: &(impl AllocGlobal + Abort),
     session: &mut Session,
     users: &Users,
-    done: usize,
+    piece: &[u8],
+    number: usize,
 ) -> Result<usize, NoMemory> {
-    let mut done = done;
+    push(session, piece)?;
+    let mut number = number;
     for _ in 0..session.kept() {
-        let outcome = &CAME_TO[done.min(CAME_TO.len() - 1)];
-        match serve(rt, session, users, outcome)? {
-            Wanted::Nothing | Wanted::Close => return Ok(done),
+        // Where the stream had more commands than it has, the last outcome would be said again.
+        let outcome = &CAME_TO[number.min(CAME_TO.len() - 1)];
+        match serve_next(rt, session, users, outcome)? {
+            Wanted::Nothing | Wanted::Close => return Ok(number),
             Wanted::Said => {}
-            Wanted::Call(_) => done = done.saturating_add(1),
+            Wanted::Call(_) => number = number.saturating_add(1),
         }
     }
-    Ok(done)
+    Ok(number)
+}
+
+/// Whether the connection has said all, and is closed.
+fn expect_said(rt: &impl Abort, session: &Session) {
+    expect_bytes(rt, session.out(), ANSWERED.as_bytes(), "stream");
+    assert!(rt; session.is_closed());
 }
 
 /// Says the stream in two pieces.
@@ -357,13 +441,9 @@ fn expect_cut(
     second: &[u8],
 ) -> Result<(), NoMemory> {
     let mut session = Session::new(rt.alloc());
-    push(&mut session, first)?;
-    let done = converse(rt, &mut session, users, 0)?;
-    push(&mut session, second)?;
-    converse(rt, &mut session, users, done)?;
-    let cut = first.len();
-    assert_eq!(rt; session.out(), ANSWERED.as_bytes(), "cut at {cut}");
-    assert!(rt; session.is_closed(), "cut at {cut}");
+    let number = converse(rt, &mut session, users, first, 0)?;
+    converse(rt, &mut session, users, second, number)?;
+    expect_said(rt, &session);
     Ok(())
 }
 

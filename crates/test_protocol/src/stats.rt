@@ -1,7 +1,7 @@
-//! What no clause says of outcomes, hits and counters: the rows of `stats`, counts by hand, and each
-//! call with memory to spare.
+//! What no clause says of outcomes, hits and counters: the rows of `stats`, counts by hand, and
+//! each call with memory to spare.
 
-use crate::fixtures::{command, hit, one_hit};
+use crate::fixtures::{Found, command, expect_bytes, expect_number, hits};
 use std::alloc::Global;
 use std::process::Abort;
 use std::test::Fail;
@@ -9,28 +9,32 @@ use tc_item::NoMemory;
 use tc_stats::{Counters, Hits, Outcome, Statistics};
 
 /// Three hits, two of them of one key, with the cas numbers 1 to 3.
-fn three_hits(alloc: Global) -> Result<Hits, Fail> {
-    let mut hits = Hits::new();
-    for (name, cas) in &[("a", 1), ("b", 2), ("a", 3)] {
-        hits.push(alloc, hit(alloc, name, "data", 7, *cas)?)?;
+const FOUND: [Found; 3] = [
+    ("a", "data", 7, 1),
+    ("b", "data", 7, 2),
+    ("a", "data", 7, 3),
+];
+
+/// Whether hits have these cas numbers.
+fn expect_cas(rt: &impl Abort, hits: &Hits, wanted: &[u64]) {
+    expect_number(rt, hits.len() as u64, wanted.len() as u64, "len");
+    for (hit, cas) in hits.as_slice().iter().zip(wanted) {
+        expect_number(rt, hit.cas, *cas, "cas");
     }
-    Ok(hits)
 }
 
-fn expect_cas(rt: &impl Abort, hits: &Hits, wanted: &[u64]) {
-    assert_eq!(rt; hits.len(), wanted.len());
-    assert_eq!(rt; hits.is_empty(), wanted.is_empty());
-    for (hit, cas) in hits.as_slice().iter().zip(wanted) {
-        assert_eq!(rt; hit.cas, *cas);
-    }
+/// Whether these are the three hits, and a copy of them is too.
+fn expect_three(rt: &(impl AllocGlobal + Abort), hits: &Hits) -> Result<(), NoMemory> {
+    expect_cas(rt, hits, &[1, 2, 3]);
+    let copied = hits.copy(rt.alloc())?;
+    expect_cas(rt, &copied, &[1, 2, 3]);
+    Ok(())
 }
 
 #[test]
 fn hits_stand_in_the_order_pushed(rt: HostRuntime) -> Result<(), Fail> {
-    expect_cas(&rt, &Hits::new(), &[]);
-    let hits = three_hits(rt.alloc())?;
-    expect_cas(&rt, &hits, &[1, 2, 3]);
-    expect_cas(&rt, &hits.copy(rt.alloc())?, &[1, 2, 3]);
+    assert!(rt; Hits::new().is_empty());
+    expect_three(&rt, &hits(rt.alloc(), &FOUND)?)?;
     Ok(())
 }
 
@@ -61,13 +65,17 @@ const COUNTERS: Counters = Counters {
     store_too_large: 24,
 };
 
+/// Whether counters are these.
+fn expect_counters(rt: &impl Abort, got: &Counters, want: &Counters) {
+    assert!(rt; got == want, "{got:?}");
+}
+
 #[test]
 fn boxed_counters_are_what_was_put_in(rt: HostRuntime) -> Result<(), Fail> {
-    let mut statistics = Statistics::new(rt.alloc(), COUNTERS)?;
+    let mut statistics = Statistics::new(rt.alloc(), Counters::new())?;
+    statistics.set(COUNTERS);
     let copied = statistics.copy(rt.alloc())?;
-    statistics.set(Counters::new());
-    assert!(rt; *copied.counters() == COUNTERS);
-    assert!(rt; *statistics.counters() == Counters::new());
+    expect_counters(&rt, copied.counters(), &COUNTERS);
     Ok(())
 }
 
@@ -88,23 +96,35 @@ const OUTCOMES: [Outcome; 12] = [
 ];
 
 /// Whether there is memory for a copy.
-fn is_copied(alloc: Global, outcome: &Outcome) -> bool {
-    outcome.copy(alloc).is_ok()
+fn expect_copied(rt: &(impl AllocGlobal + Abort), outcome: &Outcome) {
+    assert!(rt; outcome.copy(rt.alloc()).is_ok());
 }
 
-#[test]
-fn outcomes_that_hold_no_data_are_copied(rt: HostRuntime) {
-    for outcome in &OUTCOMES {
-        assert!(rt; is_copied(rt.alloc(), outcome));
+fn expect_all_copied(rt: &(impl AllocGlobal + Abort), outcomes: &[Outcome]) {
+    for outcome in outcomes {
+        expect_copied(rt, outcome);
     }
 }
 
 #[test]
+fn outcomes_that_hold_no_data_are_copied(rt: HostRuntime) {
+    expect_all_copied(&rt, &OUTCOMES);
+}
+
+/// What a look-up comes to that finds these.
+pub fn look_up(alloc: Global, found: &[Found]) -> Result<Outcome, Fail> {
+    Ok(Outcome::Values(hits(alloc, found)?))
+}
+
+/// What `stats` comes to where these are the counters.
+pub fn stats_of(alloc: Global, counters: &Counters) -> Result<Outcome, NoMemory> {
+    Ok(Outcome::Stats(Statistics::new(alloc, *counters)?))
+}
+
+#[test]
 fn outcomes_that_hold_something_are_copied(rt: HostRuntime) -> Result<(), Fail> {
-    let hits = Outcome::Values(three_hits(rt.alloc())?);
-    assert!(rt; is_copied(rt.alloc(), &hits));
-    let statistics = Outcome::Stats(Statistics::new(rt.alloc(), COUNTERS)?);
-    assert!(rt; is_copied(rt.alloc(), &statistics));
+    expect_copied(&rt, &look_up(rt.alloc(), &FOUND)?);
+    expect_copied(&rt, &stats_of(rt.alloc(), &COUNTERS)?);
     Ok(())
 }
 
@@ -115,11 +135,19 @@ fn note(alloc: Global, counters: &mut Counters, said: &str, outcome: &Outcome) -
     Ok(())
 }
 
-/// Counts a look-up that found one key.
-fn note_hit(alloc: Global, counters: &mut Counters, said: &str) -> Result<(), Fail> {
-    let outcome = Outcome::Values(one_hit(alloc)?);
+/// Counts a look-up that found these.
+fn note_look_up(
+    alloc: Global,
+    counters: &mut Counters,
+    said: &str,
+    found: &[Found],
+) -> Result<(), Fail> {
+    let outcome = look_up(alloc, found)?;
     note(alloc, counters, said, &outcome)
 }
+
+/// One hit.
+const ONE: [Found; 1] = [("k", "x", 0, 1)];
 
 /// The rows after a miss, a `set` of one byte and a hit.
 const ROWS: &str = "STAT version 1.0.0-partcached\r\nSTAT curr_items 1\r\nSTAT total_items 1\r\n\
@@ -130,18 +158,17 @@ const ROWS: &str = "STAT version 1.0.0-partcached\r\nSTAT curr_items 1\r\nSTAT t
     STAT touch_hits 0\r\nSTAT touch_misses 0\r\nSTAT evictions 0\r\n\
     STAT limit_maxbytes 65536\r\nSTAT item_size_max 1048576\r\nSTAT store_too_large 0\r\n";
 
-/// The counters after these, in a cache that holds the one item.
-fn after_a_hit(alloc: Global) -> Result<Counters, Fail> {
+/// Counts these three.
+fn note_three(alloc: Global, counters: &mut Counters) -> Result<(), Fail> {
+    note_look_up(alloc, counters, "gets k\r\n", &[])?;
+    note(alloc, counters, "set k 0 0 1\r\nx\r\n", &Outcome::Stored)?;
+    note_look_up(alloc, counters, "gets k\r\n", &ONE)
+}
+
+/// The counters then, of a cache that holds the one item.
+fn after_three(alloc: Global) -> Result<Counters, Fail> {
     let mut counters = Counters::new();
-    let nothing = Outcome::Values(Hits::new());
-    note(alloc, &mut counters, "gets k\r\n", &nothing)?;
-    note(
-        alloc,
-        &mut counters,
-        "set k 0 0 1\r\nx\r\n",
-        &Outcome::Stored,
-    )?;
-    note_hit(alloc, &mut counters, "gets k\r\n")?;
+    note_three(alloc, &mut counters)?;
     counters.curr_items = 1;
     counters.bytes = 66;
     counters.limit_maxbytes = 65_536;
@@ -157,17 +184,29 @@ fn render(counters: &Counters, out: &mut Vec<u8>) -> Result<(), NoMemory> {
     }
 }
 
-#[test]
-fn a_miss_a_set_and_a_hit_have_these_rows(rt: HostRuntime) -> Result<(), Fail> {
-    let counters = after_a_hit(rt.alloc())?;
+/// Whether counters have these rows.
+fn expect_rows(
+    rt: &(impl AllocGlobal + Abort),
+    counters: &Counters,
+    want: &str,
+) -> Result<(), NoMemory> {
     let mut out = Vec::new(rt.alloc());
-    render(&counters, &mut out)?;
-    assert_eq!(rt; out.as_slice(), ROWS.as_bytes());
+    render(counters, &mut out)?;
+    expect_bytes(rt, out.as_slice(), want.as_bytes(), "rows");
     Ok(())
 }
 
-/// Commands, what they came to, and how often.
-const NOTED: [(&str, Outcome, u32); 20] = [
+#[test]
+fn a_miss_a_set_and_a_hit_have_these_rows(rt: HostRuntime) -> Result<(), Fail> {
+    let counters = after_three(rt.alloc())?;
+    expect_rows(&rt, &counters, ROWS)?;
+    Ok(())
+}
+
+/// A command, what it came to, and how often.
+type Noted = (&'static str, Outcome, u32);
+
+const NOTED: [Noted; 20] = [
     ("set k 0 0 1\r\nx\r\n", Outcome::Stored, 1),
     ("add k 0 0 1\r\nx\r\n", Outcome::NotStored, 1),
     ("append k 0 0 1\r\nx\r\n", Outcome::TooLarge, 2),
@@ -190,7 +229,18 @@ const NOTED: [(&str, Outcome, u32); 20] = [
     ("version\r\n", Outcome::Version, 1),
 ];
 
-/// The counters after these, a `get` that found one of three keys and a `gats` that found one of two.
+/// Counts these.
+fn note_all(alloc: Global, counters: &mut Counters, rows: &[Noted]) -> Result<(), Fail> {
+    for (said, outcome, times) in rows {
+        for _ in 0..*times {
+            note(alloc, counters, said, outcome)?;
+        }
+    }
+    Ok(())
+}
+
+/// The counters after these, a `get` that found one of three keys, and a `gats` that found one of
+/// two.
 const COUNTED: Counters = Counters {
     curr_items: 0,
     total_items: 5,
@@ -218,27 +268,29 @@ const COUNTED: Counters = Counters {
     store_too_large: 2,
 };
 
-#[test]
-fn each_command_counts_by_what_it_came_to(rt: HostRuntime) -> Result<(), Fail> {
+/// The counters after all of these.
+fn counted(alloc: Global) -> Result<Counters, Fail> {
     let mut counters = Counters::new();
-    for (said, outcome, times) in &NOTED {
-        for _ in 0..*times {
-            note(rt.alloc(), &mut counters, said, outcome)?;
-        }
-    }
-    note_hit(rt.alloc(), &mut counters, "get a b c\r\n")?;
-    note_hit(rt.alloc(), &mut counters, "gats 0 a b\r\n")?;
-    assert_eq!(rt; counters, COUNTED);
-    Ok(())
+    note_all(alloc, &mut counters, &NOTED)?;
+    note_look_up(alloc, &mut counters, "get a b c\r\n", &ONE)?;
+    note_look_up(alloc, &mut counters, "gats 0 a b\r\n", &ONE)?;
+    Ok(counters)
 }
 
 #[test]
+fn each_command_counts_by_what_it_came_to(rt: HostRuntime) -> Result<(), Fail> {
+    expect_counters(&rt, &counted(rt.alloc())?, &COUNTED);
+    Ok(())
+}
+
+/// A `flush_all`, three times.
+const FLUSHED: [Noted; 1] = [("flush_all\r\n", Outcome::Done, 3)];
+
+#[test]
 fn a_counter_stops_at_the_top(rt: HostRuntime) -> Result<(), Fail> {
-    let mut counters = COUNTERS;
+    let mut counters = Counters::new();
     counters.cmd_flush = u64::MAX - 1;
-    for _ in 0..3 {
-        note(rt.alloc(), &mut counters, "flush_all\r\n", &Outcome::Done)?;
-    }
-    assert_eq!(rt; counters.cmd_flush, u64::MAX);
+    note_all(rt.alloc(), &mut counters, &FLUSHED)?;
+    expect_number(&rt, counters.cmd_flush, u64::MAX, "cmd_flush");
     Ok(())
 }

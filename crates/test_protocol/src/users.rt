@@ -1,10 +1,10 @@
-//! What no clause says of the settings: texts in, the numbers of their faults out, users by hand, and
-//! each call with memory to spare. A test that a refused allocation reaches ends in an error.
+//! What no clause says of the settings: texts in, the numbers of their faults out, users by hand,
+//! and each call with memory to spare. A test that a refused allocation reaches ends in an error.
 
 mod faults;
 
-use crate::fixtures::{row, users};
-use std::alloc::Global;
+use crate::fixtures::{expect_bytes, expect_number, expect_text, row, users};
+use std::alloc::{AllocError, Global};
 use std::process::Abort;
 use std::test::Fail;
 use tc_users::{Field, Settings, SettingsFault, Text, TextFault, UserNo, UserSpec, Users};
@@ -50,94 +50,110 @@ pub fn fault_of(alloc: Global, top: &str, users: &str) -> Result<Option<Settings
     Ok(Settings::from_toml(alloc, text.as_str()).err())
 }
 
-/// Its number, 0 where there is none.
-fn number_of(alloc: Global, top: &str, users: &str) -> Result<u8, Fail> {
-    match fault_of(alloc, top, users)? {
-        Some(fault) => Ok(fault.number()),
-        None => Ok(0),
-    }
-}
-
-/// Whose a login's data is, 0 for nobody's.
-fn login(users: &Users, data: &str) -> u32 {
-    match users.login(data.as_bytes()) {
-        Some(user) => user.number(),
+/// A fault's number, 0 where there is none.
+fn number_of(fault: Option<SettingsFault>) -> u64 {
+    match fault {
+        Some(fault) => u64::from(fault.number()),
         None => 0,
     }
 }
 
-/// Whether data logs in whom a table says.
-fn expect_logins(rt: &impl Abort, users: &Users, logins: &[(&str, u32)]) {
-    for (data, user) in logins {
-        assert_eq!(rt; login(users, data), *user, "{data}");
+/// Whose a login's data is, 0 for nobody's.
+fn login(users: &Users, data: &str) -> u64 {
+    match users.login(data.as_bytes()) {
+        Some(user) => u64::from(user.number()),
+        None => 0,
     }
 }
 
-/// Whether settings have these numbers, and listen where the examples do.
-fn expect_numbers(rt: &impl Abort, settings: &Settings, users: usize) {
-    assert_eq!(rt; settings.listen.as_str(), "127.0.0.1:11211");
-    assert_eq!(rt; (settings.workers, settings.journal), (4, 4096));
-    assert_eq!(rt;
-        (settings.users.len(), settings.users.rows().len()),
-        (users, users)
-    );
+/// Data, and whose login it is, 0 for nobody's.
+type Login = (&'static str, u64);
+
+/// Whether data logs in whom a table says.
+fn expect_logins(rt: &impl Abort, users: &Users, logins: &[Login]) {
+    for (data, user) in logins {
+        expect_number(rt, login(users, data), *user, data);
+    }
 }
 
-/// Whether this is alice's row.
-fn expect_alice(rt: &impl Abort, alice: &UserSpec) {
-    assert_eq!(rt; alice.name.as_bytes(), b"alice".as_slice());
-    assert_eq!(rt; alice.token.as_bytes(), b"one".as_slice());
-    assert_eq!(rt; (alice.budget, alice.largest), (65_536, 1_048_576));
-    assert!(rt; alice.second.is_none() && alice.opens(b"alice one"));
-}
+/// What a user's row has: its name, budget and largest item.
+type Row = (&'static str, u64, u64);
 
-/// Whether this is the text of the first user alone.
-fn expect_first_example(rt: &impl Abort, settings: &Settings) -> Result<(), Fail> {
-    expect_numbers(rt, settings, 1);
-    expect_alice(rt, settings.users.spec(UserNo::new(1)).ok_or("no user")?);
-    expect_logins(rt, &settings.users, &[("alice one", 1)]);
+/// Whether this is a user's row.
+fn expect_row(rt: &impl Abort, row: Option<&UserSpec>, want: &Row) -> Result<(), Fail> {
+    let row = row.ok_or("no user")?;
+    let (name, budget, largest) = *want;
+    expect_bytes(rt, row.name.as_bytes(), name.as_bytes(), name);
+    expect_number(rt, row.budget, budget, name);
+    expect_number(rt, row.largest, largest, name);
     Ok(())
 }
+
+/// Whether these are the users' rows, in this order.
+fn expect_users(rt: &impl Abort, users: &Users, rows: &[Row]) -> Result<(), Fail> {
+    let mut number: u32 = 0;
+    for row in rows {
+        number = number.saturating_add(1);
+        expect_row(rt, users.spec(UserNo::new(number)), row)?;
+    }
+    assert!(rt; users.spec(UserNo::new(0)).is_none());
+    expect_number(rt, users.len() as u64, rows.len() as u64, "len");
+    expect_number(rt, users.rows().len() as u64, rows.len() as u64, "rows");
+    Ok(())
+}
+
+/// Whether these are the settings of the examples, with these users.
+fn expect_settings(
+    rt: &impl Abort,
+    settings: &Settings,
+    rows: &[Row],
+    logins: &[Login],
+) -> Result<(), Fail> {
+    expect_text(rt, settings.listen.as_str(), "127.0.0.1:11211", "listen");
+    expect_number(rt, settings.workers as u64, 4, "workers");
+    expect_number(rt, settings.journal as u64, 4096, "journal");
+    expect_logins(rt, &settings.users, logins);
+    expect_users(rt, &settings.users, rows)
+}
+
+const ALICE_ALONE: [Row; 1] = [("alice", 65_536, 1_048_576)];
 
 #[test]
 fn the_example_is_read(rt: HostRuntime) -> Result<(), Fail> {
     let text = format!(in rt.alloc(); "{TOP}{ALICE}")?;
     let settings = Settings::from_toml(rt.alloc(), text.as_str())?;
-    expect_first_example(&rt, &settings)
+    expect_settings(&rt, &settings, &ALICE_ALONE, &[("alice one", 1)])
 }
 
+const ALICE_AND_BOB: [Row; 2] = [("alice", 67_108_864, 1_048_576), ("bob", 1_048_576, 65_536)];
+
 /// Logins of the example file.
-const EXAMPLE_LOGINS: [(&str, u32); 3] = [
+const EXAMPLE_LOGINS: [Login; 3] = [
     ("alice change-me-1", 1),
     ("bob change-me-2", 2),
     ("bob change-me-3", 2),
 ];
 
-/// Whether these are the settings of the example file.
-fn expect_example(rt: &impl Abort, settings: &Settings) -> Result<(), Fail> {
-    expect_numbers(rt, settings, 2);
-    let bob = settings.users.spec(UserNo::new(2)).ok_or("no second user")?;
-    assert_eq!(rt; (bob.budget, bob.largest), (1_048_576, 65_536));
-    expect_logins(rt, &settings.users, &EXAMPLE_LOGINS);
-    Ok(())
-}
-
 #[test]
 fn the_example_file_is_read(rt: HostRuntime) -> Result<(), Fail> {
     let settings = Settings::from_toml(rt.alloc(), EXAMPLE)?;
-    expect_example(&rt, &settings)
+    expect_settings(&rt, &settings, &ALICE_AND_BOB, &EXAMPLE_LOGINS)
 }
 
+/// Two texts, and the number of their fault, 0 where there is none.
+type Numbered = (&'static str, &'static str, u64);
+
 /// Whether texts have faults of these numbers.
-fn expect_faults(rt: &(impl AllocGlobal + Abort), rows: &[(&str, &str, u8)]) -> Result<(), Fail> {
+fn expect_numbers(rt: &(impl AllocGlobal + Abort), rows: &[Numbered]) -> Result<(), Fail> {
     for (top, users, want) in rows {
-        assert_eq!(rt; number_of(rt.alloc(), top, users)?, *want, "{top}{users}");
+        let fault = fault_of(rt.alloc(), top, users)?;
+        expect_number(rt, number_of(fault), *want, users);
     }
     Ok(())
 }
 
 /// Texts, and the numbers of their first faults.
-const FIRST_FAULTS: [(&str, &str, u8); 9] = [
+const FIRST_FAULTS: [Numbered; 9] = [
     ("x =", "", 1),
     ("", "", 2),
     (
@@ -167,11 +183,11 @@ const FIRST_FAULTS: [(&str, &str, u8); 9] = [
 
 #[test]
 fn each_fault_has_its_number(rt: HostRuntime) -> Result<(), Fail> {
-    expect_faults(&rt, &FIRST_FAULTS)
+    expect_numbers(&rt, &FIRST_FAULTS)
 }
 
 /// Lines behind a good user's, and the numbers of their faults.
-const LAST_LINES: [(&str, u8); 14] = [
+const LAST_LINES: [(&str, u64); 14] = [
     ("colour = 1\n", 0),
     ("largest = 0\n", 11),
     ("largest = 1\n", 0),
@@ -189,22 +205,27 @@ const LAST_LINES: [(&str, u8); 14] = [
 ];
 
 /// Whether a line behind a good user's has a fault of this number.
-fn expect_last_line(rt: &(impl AllocGlobal + Abort), line: &str, want: u8) -> Result<(), Fail> {
+fn expect_last_line(rt: &(impl AllocGlobal + Abort), line: &str, want: u64) -> Result<(), Fail> {
     let users = format!(in rt.alloc(); "{ALICE}{line}")?;
-    assert_eq!(rt; number_of(rt.alloc(), TOP, users.as_str())?, want, "{line}");
+    let fault = fault_of(rt.alloc(), TOP, users.as_str())?;
+    expect_number(rt, number_of(fault), want, line);
+    Ok(())
+}
+
+fn expect_last_lines(rt: &(impl AllocGlobal + Abort), rows: &[(&str, u64)]) -> Result<(), Fail> {
+    for (line, want) in rows {
+        expect_last_line(rt, line, *want)?;
+    }
     Ok(())
 }
 
 #[test]
 fn each_line_after_a_good_user_has_its_fault(rt: HostRuntime) -> Result<(), Fail> {
-    for (line, want) in &LAST_LINES {
-        expect_last_line(&rt, line, *want)?;
-    }
-    Ok(())
+    expect_last_lines(&rt, &LAST_LINES)
 }
 
 /// Texts of `workers`, `journal` and `budget`, and the number of their fault.
-type Numbers = (&'static str, &'static str, &'static str, u8);
+type Numbers = (&'static str, &'static str, &'static str, u64);
 
 const NUMBERS: [Numbers; 15] = [
     ("1", "16", "65536", 0),
@@ -224,28 +245,38 @@ const NUMBERS: [Numbers; 15] = [
     ("1", "16", "\"65536\"", 2),
 ];
 
-/// Whether settings of these numbers have this fault.
-fn expect_fault_of_numbers(rt: &(impl AllocGlobal + Abort), numbers: &Numbers) -> Result<(), Fail> {
-    let (workers, journal, budget, want) = numbers;
-    let top = format!(in rt.alloc(); "listen = \"a\"\nworkers = {workers}\njournal = {journal}\n")?;
-    let users = format!(in rt.alloc();
-        "[[user]]\nname = \"a\"\ntoken = \"t\"\nbudget = {budget}\n"
-    )?;
-    let number = number_of(rt.alloc(), top.as_str(), users.as_str())?;
-    assert_eq!(rt; number, *want, "{numbers:?}");
+/// The fields before the users.
+fn top_of(alloc: Global, workers: &str, journal: &str) -> Result<String, AllocError> {
+    format!(in alloc; "listen = \"a\"\nworkers = {workers}\njournal = {journal}\n")
+}
+
+/// A user with this budget.
+fn user_of(alloc: Global, budget: &str) -> Result<String, AllocError> {
+    format!(in alloc; "[[user]]\nname = \"a\"\ntoken = \"t\"\nbudget = {budget}\n")
+}
+
+/// The fault of settings of these numbers.
+fn fault_of_numbers(alloc: Global, numbers: &Numbers) -> Result<Option<SettingsFault>, Fail> {
+    let top = top_of(alloc, numbers.0, numbers.1)?;
+    let users = user_of(alloc, numbers.2)?;
+    fault_of(alloc, top.as_str(), users.as_str())
+}
+
+fn expect_each_number(rt: &(impl AllocGlobal + Abort), rows: &[Numbers]) -> Result<(), Fail> {
+    for numbers in rows {
+        let fault = fault_of_numbers(rt.alloc(), numbers)?;
+        assert_eq!(rt; number_of(fault), numbers.3, "{numbers:?}");
+    }
     Ok(())
 }
 
 #[test]
 fn each_number_is_good_from_one_border_to_the_other(rt: HostRuntime) -> Result<(), Fail> {
-    for numbers in &NUMBERS {
-        expect_fault_of_numbers(&rt, numbers)?;
-    }
-    Ok(())
+    expect_each_number(&rt, &NUMBERS)
 }
 
 /// Users in another layout.
-const LAYOUTS: [(&str, &str, u8); 2] = [
+const LAYOUTS: [Numbered; 2] = [
     (
         TOP,
         "user = [{name = \"a\", token = \"t\", budget = 65536}]\n",
@@ -258,7 +289,12 @@ const LAYOUTS: [(&str, &str, u8); 2] = [
 fn users_may_stand_in_inline_tables_and_an_empty_array_holds_none(
     rt: HostRuntime,
 ) -> Result<(), Fail> {
-    expect_faults(&rt, &LAYOUTS)
+    expect_numbers(&rt, &LAYOUTS)
+}
+
+/// Whether a fault is this one.
+fn expect_fault(rt: &impl Abort, got: Option<SettingsFault>, want: Option<SettingsFault>) {
+    assert!(rt; got == want, "{got:?}");
 }
 
 /// Three users, of whom the second has too small a budget, and no name is good in the third.
@@ -274,9 +310,9 @@ const THIRD_IS_FIRST: &str = "[[user]]\nname = \"a\"\ntoken = \"t\"\nbudget = 65
 #[test]
 fn the_first_user_with_a_fault_is_named(rt: HostRuntime) -> Result<(), Fail> {
     let want = SettingsFault::BudgetRange { user: 2, found: 1 };
-    assert_eq!(rt; fault_of(rt.alloc(), TOP, SECOND_IS_BAD)?, Some(want));
+    expect_fault(&rt, fault_of(rt.alloc(), TOP, SECOND_IS_BAD)?, Some(want));
     let want = SettingsFault::SameName { user: 3, first: 1 };
-    assert_eq!(rt; fault_of(rt.alloc(), TOP, THIRD_IS_FIRST)?, Some(want));
+    expect_fault(&rt, fault_of(rt.alloc(), TOP, THIRD_IS_FIRST)?, Some(want));
     Ok(())
 }
 
@@ -292,8 +328,10 @@ fn text_fault(alloc: Global, name: &[u8], token: &[u8]) -> Result<Option<Setting
     row_fault(alloc, row(alloc, name, token)?)
 }
 
-/// The bytes of a name and of a token, and the fault of the row.
-const LENGTHS: [(usize, usize, Option<SettingsFault>); 7] = [
+/// How many bytes a name and a token have, and the fault of the row.
+type Lengths = (usize, usize, Option<SettingsFault>);
+
+const LENGTHS: [Lengths; 7] = [
     (
         0,
         1,
@@ -331,14 +369,19 @@ const LENGTHS: [(usize, usize, Option<SettingsFault>); 7] = [
     ),
 ];
 
-#[test]
-fn a_name_has_1_to_64_bytes_and_a_token_1_to_128(rt: HostRuntime) -> Result<(), Fail> {
+fn expect_lengths(rt: &(impl AllocGlobal + Abort), rows: &[Lengths]) -> Result<(), Fail> {
     let long = [b'x'; 129];
-    for (name, token, want) in &LENGTHS {
-        let fault = text_fault(rt.alloc(), &long[..*name], &long[..*token])?;
-        assert_eq!(rt; fault, *want);
+    for (name, token, want) in rows {
+        let name = long.get(..*name).ok_or("shorter")?;
+        let token = long.get(..*token).ok_or("shorter")?;
+        expect_fault(rt, text_fault(rt.alloc(), name, token)?, *want);
     }
     Ok(())
+}
+
+#[test]
+fn a_name_has_1_to_64_bytes_and_a_token_1_to_128(rt: HostRuntime) -> Result<(), Fail> {
+    expect_lengths(&rt, &LENGTHS)
 }
 
 /// Bytes that stand in no name, and those that stand in no token.
@@ -346,26 +389,39 @@ const NOT_IN_NAMES: [u8; 14] = [0, 32, 43, 44, 47, 58, 64, 91, 94, 96, 123, 127,
 
 const NOT_IN_TOKENS: [u8; 5] = [0, 32, 127, 128, 255];
 
-#[test]
-fn a_byte_outside_a_name_or_a_token_is_shown_with_its_place(rt: HostRuntime) -> Result<(), Fail> {
-    for byte in &NOT_IN_NAMES {
-        let byte = *byte;
-        let fault = TextFault::BadByte { place: 2, byte };
-        let want = Some(SettingsFault::BadName { user: 1, fault });
-        assert_eq!(rt; text_fault(rt.alloc(), &[b'Z', b'_', byte], b"t")?, want);
-    }
-    for byte in &NOT_IN_TOKENS {
-        let byte = *byte;
-        let fault = TextFault::BadByte { place: 2, byte };
+/// Whether a byte at the end of a name, or of a token, is a fault.
+fn expect_bad_byte(rt: &(impl AllocGlobal + Abort), in_name: bool, byte: u8) -> Result<(), Fail> {
+    let fault = TextFault::BadByte { place: 2, byte };
+    if in_name {
+        let got = text_fault(rt.alloc(), &[b'Z', b'_', byte], b"t")?;
+        expect_fault(rt, got, Some(SettingsFault::BadName { user: 1, fault }));
+    } else {
+        let got = text_fault(rt.alloc(), b"a-.9", &[33, 126, byte])?;
         let field = Field::Token(1);
-        let want = Some(SettingsFault::BadToken { field, fault });
-        assert_eq!(rt; text_fault(rt.alloc(), b"a-.9", &[33, 126, byte])?, want);
+        expect_fault(rt, got, Some(SettingsFault::BadToken { field, fault }));
     }
     Ok(())
 }
 
+fn expect_bad_bytes(
+    rt: &(impl AllocGlobal + Abort),
+    in_name: bool,
+    bytes: &[u8],
+) -> Result<(), Fail> {
+    for byte in bytes {
+        expect_bad_byte(rt, in_name, *byte)?;
+    }
+    Ok(())
+}
+
+#[test]
+fn a_byte_outside_a_name_or_a_token_is_shown_with_its_place(rt: HostRuntime) -> Result<(), Fail> {
+    expect_bad_bytes(&rt, true, &NOT_IN_NAMES)?;
+    expect_bad_bytes(&rt, false, &NOT_IN_TOKENS)
+}
+
 /// Data, and whose login it is, where alice has the token `one`, and bob has `two` and `zwei`.
-const LOGINS: [(&str, u32); 9] = [
+const LOGINS: [Login; 9] = [
     ("alice one", 1),
     ("bob two", 2),
     ("bob zwei", 2),
@@ -377,23 +433,13 @@ const LOGINS: [(&str, u32); 9] = [
     ("", 0),
 ];
 
-/// The name of a user's row, empty where there is none.
-fn name_of(users: &Users, number: u32) -> &[u8] {
-    match users.spec(UserNo::new(number)) {
-        Some(row) => row.name.as_bytes(),
-        None => b"",
-    }
-}
+const BUILT: [Row; 2] = [("alice", 65_536, 1_048_576), ("bob", 65_536, 1_048_576)];
 
 #[test]
 fn users_are_built_in_order_and_found_by_either_token(rt: HostRuntime) -> Result<(), Fail> {
     let users = users(rt.alloc())?;
     expect_logins(&rt, &users, &LOGINS);
-    assert_eq!(rt; (users.len(), users.rows().len()), (2, 2));
-    for (number, name) in &[(0, ""), (1, "alice"), (2, "bob"), (3, "")] {
-        assert_eq!(rt; name_of(&users, *number), name.as_bytes());
-    }
-    Ok(())
+    expect_users(&rt, &users, &BUILT)
 }
 
 /// Alice's row, whose second token is her first, and whose items may have no data.
@@ -413,12 +459,19 @@ fn largest_budget(alloc: Global) -> Result<UserSpec, Fail> {
 
 #[test]
 fn rows_are_refused_by_their_first_fault(rt: HostRuntime) -> Result<(), Fail> {
-    assert_eq!(rt; Users::build(Vec::new(rt.alloc()))?.len(), 0);
-    let want = Some(SettingsFault::SameToken { user: 1 });
-    assert_eq!(rt; row_fault(rt.alloc(), same_tokens(rt.alloc())?)?, want);
+    let want = SettingsFault::SameToken { user: 1 };
+    expect_fault(
+        &rt,
+        row_fault(rt.alloc(), same_tokens(rt.alloc())?)?,
+        Some(want),
+    );
     let found = 18_446_744_073_709_551_615;
-    let want = Some(SettingsFault::BudgetRange { user: 1, found });
-    assert_eq!(rt; row_fault(rt.alloc(), largest_budget(rt.alloc())?)?, want);
+    let want = SettingsFault::BudgetRange { user: 1, found };
+    expect_fault(
+        &rt,
+        row_fault(rt.alloc(), largest_budget(rt.alloc())?)?,
+        Some(want),
+    );
     Ok(())
 }
 
@@ -429,28 +482,59 @@ fn alice_alone(alloc: Global) -> Result<Users, Fail> {
     Ok(users)
 }
 
+/// The fault of this second token for the first user.
+fn set_second(
+    alloc: Global,
+    users: &mut Users,
+    token: &[u8],
+) -> Result<Option<SettingsFault>, Fail> {
+    let second = Text::copy(alloc, token)?;
+    if users.len() < 1 {
+        return Err("no user".into());
+    }
+    Ok(users.set_second(UserNo::new(1), second).err())
+}
+
+/// The fault of this largest item for the first user.
+fn set_largest(users: &mut Users, largest: u64) -> Result<Option<SettingsFault>, Fail> {
+    if users.len() < 1 {
+        return Err("no user".into());
+    }
+    Ok(users.set_largest(UserNo::new(1), largest).err())
+}
+
+const CHANGED: [Row; 1] = [("alice", 65_536, 3)];
+
+const CHANGED_LOGINS: [Login; 2] = [("alice one", 1), ("alice uno", 1)];
+
+fn expect_changed(rt: &(impl AllocGlobal + Abort), users: &mut Users) -> Result<(), Fail> {
+    expect_fault(rt, set_second(rt.alloc(), users, b"uno")?, None);
+    expect_fault(rt, set_largest(users, 3)?, None);
+    expect_logins(rt, users, &CHANGED_LOGINS);
+    expect_users(rt, users, &CHANGED)
+}
+
 #[test]
 fn a_table_is_built_row_by_row(rt: HostRuntime) -> Result<(), Fail> {
-    let mut users = alice_alone(rt.alloc())?;
-    assert_eq!(rt; users.len(), 1);
-    users.set_second(UserNo::new(1), Text::copy(rt.alloc(), b"uno")?)?;
-    users.set_largest(UserNo::new(1), 3)?;
-    assert_eq!(rt; login(&users, "alice uno"), 1);
-    let alice = users.spec(UserNo::new(1)).ok_or("no user")?;
-    assert_eq!(rt; alice.largest, 3);
-    Ok(())
+    expect_changed(&rt, &mut alice_alone(rt.alloc())?)
+}
+
+/// The fault of a second row of alice's.
+fn push_fault(alloc: Global, users: &mut Users) -> Result<Option<SettingsFault>, Fail> {
+    Ok(users.push(row(alloc, b"alice", b"two")?).err())
+}
+
+fn expect_unchanged(rt: &(impl AllocGlobal + Abort), users: &mut Users) -> Result<(), Fail> {
+    let want = SettingsFault::SameName { user: 2, first: 1 };
+    expect_fault(rt, push_fault(rt.alloc(), users)?, Some(want));
+    let want = SettingsFault::SameToken { user: 1 };
+    expect_fault(rt, set_second(rt.alloc(), users, b"one")?, Some(want));
+    let want = SettingsFault::LargestRange { user: 1, found: 0 };
+    expect_fault(rt, set_largest(users, 0)?, Some(want));
+    expect_users(rt, users, &ALICE_ALONE)
 }
 
 #[test]
 fn a_table_refuses_what_would_be_a_fault(rt: HostRuntime) -> Result<(), Fail> {
-    let mut users = alice_alone(rt.alloc())?;
-    assert_eq!(rt; users.len(), 1);
-    let again = users.push(row(rt.alloc(), b"alice", b"two")?);
-    assert!(rt; again == Err(SettingsFault::SameName { user: 2, first: 1 }));
-    assert_eq!(rt; users.len(), 1);
-    let same = users.set_second(UserNo::new(1), Text::copy(rt.alloc(), b"one")?);
-    assert!(rt; same == Err(SettingsFault::SameToken { user: 1 }));
-    let none = users.set_largest(UserNo::new(1), 0);
-    assert!(rt; none == Err(SettingsFault::LargestRange { user: 1, found: 0 }));
-    Ok(())
+    expect_unchanged(&rt, &mut alice_alone(rt.alloc())?)
 }

@@ -141,7 +141,7 @@ pub const STORAGE: [(&str, &str); 16] = [
     ),
 ];
 
-/// Refused storage lines: a length is the fifth token, and a refused line skips it and two bytes more.
+/// Refused storage lines: a length is the fifth token; a refused line skips it and two bytes more.
 pub const REFUSED_STORAGE: [(&str, &str); 28] = [
     ("set k 4294967296 0 5", BAD_FORMAT_SKIPS_7),
     ("set k 0 4294967296 5", BAD_FORMAT_SKIPS_7),
@@ -303,6 +303,28 @@ pub const UNKEYED: [(&str, &str); 23] = [
     ("stats noreply", BAD_FORMAT),
 ];
 
+/// A key of 251 bytes.
+pub const LONG_KEY: [(&str, &str); 1] = [(
+    "set kkkkkkkkkkkkkkkkkkkkkkkkkkkkkkkkkkkkkkkkkkkkkkkkkkkkkkkkkkkkkkkkkkkkkkkkkkkkkkkk\
+            kkkkkkkkkkkkkkkkkkkkkkkkkkkkkkkkkkkkkkkkkkkkkkkkkkkkkkkkkkkkkkkkkkkkkkkkkkkkkkkk\
+            kkkkkkkkkkkkkkkkkkkkkkkkkkkkkkkkkkkkkkkkkkkkkkkkkkkkkkkkkkkkkkkkkkkkkkkkkkkkkkkk\
+            kkkkkkkkkkk 0 0 1",
+    "Refused { fault: BadFormat, quiet: false, skip: 3 }",
+)];
+
+/// Lines where a block may have 1,048,576 bytes.
+pub const AT_A_MEBIBYTE: [(&str, &str); 2] = [
+    (
+        "set k 0 0 1048576",
+        "NeedsBlock(Head { kind: Set, key: \"k\", flags: 0, exptime: 0, \
+            cas_unique: 0, quiet: false }, 1048576)",
+    ),
+    (
+        "set k 0 0 1048577",
+        "Refused { fault: TooLarge, quiet: false, skip: 1048579 }",
+    ),
+];
+
 /// Streams that begin with a command, one of each kind.
 pub const COPIED: [&str; 11] = [
     "gets a b c\r\n",
@@ -319,7 +341,7 @@ pub const COPIED: [&str; 11] = [
 ];
 
 /// Faults, their numbers and their texts.
-pub const FAULTS: [(Fault, u8, &str); 11] = [
+pub const FAULTS: [(Fault, u64, &str); 11] = [
     (Fault::UnknownCommand, 1, "ERROR"),
     (Fault::BadFormat, 2, "CLIENT_ERROR bad command line format"),
     (Fault::BadChunk, 3, "CLIENT_ERROR bad data chunk"),

@@ -1,5 +1,6 @@
 //! Lines and streams, with what they are answered, by hand from the protocol's text.
 
+use crate::fixtures::Found;
 use tc_stats::{Counters, Outcome};
 
 /// What a connection's next request wants, without the command.
@@ -93,24 +94,26 @@ pub const FAULTS: [(Turn, Wanted); 5] = [
     (("set k 0 0 1048577\r\n", SAID, TOO_LARGE), Wanted::Nothing),
 ];
 
-/// What a connection of alice's makes of bob's login.
-pub const STAYING: Turn = ("set x 0 0 7\r\nbob two\r\n", Wanted::Call(1), "");
+const CALL: Wanted = Wanted::Call(1);
 
-/// Lines that a bound connection hands to its user's cache.
-pub const CALLED: [&str; 13] = [
-    "add k 0 0 1\r\nx\r\n",
-    "replace k 0 0 1\r\nx\r\n",
-    "append k 0 0 1\r\nx\r\n",
-    "prepend k 0 0 1\r\nx\r\n",
-    "cas k 0 0 1 1\r\nx\r\n",
-    "delete k\r\n",
-    "incr k 1\r\n",
-    "touch k 1\r\n",
-    "gat 1 k\r\n",
-    "flush_all\r\n",
-    "flush_all noreply\r\n",
-    "stats\r\n",
-    "version\r\n",
+/// What a connection of alice's makes of bob's login.
+pub const STAYING: [(Turn, Wanted); 1] = [(("set x 0 0 7\r\nbob two\r\n", CALL, ""), CALL)];
+
+/// Commands that a connection of alice's hands to her cache.
+pub const CALLED: [(Turn, Wanted); 13] = [
+    (("add k 0 0 1\r\nx\r\n", CALL, ""), CALL),
+    (("replace k 0 0 1\r\nx\r\n", CALL, ""), CALL),
+    (("append k 0 0 1\r\nx\r\n", CALL, ""), CALL),
+    (("prepend k 0 0 1\r\nx\r\n", CALL, ""), CALL),
+    (("cas k 0 0 1 1\r\nx\r\n", CALL, ""), CALL),
+    (("delete k\r\n", CALL, ""), CALL),
+    (("incr k 1\r\n", CALL, ""), CALL),
+    (("touch k 1\r\n", CALL, ""), CALL),
+    (("gat 1 k\r\n", CALL, ""), CALL),
+    (("flush_all\r\n", CALL, ""), CALL),
+    (("flush_all noreply\r\n", CALL, ""), CALL),
+    (("stats\r\n", CALL, ""), CALL),
+    (("version\r\n", CALL, ""), CALL),
 ];
 
 /// What is left of a connection: so many bytes are unread.
@@ -238,25 +241,42 @@ const BARE: &str = "VALUE a 4294967295 7\r\n\r\nEND\r\n\r\nVALUE b 0 0\r\n\r\nEN
 const WITH_CAS: &str = "VALUE a 4294967295 7 18446744073709551615\r\n\r\nEND\r\n\r\n\
     VALUE b 0 0 1\r\n\r\nEND\r\n";
 
+/// A command and its reply.
+pub type Reply = (&'static str, &'static str);
+
+/// Two hits, one of them of a block that looks like a reply's end.
+pub const FOUND: [Found; 2] = [
+    (
+        "a",
+        "\r\nEND\r\n",
+        4_294_967_295,
+        18_446_744_073_709_551_615,
+    ),
+    ("b", "", 0, 1),
+];
+
 /// Look-ups that find the two, and their replies.
-pub const LOOK_UPS: [(&str, &str); 4] = [
+pub const LOOK_UPS: [Reply; 4] = [
     ("get a b\r\n", BARE),
     ("gets a b\r\n", WITH_CAS),
     ("gat 0 a b\r\n", BARE),
     ("gats 0 a b\r\n", WITH_CAS),
 ];
 
+/// A look-up that finds nothing, and its reply.
+pub const MISS: [Reply; 1] = [("get a\r\n", "END\r\n")];
+
 const NO_MEMORY: &str = "SERVER_ERROR out of memory\r\n";
 
 /// Commands, and what is said where they want memory.
-pub const REFUSALS: [(&str, &str); 3] = [
+pub const REFUSALS: [Reply; 3] = [
     ("get k\r\n", NO_MEMORY),
     ("set k 0 0 1\r\nx\r\n", NO_MEMORY),
     ("set k 0 0 1 noreply\r\nx\r\n", ""),
 ];
 
-/// The counters after a too large `set`, a `set` of three bytes, a too large `append`, a `set` of one
-/// byte, an `incr` to five digits and a `get` of them, where an item may have three bytes.
+/// The counters after a too large `set`, a `set` of three bytes, a too large `append`, a `set` of
+/// one byte, an `incr` to five digits and a `get` of them, where an item may have three bytes.
 pub const COUNTERS: Counters = Counters {
     curr_items: 2,
     total_items: 2,
@@ -285,11 +305,13 @@ pub const COUNTERS: Counters = Counters {
 };
 
 /// What they are shown as.
-pub const ROWS: &str =
-    "STAT version 1.0.0-partcached\r\nSTAT curr_items 2\r\nSTAT total_items 2\r\n\
+const ROWS: &str = "STAT version 1.0.0-partcached\r\nSTAT curr_items 2\r\nSTAT total_items 2\r\n\
     STAT bytes 138\r\nSTAT cmd_get 1\r\nSTAT cmd_set 4\r\nSTAT cmd_flush 0\r\n\
     STAT cmd_touch 0\r\nSTAT get_hits 1\r\nSTAT get_misses 0\r\nSTAT delete_misses 0\r\n\
     STAT delete_hits 0\r\nSTAT incr_misses 0\r\nSTAT incr_hits 1\r\nSTAT decr_misses 0\r\n\
     STAT decr_hits 0\r\nSTAT cas_misses 0\r\nSTAT cas_hits 0\r\nSTAT cas_badval 0\r\n\
     STAT touch_hits 0\r\nSTAT touch_misses 0\r\nSTAT evictions 0\r\n\
     STAT limit_maxbytes 65536\r\nSTAT item_size_max 3\r\nSTAT store_too_large 2\r\nEND\r\n";
+
+/// The command that shows them.
+pub const STATS: [Reply; 1] = [("stats\r\n", ROWS)];

@@ -1,31 +1,35 @@
-//! The words of the settings' faults, as an operator reads them: each kind of fault, of a value that is
-//! found, and of a text that is none.
+//! The words of the settings' faults, as an operator reads them: each kind of fault, of a value
+//! that is found, and of a text that is no name or token.
 
+use crate::fixtures::{expect_number, expect_text};
 use crate::users::{TOP, fault_of};
-use std::alloc::Global;
+use std::alloc::{AllocError, Global};
 use std::process::Abort;
 use std::test::Fail;
 use tc_users::SettingsFault;
 
-/// The words of a text's fault.
-fn words_of(alloc: Global, top: &str, users: &str) -> Result<String, Fail> {
-    match fault_of(alloc, top, users)? {
-        Some(fault) => Ok(format!(in alloc; "{fault}")?),
-        None => Ok(format!(in alloc; "no fault")?),
+/// A fault's words.
+fn words(alloc: Global, fault: Option<SettingsFault>) -> Result<String, AllocError> {
+    match fault {
+        Some(fault) => format!(in alloc; "{fault}"),
+        None => String::from_str(alloc, "no fault"),
     }
 }
 
+/// Two texts, and the words of their fault.
+type Worded = (&'static str, &'static str, &'static str);
+
 /// Whether the faults of texts have these words.
-fn expect_words(rt: &(impl AllocGlobal + Abort), rows: &[(&str, &str, &str)]) -> Result<(), Fail> {
+fn expect_words(rt: &(impl AllocGlobal + Abort), rows: &[Worded]) -> Result<(), Fail> {
     for (top, users, want) in rows {
-        let words = words_of(rt.alloc(), top, users)?;
-        assert_eq!(rt; words.as_str(), *want, "{top}{users}");
+        let fault = fault_of(rt.alloc(), top, users)?;
+        expect_text(rt, words(rt.alloc(), fault)?.as_str(), want, users);
     }
     Ok(())
 }
 
 /// Fields that are missing, and other things than a field wants.
-const MISSING: [(&str, &str, &str); 16] = [
+const MISSING: [Worded; 16] = [
     (
         "",
         "",
@@ -119,7 +123,7 @@ fn a_field_that_is_missing_is_named(rt: HostRuntime) -> Result<(), Fail> {
 }
 
 /// Fields that have a value of their kind, but no good one.
-const NO_GOOD: [(&str, &str, &str); 12] = [
+const NO_GOOD: [Worded; 12] = [
     (
         "listen = \"a\"\nworkers = 65\n",
         "",
@@ -195,8 +199,11 @@ fn a_field_that_is_no_good_is_shown(rt: HostRuntime) -> Result<(), Fail> {
     expect_words(&rt, &NO_GOOD)
 }
 
-/// Faults that no text of these tests has, their numbers and their words.
-const OF_NO_TEXT: [(SettingsFault, u8, &str); 2] = [
+/// A fault, its number and its words.
+type Told = (SettingsFault, u64, &'static str);
+
+/// Faults that no text of these tests has.
+const OF_NO_TEXT: [Told; 2] = [
     (SettingsFault::NoMemory, 9, "out of memory"),
     (
         SettingsFault::TooManyUsers {
@@ -207,19 +214,23 @@ const OF_NO_TEXT: [(SettingsFault, u8, &str); 2] = [
     ),
 ];
 
-#[test]
-fn want_of_memory_and_too_many_users_are_told(rt: HostRuntime) -> Result<(), Fail> {
-    for (fault, number, want) in &OF_NO_TEXT {
-        let words = format!(in rt.alloc(); "{fault}")?;
-        assert_eq!(rt; words.as_str(), *want);
-        assert_eq!(rt; fault.number(), *number, "{want}");
+fn expect_told(rt: &(impl AllocGlobal + Abort), rows: &[Told]) -> Result<(), Fail> {
+    for (fault, number, want) in rows {
+        expect_number(rt, u64::from(fault.number()), *number, want);
+        expect_text(rt, words(rt.alloc(), Some(*fault))?.as_str(), want, want);
     }
     Ok(())
 }
 
 #[test]
+fn want_of_memory_and_too_many_users_are_told(rt: HostRuntime) -> Result<(), Fail> {
+    expect_told(&rt, &OF_NO_TEXT)
+}
+
+#[test]
 fn a_text_that_is_not_toml_is_shown_by_line_and_column(rt: HostRuntime) -> Result<(), Fail> {
-    let words = words_of(rt.alloc(), "workers = 4\nx =", "")?;
+    let fault = fault_of(rt.alloc(), "workers = 4\nx =", "")?;
+    let words = words(rt.alloc(), fault)?;
     let begin = "the settings are not TOML: TOML parse error at line 2, column 4\n";
     assert!(rt; words.as_str().starts_with(begin), "{words}");
     Ok(())
