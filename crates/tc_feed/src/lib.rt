@@ -12,8 +12,6 @@ mod laws;
 mod line_end;
 mod reading;
 mod request;
-#[cfg(test)]
-mod tests;
 
 pub use feed::Feed;
 pub use laws::cutting;

@@ -19,8 +19,6 @@ mod parse;
 mod retrieval;
 mod spelling;
 mod storage_line;
-#[cfg(test)]
-mod tests;
 mod tokens;
 mod unkeyed;
 mod verb;

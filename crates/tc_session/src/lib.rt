@@ -10,8 +10,6 @@ mod ending;
 mod output;
 mod reply;
 mod session;
-#[cfg(test)]
-mod tests;
 mod want;
 
 pub use session::Session;

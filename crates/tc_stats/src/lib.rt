@@ -9,8 +9,6 @@ mod hits;
 mod noting;
 mod outcome;
 mod rows;
-#[cfg(test)]
-mod tests;
 
 pub use counters::{Counters, Statistics};
 pub use hits::{Hit, Hits};

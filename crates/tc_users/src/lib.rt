@@ -10,13 +10,9 @@
 #![tactic(auto)]
 
 mod checks;
-#[cfg(test)]
-mod fault_tests;
 mod fields;
 mod settings;
 mod settings_fault;
-#[cfg(test)]
-mod tests;
 mod text;
 mod user_no;
 mod user_table;

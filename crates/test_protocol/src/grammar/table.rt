@@ -1,4 +1,7 @@
-//! The table of lines: what each spells where a block may have 256 bytes, made by hand.
+//! The table of lines: what each spells where a block may have 256 bytes, made by hand; and the
+//! faults, with their numbers and texts.
+
+use tc_grammar::Fault;
 
 const UNKNOWN: &str = "Refused { fault: UnknownCommand, quiet: false, skip: 0 }";
 
@@ -58,71 +61,87 @@ pub const RETRIEVAL: [(&str, &str); 17] = [
 pub const STORAGE: [(&str, &str); 16] = [
     (
         "set k 0 0 5",
-        r#"NeedsBlock(Head { kind: Set, key: "k", flags: 0, exptime: 0, cas_unique: 0, quiet: false }, 5)"#,
+        "NeedsBlock(Head { kind: Set, key: \"k\", flags: 0, exptime: 0, \
+            cas_unique: 0, quiet: false }, 5)",
     ),
     (
         "set k 4294967295 -2147483648 256 noreply",
-        r#"NeedsBlock(Head { kind: Set, key: "k", flags: 4294967295, exptime: -2147483648, cas_unique: 0, quiet: true }, 256)"#,
+        "NeedsBlock(Head { kind: Set, key: \"k\", flags: 4294967295, exptime: -2147483648, \
+            cas_unique: 0, quiet: true }, 256)",
     ),
     (
         "set k 0 4294967295 0",
-        r#"NeedsBlock(Head { kind: Set, key: "k", flags: 0, exptime: 4294967295, cas_unique: 0, quiet: false }, 0)"#,
+        "NeedsBlock(Head { kind: Set, key: \"k\", flags: 0, exptime: 4294967295, \
+            cas_unique: 0, quiet: false }, 0)",
     ),
     (
         "set k 0 -0 5",
-        r#"NeedsBlock(Head { kind: Set, key: "k", flags: 0, exptime: 0, cas_unique: 0, quiet: false }, 5)"#,
+        "NeedsBlock(Head { kind: Set, key: \"k\", flags: 0, exptime: 0, \
+            cas_unique: 0, quiet: false }, 5)",
     ),
     (
         "set k 0 -00 5",
-        r#"NeedsBlock(Head { kind: Set, key: "k", flags: 0, exptime: 0, cas_unique: 0, quiet: false }, 5)"#,
+        "NeedsBlock(Head { kind: Set, key: \"k\", flags: 0, exptime: 0, \
+            cas_unique: 0, quiet: false }, 5)",
     ),
     (
         "set k 00 007 05",
-        r#"NeedsBlock(Head { kind: Set, key: "k", flags: 0, exptime: 7, cas_unique: 0, quiet: false }, 5)"#,
+        "NeedsBlock(Head { kind: Set, key: \"k\", flags: 0, exptime: 7, \
+            cas_unique: 0, quiet: false }, 5)",
     ),
     (
         "set k 0 0 00000000000000000005",
-        r#"NeedsBlock(Head { kind: Set, key: "k", flags: 0, exptime: 0, cas_unique: 0, quiet: false }, 5)"#,
+        "NeedsBlock(Head { kind: Set, key: \"k\", flags: 0, exptime: 0, \
+            cas_unique: 0, quiet: false }, 5)",
     ),
     (
         "add k 0 0 1",
-        r#"NeedsBlock(Head { kind: Add, key: "k", flags: 0, exptime: 0, cas_unique: 0, quiet: false }, 1)"#,
+        "NeedsBlock(Head { kind: Add, key: \"k\", flags: 0, exptime: 0, \
+            cas_unique: 0, quiet: false }, 1)",
     ),
     (
         "replace k 0 0 1",
-        r#"NeedsBlock(Head { kind: Replace, key: "k", flags: 0, exptime: 0, cas_unique: 0, quiet: false }, 1)"#,
+        "NeedsBlock(Head { kind: Replace, key: \"k\", flags: 0, exptime: 0, \
+            cas_unique: 0, quiet: false }, 1)",
     ),
     (
         "append k 0 0 1",
-        r#"NeedsBlock(Head { kind: Append, key: "k", flags: 0, exptime: 0, cas_unique: 0, quiet: false }, 1)"#,
+        "NeedsBlock(Head { kind: Append, key: \"k\", flags: 0, exptime: 0, \
+            cas_unique: 0, quiet: false }, 1)",
     ),
     (
         "prepend k 0 0 1",
-        r#"NeedsBlock(Head { kind: Prepend, key: "k", flags: 0, exptime: 0, cas_unique: 0, quiet: false }, 1)"#,
+        "NeedsBlock(Head { kind: Prepend, key: \"k\", flags: 0, exptime: 0, \
+            cas_unique: 0, quiet: false }, 1)",
     ),
     (
         "cas k 1 2 3 4",
-        r#"NeedsBlock(Head { kind: Cas, key: "k", flags: 1, exptime: 2, cas_unique: 4, quiet: false }, 3)"#,
+        "NeedsBlock(Head { kind: Cas, key: \"k\", flags: 1, exptime: 2, \
+            cas_unique: 4, quiet: false }, 3)",
     ),
     (
         "cas k 0 0 3 18446744073709551615 noreply",
-        r#"NeedsBlock(Head { kind: Cas, key: "k", flags: 0, exptime: 0, cas_unique: 18446744073709551615, quiet: true }, 3)"#,
+        "NeedsBlock(Head { kind: Cas, key: \"k\", flags: 0, exptime: 0, \
+            cas_unique: 18446744073709551615, quiet: true }, 3)",
     ),
     (
         "cas k 0 0 3 4",
-        r#"NeedsBlock(Head { kind: Cas, key: "k", flags: 0, exptime: 0, cas_unique: 4, quiet: false }, 3)"#,
+        "NeedsBlock(Head { kind: Cas, key: \"k\", flags: 0, exptime: 0, \
+            cas_unique: 4, quiet: false }, 3)",
     ),
     (
         "set k 0 -00000000002147483648 5",
-        r#"NeedsBlock(Head { kind: Set, key: "k", flags: 0, exptime: -2147483648, cas_unique: 0, quiet: false }, 5)"#,
+        "NeedsBlock(Head { kind: Set, key: \"k\", flags: 0, exptime: -2147483648, \
+            cas_unique: 0, quiet: false }, 5)",
     ),
     (
         "set k 0 0 0 noreply",
-        r#"NeedsBlock(Head { kind: Set, key: "k", flags: 0, exptime: 0, cas_unique: 0, quiet: true }, 0)"#,
+        "NeedsBlock(Head { kind: Set, key: \"k\", flags: 0, exptime: 0, \
+            cas_unique: 0, quiet: true }, 0)",
     ),
 ];
 
-/// Refused storage lines: a length is the fifth token, and a refused line skips it and two bytes more.
+/// Refused storage lines: a length is the fifth token; a refused line skips it and two bytes more.
 pub const REFUSED_STORAGE: [(&str, &str); 28] = [
     ("set k 4294967296 0 5", BAD_FORMAT_SKIPS_7),
     ("set k 0 4294967296 5", BAD_FORMAT_SKIPS_7),
@@ -282,4 +301,72 @@ pub const UNKEYED: [(&str, &str); 23] = [
     ("verbosity noreply", BAD_FORMAT),
     ("verbosity 4294967296", BAD_FORMAT),
     ("stats noreply", BAD_FORMAT),
+];
+
+/// A key of 251 bytes.
+pub const LONG_KEY: [(&str, &str); 1] = [(
+    "set kkkkkkkkkkkkkkkkkkkkkkkkkkkkkkkkkkkkkkkkkkkkkkkkkkkkkkkkkkkkkkkkkkkkkkkkkkkkkkkk\
+            kkkkkkkkkkkkkkkkkkkkkkkkkkkkkkkkkkkkkkkkkkkkkkkkkkkkkkkkkkkkkkkkkkkkkkkkkkkkkkkk\
+            kkkkkkkkkkkkkkkkkkkkkkkkkkkkkkkkkkkkkkkkkkkkkkkkkkkkkkkkkkkkkkkkkkkkkkkkkkkkkkkk\
+            kkkkkkkkkkk 0 0 1",
+    "Refused { fault: BadFormat, quiet: false, skip: 3 }",
+)];
+
+/// Lines where a block may have 1,048,576 bytes.
+pub const AT_A_MEBIBYTE: [(&str, &str); 2] = [
+    (
+        "set k 0 0 1048576",
+        "NeedsBlock(Head { kind: Set, key: \"k\", flags: 0, exptime: 0, \
+            cas_unique: 0, quiet: false }, 1048576)",
+    ),
+    (
+        "set k 0 0 1048577",
+        "Refused { fault: TooLarge, quiet: false, skip: 1048579 }",
+    ),
+];
+
+/// Streams that begin with a command, one of each kind.
+pub const COPIED: [&str; 11] = [
+    "gets a b c\r\n",
+    "gat 5 a_key_of_more_than_thirty_two_bytes\r\n",
+    "delete k\r\n",
+    "incr k 5 noreply\r\n",
+    "touch k -1\r\n",
+    "flush_all 9\r\n",
+    "verbosity 3\r\n",
+    "stats\r\n",
+    "version\r\n",
+    "quit\r\n",
+    "cas k 1 2 3 4\r\nabc\r\n",
+];
+
+/// Faults, their numbers and their texts.
+pub const FAULTS: [(Fault, u64, &str); 11] = [
+    (Fault::UnknownCommand, 1, "ERROR"),
+    (Fault::BadFormat, 2, "CLIENT_ERROR bad command line format"),
+    (Fault::BadChunk, 3, "CLIENT_ERROR bad data chunk"),
+    (Fault::LineTooLong, 4, "CLIENT_ERROR line too long"),
+    (
+        Fault::TooLarge,
+        5,
+        "SERVER_ERROR object too large for cache",
+    ),
+    (Fault::NoMemory, 6, "SERVER_ERROR out of memory"),
+    (
+        Fault::NotNumeric,
+        7,
+        "CLIENT_ERROR cannot increment or decrement non-numeric value",
+    ),
+    (
+        Fault::BadDelta,
+        8,
+        "CLIENT_ERROR invalid numeric delta argument",
+    ),
+    (Fault::Unauthenticated, 9, "CLIENT_ERROR unauthenticated"),
+    (
+        Fault::AuthenticationFailure,
+        10,
+        "CLIENT_ERROR authentication failure",
+    ),
+    (Fault::CasWorn, 11, "SERVER_ERROR cas numbers exhausted"),
 ];

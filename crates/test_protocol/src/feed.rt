@@ -1,0 +1,318 @@
+//! What no clause says of streams: each call with memory to spare, and requests by hand of streams
+//! cut at every byte. A call that meets a refused allocation is made again.
+
+use crate::fixtures::{expect_number, expect_text};
+use std::alloc::{AllocError, Global};
+use std::process::Abort;
+use std::test::Fail;
+use tc_feed::{Feed, Request, cutting};
+use tc_grammar::{Command, Head};
+use tc_item::{Blob, NoMemory};
+
+/// The limit of blocks in these tests.
+const LIMIT: u32 = 16;
+
+/// What is shown where no whole request is there.
+const NOTHING: &str = "nothing";
+
+const GET_A: &str = r#"Ask(Get { form: Bare, keys: ["a"] })"#;
+
+const GET_B: &str = r#"Ask(Get { form: Bare, keys: ["b"] })"#;
+
+const VERSION: &str = "Ask(Version)";
+
+const BAD_CHUNK: &str = "Refused { fault: BadChunk, quiet: false }";
+
+const BAD_FORMAT: &str = "Refused { fault: BadFormat, quiet: false }";
+
+const TOO_LARGE: &str = "Refused { fault: TooLarge, quiet: false }";
+
+const UNKNOWN: &str = "Refused { fault: UnknownCommand, quiet: false }";
+
+/// Blocks that hold line ends or are too long by one, faults that skip, and commands between them.
+const STREAM: &str = "get a\r\n\
+    set k 0 0 7\r\n\r\nEND\r\n\r\n\
+    set k 0 0 2\r\nabc\r\n\
+    set k 0 0 2 noreply\r\nab\n\r\
+    set k 0 0 17\r\nget x\r\nget y\r\nzzz\n\n\
+    set k 0 0 17 noreply\nset k 0 0 17\r\nset\r\n\
+    set k 0 x 5\r\n\nget z\n\
+    set k 0 0 16\r\nquit\r\nquit\r\nquit\r\n\
+    VERSION\n\
+    set k 0 0 0\r\n\r\n\
+    version\r\n";
+
+/// Its requests, and a storage command as its name, its key and its block.
+const REQUESTS: [&str; 12] = [
+    GET_A,
+    r#"Set "k" "\r\nEND\r\n""#,
+    BAD_CHUNK,
+    UNKNOWN,
+    "Refused { fault: BadChunk, quiet: true }",
+    TOO_LARGE,
+    "Refused { fault: TooLarge, quiet: true }",
+    BAD_FORMAT,
+    r#"Set "k" "quit\r\nquit\r\nquit""#,
+    UNKNOWN,
+    r#"Set "k" """#,
+    VERSION,
+];
+
+/// Takes a piece, once more where memory was refused.
+fn push(feed: &mut Feed, piece: &[u8]) -> Result<(), NoMemory> {
+    match feed.push(piece) {
+        Ok(()) => Ok(()),
+        Err(NoMemory) => feed.push(piece),
+    }
+}
+
+/// The next request, looked for once more where memory was refused.
+fn next(alloc: Global, feed: &mut Feed, limit: u32) -> Result<Option<Request>, NoMemory> {
+    match feed.next(alloc, limit) {
+        Ok(request) => Ok(request),
+        Err(NoMemory) => feed.next(alloc, limit),
+    }
+}
+
+/// A storage command as its name, its key and its block.
+fn store_text(alloc: Global, head: &Head, blob: &Blob) -> Result<String, AllocError> {
+    let block = str::from_utf8(blob.as_slice()).unwrap_or("no text");
+    format!(in alloc; "{:?} {:?} {block:?}", head.kind, head.key)
+}
+
+/// A request as text.
+fn text_of(alloc: Global, request: &Request) -> Result<String, AllocError> {
+    match request {
+        Request::Ask(Command::Store(head, blob)) => store_text(alloc, head, blob),
+        _ => format!(in alloc; "{request:?}"),
+    }
+}
+
+/// The same, where there is one.
+fn text_of_next(alloc: Global, request: &Option<Request>) -> Result<String, AllocError> {
+    match request {
+        Some(request) => text_of(alloc, request),
+        None => String::from_str(alloc, NOTHING),
+    }
+}
+
+/// The next request as text.
+fn shown(alloc: Global, feed: &mut Feed, limit: u32) -> Result<String, Fail> {
+    let request = next(alloc, feed, limit)?;
+    Ok(text_of_next(alloc, &request)?)
+}
+
+/// The request of this number of the stream.
+fn request_at(number: usize) -> &'static str {
+    match REQUESTS.get(number) {
+        Some(request) => *request,
+        None => "no request is left",
+    }
+}
+
+/// Whether there is a next request, which is the one of this number.
+fn expect_request(
+    rt: &(impl AllocGlobal + Abort),
+    feed: &mut Feed,
+    number: usize,
+) -> Result<bool, Fail> {
+    let shown = shown(rt.alloc(), feed, LIMIT)?;
+    if shown.as_str() == NOTHING {
+        return Ok(false);
+    }
+    expect_text(rt, shown.as_str(), request_at(number), "stream");
+    Ok(true)
+}
+
+/// Takes a piece and all requests that are there then, from this number on; the number of the next.
+fn expect_piece(
+    rt: &(impl AllocGlobal + Abort),
+    feed: &mut Feed,
+    piece: &[u8],
+    number: usize,
+) -> Result<usize, Fail> {
+    push(feed, piece)?;
+    let mut number = number;
+    for _ in 0..=REQUESTS.len() {
+        if !expect_request(rt, feed, number)? {
+            return Ok(number);
+        }
+        number = number.saturating_add(1);
+    }
+    Ok(number)
+}
+
+/// Whether all requests were found and nothing is unread.
+fn expect_end(rt: &impl Abort, feed: &Feed, number: usize) {
+    expect_number(rt, number as u64, REQUESTS.len() as u64, "found");
+    expect_number(rt, feed.kept() as u64, 0, "kept");
+}
+
+/// Whether the stream holds the same requests where it comes in these two pieces.
+fn expect_cut(rt: &(impl AllocGlobal + Abort), first: &[u8], second: &[u8]) -> Result<(), Fail> {
+    let mut feed = Feed::new(rt.alloc());
+    let found = expect_piece(rt, &mut feed, first, 0)?;
+    let found = expect_piece(rt, &mut feed, second, found)?;
+    expect_end(rt, &feed, found);
+    Ok(())
+}
+
+#[test]
+fn a_stream_cut_in_two_anywhere_holds_the_same_requests(rt: HostRuntime) -> Result<(), Fail> {
+    cutting();
+    for cut in 0..=STREAM.len() {
+        let (first, second) = STREAM.as_bytes().split_at(cut);
+        expect_cut(&rt, first, second)?;
+    }
+    Ok(())
+}
+
+#[test]
+fn a_stream_that_comes_byte_by_byte_holds_the_same_requests(rt: HostRuntime) -> Result<(), Fail> {
+    let mut feed = Feed::new(rt.alloc());
+    let mut found = 0;
+    for byte in STREAM.as_bytes() {
+        found = expect_piece(&rt, &mut feed, &[*byte], found)?;
+    }
+    expect_end(&rt, &feed, found);
+    Ok(())
+}
+
+/// A piece that comes, the limit, the next request then, and how many bytes are unread after it.
+type Look = (&'static str, u32, &'static str, u64);
+
+/// Takes a piece, and looks for a request behind it.
+fn expect_look(rt: &(impl AllocGlobal + Abort), feed: &mut Feed, look: &Look) -> Result<(), Fail> {
+    let (piece, limit, request, kept) = *look;
+    push(feed, piece.as_bytes())?;
+    let shown = shown(rt.alloc(), feed, limit)?;
+    expect_text(rt, shown.as_str(), request, piece);
+    expect_number(rt, feed.kept() as u64, kept, piece);
+    Ok(())
+}
+
+fn expect_looks(
+    rt: &(impl AllocGlobal + Abort),
+    feed: &mut Feed,
+    looks: &[Look],
+) -> Result<(), Fail> {
+    for look in looks {
+        expect_look(rt, feed, look)?;
+    }
+    Ok(())
+}
+
+/// Streams up to the byte before the last one of their first request, and that byte.
+const FIRST_REQUESTS: [[Look; 2]; 7] = [
+    [("get a\r", LIMIT, NOTHING, 6), ("\n", LIMIT, GET_A, 0)],
+    [("get a", LIMIT, NOTHING, 5), ("\n", LIMIT, GET_A, 0)],
+    [
+        ("set k 0 0 2\r\nab\r", LIMIT, NOTHING, 16),
+        ("\n", LIMIT, r#"Set "k" "ab""#, 0),
+    ],
+    [
+        ("set k 0 0 2\r\nabc", LIMIT, NOTHING, 16),
+        ("d", LIMIT, BAD_CHUNK, 0),
+    ],
+    [
+        ("set k 0 0 17\r", LIMIT, NOTHING, 13),
+        ("\n", LIMIT, TOO_LARGE, 0),
+    ],
+    [
+        ("set k 0 x 2\r", LIMIT, NOTHING, 12),
+        ("\n", LIMIT, BAD_FORMAT, 0),
+    ],
+    [
+        ("set k 0 0 2 noreply\r\nab", LIMIT, NOTHING, 23),
+        ("\r", LIMIT, NOTHING, 24),
+    ],
+];
+
+fn expect_each(rt: &(impl AllocGlobal + Abort), streams: &[[Look; 2]]) -> Result<(), Fail> {
+    for looks in streams {
+        expect_looks(rt, &mut Feed::new(rt.alloc()), looks)?;
+    }
+    Ok(())
+}
+
+#[test]
+fn a_request_is_whole_at_its_last_byte_and_no_earlier(rt: HostRuntime) -> Result<(), Fail> {
+    expect_each(&rt, &FIRST_REQUESTS)
+}
+
+/// Takes so many pieces that are alike.
+fn push_often(feed: &mut Feed, piece: &[u8], times: usize) -> Result<(), NoMemory> {
+    for _ in 0..times {
+        push(feed, piece)?;
+    }
+    Ok(())
+}
+
+/// Looks at a feed that holds a line of 65,536 bytes without its line feed.
+fn expect_after_longest_line(
+    rt: &(impl AllocGlobal + Abort),
+    begin: &str,
+    looks: &[Look],
+) -> Result<(), Fail> {
+    let mut feed = Feed::new(rt.alloc());
+    push(&mut feed, begin.as_bytes())?;
+    push_often(&mut feed, b" ", 65_536_usize.saturating_sub(begin.len()))?;
+    expect_looks(rt, &mut feed, looks)
+}
+
+const LONGEST_LINE: [Look; 2] = [("", LIMIT, NOTHING, 65_536), ("\n", LIMIT, GET_A, 0)];
+
+#[test]
+fn a_line_of_65536_bytes_is_read(rt: HostRuntime) -> Result<(), Fail> {
+    expect_after_longest_line(&rt, "get a", &LONGEST_LINE)
+}
+
+const LINE_TOO_LONG: &str = "Refused { fault: LineTooLong, quiet: false }";
+
+const BEYOND_LONGEST_LINE: [Look; 2] = [
+    ("\rversion\r\n", LIMIT, LINE_TOO_LONG, 9),
+    ("", LIMIT, VERSION, 0),
+];
+
+#[test]
+fn a_line_is_too_long_at_its_65537th_byte(rt: HostRuntime) -> Result<(), Fail> {
+    expect_after_longest_line(&rt, "get a", &BEYOND_LONGEST_LINE)
+}
+
+const LONGEST_WAIT: [Look; 2] = [
+    ("\n0123456789abcdef\r", LIMIT, NOTHING, 65_554),
+    ("\n", LIMIT, r#"Set "k" "0123456789abcdef""#, 0),
+];
+
+#[test]
+fn the_most_that_waits_is_a_longest_line_and_all_but_a_byte_of_its_block(
+    rt: HostRuntime,
+) -> Result<(), Fail> {
+    expect_after_longest_line(&rt, "set k 0 0 16", &LONGEST_WAIT)
+}
+
+/// A block and its line end of 1,048,578 bytes, of which the first 1,048,572 come between these.
+const SKIPPING: [Look; 1] = [("set k 0 0 1048576\r\n", LIMIT, TOO_LARGE, 0)];
+
+const SKIPPED: [Look; 2] = [("get a\n", LIMIT, NOTHING, 0), ("get b\n", LIMIT, GET_B, 0)];
+
+#[test]
+fn bytes_that_are_skipped_are_not_kept(rt: HostRuntime) -> Result<(), Fail> {
+    let mut feed = Feed::new(rt.alloc());
+    expect_looks(&rt, &mut feed, &SKIPPING)?;
+    push_often(&mut feed, b"get a\n", 174_762)?;
+    expect_looks(&rt, &mut feed, &SKIPPED)
+}
+
+/// A line whose block has not come, at its length and below.
+const LOWER_LIMIT: [[Look; 2]; 1] = [[
+    ("set k 0 0 17\r\nab", 17, NOTHING, 16),
+    ("", LIMIT, TOO_LARGE, 0),
+]];
+
+#[test]
+fn a_line_whose_block_has_not_come_is_judged_by_the_limit_handed_in(
+    rt: HostRuntime,
+) -> Result<(), Fail> {
+    expect_each(&rt, &LOWER_LIMIT)
+}

@@ -1,0 +1,458 @@
+//! What no clause says of connections: logins and reply texts by hand, and each call with memory to
+//! spare. A call that meets a refused allocation is made again.
+ghost use Rattle.std.specs.Prelude.{◌≤◌, OnOk};
+
+mod table;
+
+use crate::fixtures::{expect_bytes, users};
+use crate::stats::{look_up, stats_of};
+use std::alloc::Global;
+use std::process::Abort;
+use std::test::Fail;
+use table::{
+    ANSWERED, BEFORE_A_LOGIN, CALLED, CAME_TO, COUNTERS, FAULTS, FOUND, LINE_TOO_LONG, LOGINS,
+    LOOK_UPS, Left, MISS, QUITTING, REFUSALS, REPLIES, Reply, SHUT, STATS, STAYING, STREAM, Step,
+    Turn, UNSENT, Wanted,
+};
+use tc_grammar::Command;
+use tc_item::NoMemory;
+use tc_session::{Session, Want};
+use tc_stats::Outcome;
+use tc_users::Users;
+
+/// Takes a piece, once more where memory was refused.
+fn push(session: &mut Session, piece: &[u8]) -> Result<(), NoMemory> {
+    match session.push(piece) {
+        Ok(()) => Ok(()),
+        Err(NoMemory) => session.push(piece),
+    }
+}
+
+/// What the next request wants, looked for once more where memory was refused.
+fn next(alloc: Global, session: &mut Session, users: &Users) -> Result<Want, NoMemory>
+    ensures { OnOk result (64 ≤ session.new.room) }
+{
+    match session.next(alloc, users) {
+        Ok(want) => Ok(want),
+        Err(NoMemory) => session.next(alloc, users),
+    }
+}
+
+/// What a request wants, without the command.
+fn wanted_of(want: &Want) -> Wanted {
+    match want {
+        Want::Nothing => Wanted::Nothing,
+        Want::Said => Wanted::Said,
+        Want::Call(user, _) => Wanted::Call(user.number()),
+        Want::Close => Wanted::Close,
+    }
+}
+
+/// What the next request wants, without the command.
+fn wanted(alloc: Global, session: &mut Session, users: &Users) -> Result<Wanted, NoMemory>
+    ensures { OnOk result (64 ≤ session.new.room) }
+{
+    let want = next(alloc, session, users)?;
+    Ok(wanted_of(&want))
+}
+
+/// A connection that is new, or that alice's login has bound, with nothing to send.
+fn opened(alloc: Global, users: &Users, bound: bool) -> Result<Session, NoMemory> {
+    let mut session = Session::new(alloc);
+    if bound {
+        push(&mut session, b"set auth 0 0 9 noreply\r\nalice one\r\n")?;
+        wanted(alloc, &mut session, users)?;
+    }
+    Ok(session)
+}
+
+/// Whether a request wants this here.
+fn expect_wanted(rt: &impl Abort, got: Wanted, want: Wanted, at: &str) {
+    assert_eq!(rt; got, want, "{at}");
+}
+
+/// Takes a turn.
+fn expect_turn(
+    rt: &(impl AllocGlobal + Abort),
+    session: &mut Session,
+    users: &Users,
+    turn: &Turn,
+) -> Result<(), NoMemory> {
+    let (said, want, out) = *turn;
+    push(session, said.as_bytes())?;
+    let got = wanted(rt.alloc(), session, users)?;
+    expect_wanted(rt, got, want, said);
+    expect_bytes(rt, session.out(), out.as_bytes(), said);
+    Ok(())
+}
+
+/// Takes a turn on a connection, which makes this of `version` then.
+fn expect_owner(
+    rt: &(impl AllocGlobal + Abort),
+    session: &mut Session,
+    users: &Users,
+    turn: &Turn,
+    version: Wanted,
+) -> Result<(), NoMemory> {
+    expect_turn(rt, session, users, turn)?;
+    push(session, b"version\r\n")?;
+    let got = wanted(rt.alloc(), session, users)?;
+    expect_wanted(rt, got, version, turn.0);
+    Ok(())
+}
+
+/// Takes each turn on a connection of its own, which is new, or alice's.
+fn expect_each_owner(
+    rt: &(impl AllocGlobal + Abort),
+    users: &Users,
+    bound: bool,
+    rows: &[(Turn, Wanted)],
+) -> Result<(), NoMemory> {
+    for (turn, version) in rows {
+        let mut session = opened(rt.alloc(), users, bound)?;
+        expect_owner(rt, &mut session, users, turn, *version)?;
+    }
+    Ok(())
+}
+
+/// The same, of alice and bob.
+fn expect_owners(
+    rt: &(impl AllocGlobal + Abort),
+    bound: bool,
+    rows: &[(Turn, Wanted)],
+) -> Result<(), Fail> {
+    let users = users(rt.alloc())?;
+    expect_each_owner(rt, &users, bound, rows)?;
+    Ok(())
+}
+
+#[test]
+fn a_login_binds_to_the_user_whose_name_and_token_it_has(rt: HostRuntime) -> Result<(), Fail> {
+    expect_owners(&rt, false, &LOGINS)
+}
+
+#[test]
+fn nothing_but_a_login_is_done_before_it(rt: HostRuntime) -> Result<(), Fail> {
+    expect_owners(&rt, false, &BEFORE_A_LOGIN)
+}
+
+#[test]
+fn a_bound_connection_stays_its_users(rt: HostRuntime) -> Result<(), Fail> {
+    expect_owners(&rt, true, &STAYING)
+}
+
+#[test]
+fn a_bound_connection_says_its_faults_on_its_own(rt: HostRuntime) -> Result<(), Fail> {
+    expect_owners(&rt, true, &FAULTS)
+}
+
+#[test]
+fn a_bound_command_is_handed_to_its_users_cache(rt: HostRuntime) -> Result<(), Fail> {
+    expect_owners(&rt, true, &CALLED)
+}
+
+/// How much is unread, and whether the connection is closed.
+fn left_of(session: &Session) -> Left {
+    let kept = session.kept();
+    if session.is_closed() {
+        Left::Closed(kept)
+    } else {
+        Left::Open(kept)
+    }
+}
+
+/// Whether this is left here.
+fn expect_left(rt: &impl Abort, got: Left, want: Left, at: &str) {
+    assert_eq!(rt; got, want, "{at}");
+}
+
+/// Takes steps.
+fn expect_steps(
+    rt: &(impl AllocGlobal + Abort),
+    session: &mut Session,
+    users: &Users,
+    steps: &[Step],
+) -> Result<(), NoMemory> {
+    for (sent, turn, left) in steps {
+        session.sent(*sent);
+        expect_turn(rt, session, users, turn)?;
+        expect_left(rt, left_of(session), *left, turn.0);
+    }
+    Ok(())
+}
+
+/// Takes steps behind so many bytes `x`, on a connection that is new, or alice's.
+fn expect_talk(
+    rt: &(impl AllocGlobal + Abort),
+    bound: bool,
+    filled: usize,
+    steps: &[Step],
+) -> Result<(), Fail> {
+    let users = users(rt.alloc())?;
+    let mut session = opened(rt.alloc(), &users, bound)?;
+    fill(&mut session, filled)?;
+    expect_steps(rt, &mut session, &users, steps)?;
+    Ok(())
+}
+
+/// Takes so many bytes `x`, one by one.
+fn fill(session: &mut Session, filled: usize) -> Result<(), NoMemory> {
+    for _ in 0..filled {
+        push(session, b"x")?;
+    }
+    Ok(())
+}
+
+#[test]
+fn a_line_too_long_is_answered_and_closes(rt: HostRuntime) -> Result<(), Fail> {
+    expect_talk(&rt, false, 65_535, &LINE_TOO_LONG)?;
+    expect_talk(&rt, true, 65_535, &LINE_TOO_LONG)
+}
+
+#[test]
+fn quit_closes_with_no_reply_and_nothing_is_read_after_it(rt: HostRuntime) -> Result<(), Fail> {
+    expect_talk(&rt, false, 0, &QUITTING)?;
+    expect_talk(&rt, true, 0, &QUITTING)
+}
+
+/// Takes steps, is shut with a whole line unread, and takes steps.
+fn expect_shut(
+    rt: &(impl AllocGlobal + Abort),
+    session: &mut Session,
+    users: &Users,
+    before: &[Step],
+    after: &[Step],
+) -> Result<(), NoMemory> {
+    expect_steps(rt, session, users, before)?;
+    push(session, b"\r\n")?;
+    session.shut();
+    expect_steps(rt, session, users, after)
+}
+
+#[test]
+fn what_was_sent_is_given_up_and_the_rest_waits(rt: HostRuntime) -> Result<(), Fail> {
+    let users = users(rt.alloc())?;
+    let mut session = Session::new(rt.alloc());
+    expect_shut(&rt, &mut session, &users, &UNSENT, &SHUT)?;
+    Ok(())
+}
+
+/// Answers a command; where memory was refused, that is said, and then it is tried again.
+fn answer(
+    rt: &(impl AllocGlobal + Abort),
+    session: &mut Session,
+    users: &Users,
+    command: &Command,
+    outcome: &Outcome,
+) -> Result<(), NoMemory>
+    requires { 64 ≤ session.old.room }
+{
+    if session.answer(command, outcome).is_ok() {
+        return Ok(());
+    }
+    let refused = b"SERVER_ERROR out of memory\r\n";
+    expect_bytes(rt, session.out(), refused, "refused");
+    session.sent(28);
+    wanted(rt.alloc(), session, users)?;
+    session.answer(command, outcome)
+}
+
+/// Does what a request wants, which comes to this outcome where it is for a cache.
+fn serve(
+    rt: &(impl AllocGlobal + Abort),
+    session: &mut Session,
+    users: &Users,
+    want: &Want,
+    outcome: &Outcome,
+) -> Result<(), NoMemory>
+    requires { 64 ≤ session.old.room }
+{
+    match want {
+        Want::Call(_, command) => answer(rt, session, users, command, outcome),
+        _ => Ok(()),
+    }
+}
+
+/// Does the next request.
+fn serve_next(
+    rt: &(impl AllocGlobal + Abort),
+    session: &mut Session,
+    users: &Users,
+    outcome: &Outcome,
+) -> Result<Wanted, NoMemory> {
+    let want = next(rt.alloc(), session, users)?;
+    serve(rt, session, users, &want, outcome)?;
+    Ok(wanted_of(&want))
+}
+
+/// What is to be sent for an outcome of a command on a connection.
+fn expect_reply(
+    rt: &(impl AllocGlobal + Abort),
+    session: &mut Session,
+    users: &Users,
+    outcome: &Outcome,
+    reply: &Reply,
+) -> Result<(), NoMemory> {
+    let (said, out) = *reply;
+    push(session, said.as_bytes())?;
+    let got = serve_next(rt, session, users, outcome)?;
+    expect_wanted(rt, got, Wanted::Call(1), said);
+    expect_bytes(rt, session.out(), out.as_bytes(), said);
+    Ok(())
+}
+
+/// The same, each on a connection of alice's own.
+fn expect_each_reply(
+    rt: &(impl AllocGlobal + Abort),
+    users: &Users,
+    outcome: &Outcome,
+    replies: &[Reply],
+) -> Result<(), NoMemory> {
+    for reply in replies {
+        let mut session = opened(rt.alloc(), users, true)?;
+        expect_reply(rt, &mut session, users, outcome, reply)?;
+    }
+    Ok(())
+}
+
+/// The same, of commands, what they came to, and the reply.
+fn expect_replies(
+    rt: &(impl AllocGlobal + Abort),
+    users: &Users,
+    rows: &[(&'static str, Outcome, &'static str)],
+) -> Result<(), NoMemory> {
+    for (said, outcome, reply) in rows {
+        expect_each_reply(rt, users, outcome, &[(*said, *reply)])?;
+    }
+    Ok(())
+}
+
+#[test]
+fn each_outcome_has_its_reply(rt: HostRuntime) -> Result<(), Fail> {
+    let users = users(rt.alloc())?;
+    expect_replies(&rt, &users, &REPLIES)?;
+    Ok(())
+}
+
+/// The replies to an outcome that holds something.
+fn expect_long_replies(
+    rt: &(impl AllocGlobal + Abort),
+    outcome: &Outcome,
+    replies: &[Reply],
+) -> Result<(), Fail> {
+    let users = users(rt.alloc())?;
+    expect_each_reply(rt, &users, outcome, replies)?;
+    Ok(())
+}
+
+#[test]
+fn hits_are_shown_in_order_with_cas_numbers_where_asked(rt: HostRuntime) -> Result<(), Fail> {
+    expect_long_replies(&rt, &look_up(rt.alloc(), &FOUND)?, &LOOK_UPS)
+}
+
+#[test]
+fn a_look_up_that_finds_nothing_is_answered_with_the_end(rt: HostRuntime) -> Result<(), Fail> {
+    expect_long_replies(&rt, &look_up(rt.alloc(), &[])?, &MISS)
+}
+
+#[test]
+fn stats_shows_the_rows_and_the_end(rt: HostRuntime) -> Result<(), Fail> {
+    expect_long_replies(&rt, &stats_of(rt.alloc(), &COUNTERS)?, &STATS)
+}
+
+/// Refuses what a request wants of a cache.
+fn refuse(session: &mut Session, want: &Want)
+    requires { 64 ≤ session.old.room }
+{
+    if let Want::Call(_, command) = want {
+        session.refuse(command);
+    }
+}
+
+/// What is to be sent where a command wants memory.
+fn expect_refused(
+    rt: &(impl AllocGlobal + Abort),
+    session: &mut Session,
+    users: &Users,
+    reply: &Reply,
+) -> Result<(), NoMemory> {
+    let (said, out) = *reply;
+    push(session, said.as_bytes())?;
+    let want = next(rt.alloc(), session, users)?;
+    refuse(session, &want);
+    expect_bytes(rt, session.out(), out.as_bytes(), said);
+    Ok(())
+}
+
+/// The same, each on a connection of alice's own.
+fn expect_each_refused(
+    rt: &(impl AllocGlobal + Abort),
+    users: &Users,
+    replies: &[Reply],
+) -> Result<(), NoMemory> {
+    for reply in replies {
+        let mut session = opened(rt.alloc(), users, true)?;
+        expect_refused(rt, &mut session, users, reply)?;
+    }
+    Ok(())
+}
+
+#[test]
+fn a_refusal_is_said_unless_the_line_is_quiet(rt: HostRuntime) -> Result<(), Fail> {
+    let users = users(rt.alloc())?;
+    expect_each_refused(&rt, &users, &REFUSALS)?;
+    Ok(())
+}
+
+/// Takes a piece and does all requests that are there then, from the command of this number on; the
+/// number of the next.
+fn converse(
+    rt: &(impl AllocGlobal + Abort),
+    session: &mut Session,
+    users: &Users,
+    piece: &[u8],
+    number: usize,
+) -> Result<usize, NoMemory> {
+    push(session, piece)?;
+    let mut number = number;
+    for _ in 0..session.kept() {
+        // Where the stream had more commands than it has, the last outcome would be said again.
+        let outcome = &CAME_TO[number.min(CAME_TO.len() - 1)];
+        match serve_next(rt, session, users, outcome)? {
+            Wanted::Nothing | Wanted::Close => return Ok(number),
+            Wanted::Said => {}
+            Wanted::Call(_) => number = number.saturating_add(1),
+        }
+    }
+    Ok(number)
+}
+
+/// Whether the connection has said all, and is closed.
+fn expect_said(rt: &impl Abort, session: &Session) {
+    expect_bytes(rt, session.out(), ANSWERED.as_bytes(), "stream");
+    assert!(rt; session.is_closed());
+}
+
+/// Says the stream in two pieces.
+fn expect_cut(
+    rt: &(impl AllocGlobal + Abort),
+    users: &Users,
+    first: &[u8],
+    second: &[u8],
+) -> Result<(), NoMemory> {
+    let mut session = Session::new(rt.alloc());
+    let number = converse(rt, &mut session, users, first, 0)?;
+    converse(rt, &mut session, users, second, number)?;
+    expect_said(rt, &session);
+    Ok(())
+}
+
+#[test]
+fn a_connection_cut_anywhere_is_sent_the_same_bytes(rt: HostRuntime) -> Result<(), Fail> {
+    let users = users(rt.alloc())?;
+    for cut in 0..=STREAM.len() {
+        let (first, second) = STREAM.as_bytes().split_at(cut);
+        expect_cut(&rt, &users, first, second)?;
+    }
+    Ok(())
+}

@@ -1,0 +1,317 @@
+//! Lines and streams, with what they are answered, by hand from the protocol's text.
+
+use crate::fixtures::Found;
+use tc_stats::{Counters, Outcome};
+
+/// What a connection's next request wants, without the command.
+#[derive(Clone, Copy, Debug, PartialEq, Eq)]
+pub enum Wanted {
+    Nothing,
+    Said,
+    /// A command for this user's cache.
+    Call(u32),
+    Close,
+}
+
+/// A piece that comes, what the next request wants then, and all that waits to be sent after it.
+pub type Turn = (&'static str, Wanted, &'static str);
+
+const FAILURE: &str = "CLIENT_ERROR authentication failure\r\n";
+
+const SAID: Wanted = Wanted::Said;
+
+/// Logins, and what `version` wants then: the cache of the user whose the connection is, or nothing
+/// but its answer.
+pub const LOGINS: [(Turn, Wanted); 12] = [
+    (
+        ("set x 0 0 9\r\nalice one\r\n", SAID, "STORED\r\n"),
+        Wanted::Call(1),
+    ),
+    (
+        ("set y 7 -1 7\r\nbob two\r\n", SAID, "STORED\r\n"),
+        Wanted::Call(2),
+    ),
+    (
+        ("set y 7 -1 8\r\nbob zwei\r\n", SAID, "STORED\r\n"),
+        Wanted::Call(2),
+    ),
+    (
+        ("set x 0 0 9 noreply\r\nalice one\r\n", SAID, ""),
+        Wanted::Call(1),
+    ),
+    (("set x 0 0 9\r\nalice two\r\n", SAID, FAILURE), SAID),
+    (("set x 0 0 9\r\ncarol one\r\n", SAID, FAILURE), SAID),
+    (("set x 0 0 10\r\nalice zwei\r\n", SAID, FAILURE), SAID),
+    (("set x 0 0 10\r\nalice one \r\n", SAID, FAILURE), SAID),
+    (("set x 0 0 10\r\nalice  one\r\n", SAID, FAILURE), SAID),
+    (("set x 0 0 5\r\nalice\r\n", SAID, FAILURE), SAID),
+    (("set x 0 0 0\r\n\r\n", SAID, FAILURE), SAID),
+    (("set x 0 0 9 noreply\r\nalice two\r\n", SAID, ""), SAID),
+];
+
+const DENIED: &str = "CLIENT_ERROR unauthenticated\r\n";
+
+const BAD_FORMAT: &str = "CLIENT_ERROR bad command line format\r\n";
+
+const BAD_CHUNK: &str = "CLIENT_ERROR bad data chunk\r\n";
+
+const BAD_DELTA: &str = "CLIENT_ERROR invalid numeric delta argument\r\n";
+
+const TOO_LARGE: &str = "SERVER_ERROR object too large for cache\r\n";
+
+/// What a connection that is bound to nobody is told, and what `version` wants then: nothing where
+/// it is part of a block.
+pub const BEFORE_A_LOGIN: [(Turn, Wanted); 12] = [
+    (("get k\r\n", SAID, DENIED), SAID),
+    (("stats\r\n", SAID, DENIED), SAID),
+    (("add x 0 0 9\r\nalice one\r\n", SAID, DENIED), SAID),
+    (("cas x 0 0 9 1\r\nalice one\r\n", SAID, DENIED), SAID),
+    (("add x 0 0 9\r\nalice one..", SAID, BAD_CHUNK), SAID),
+    (("delete k noreply\r\n", SAID, ""), SAID),
+    (("bogus\r\n", SAID, "ERROR\r\n"), SAID),
+    (("set k\r\n", SAID, BAD_FORMAT), SAID),
+    (("incr k x noreply\r\n", SAID, BAD_DELTA), SAID),
+    (
+        ("set x 0 0 257\r\nalice one\r\n", SAID, TOO_LARGE),
+        Wanted::Nothing,
+    ),
+    (
+        ("set x 0 0 257 noreply\r\nalice one\r\n", SAID, ""),
+        Wanted::Nothing,
+    ),
+    (
+        ("set x 0 0 256\r\nalice one\r\n", Wanted::Nothing, ""),
+        Wanted::Nothing,
+    ),
+];
+
+/// Lines of a connection of alice's that are refused, and what `version` wants then.
+pub const FAULTS: [(Turn, Wanted); 5] = [
+    (("bogus\r\n", SAID, "ERROR\r\n"), Wanted::Call(1)),
+    (("get\r\n", SAID, BAD_FORMAT), Wanted::Call(1)),
+    (("set k 0 0 1\r\nabc", SAID, BAD_CHUNK), Wanted::Call(1)),
+    (("set k 0 0 1 noreply\r\nabc", SAID, ""), Wanted::Call(1)),
+    (("set k 0 0 1048577\r\n", SAID, TOO_LARGE), Wanted::Nothing),
+];
+
+const CALL: Wanted = Wanted::Call(1);
+
+/// What a connection of alice's makes of bob's login.
+pub const STAYING: [(Turn, Wanted); 1] = [(("set x 0 0 7\r\nbob two\r\n", CALL, ""), CALL)];
+
+/// Commands that a connection of alice's hands to her cache.
+pub const CALLED: [(Turn, Wanted); 13] = [
+    (("add k 0 0 1\r\nx\r\n", CALL, ""), CALL),
+    (("replace k 0 0 1\r\nx\r\n", CALL, ""), CALL),
+    (("append k 0 0 1\r\nx\r\n", CALL, ""), CALL),
+    (("prepend k 0 0 1\r\nx\r\n", CALL, ""), CALL),
+    (("cas k 0 0 1 1\r\nx\r\n", CALL, ""), CALL),
+    (("delete k\r\n", CALL, ""), CALL),
+    (("incr k 1\r\n", CALL, ""), CALL),
+    (("touch k 1\r\n", CALL, ""), CALL),
+    (("gat 1 k\r\n", CALL, ""), CALL),
+    (("flush_all\r\n", CALL, ""), CALL),
+    (("flush_all noreply\r\n", CALL, ""), CALL),
+    (("stats\r\n", CALL, ""), CALL),
+    (("version\r\n", CALL, ""), CALL),
+];
+
+/// What is left of a connection: so many bytes are unread.
+#[derive(Clone, Copy, Debug, PartialEq, Eq)]
+pub enum Left {
+    Open(usize),
+    Closed(usize),
+}
+
+/// How many bytes are sent, a turn that is taken then, and what is left.
+pub type Step = (usize, Turn, Left);
+
+const NONE: Wanted = Wanted::Nothing;
+
+/// The last byte of a line of 65,536 bytes, and one more.
+pub const LINE_TOO_LONG: [Step; 2] = [
+    (0, ("x", NONE, ""), Left::Open(65_536)),
+    (
+        0,
+        ("x", Wanted::Close, "CLIENT_ERROR line too long\r\n"),
+        Left::Closed(0),
+    ),
+];
+
+pub const QUITTING: [Step; 3] = [
+    (0, ("", NONE, ""), Left::Open(0)),
+    (
+        0,
+        ("quit\r\nversion\r\n", Wanted::Close, ""),
+        Left::Closed(9),
+    ),
+    (0, ("version\r\n", NONE, ""), Left::Closed(9)),
+];
+
+/// What waits is sent bit by bit, the last of it with more bytes than there are.
+pub const UNSENT: [Step; 4] = [
+    (0, ("get k\r\nbogus\r\nget", SAID, DENIED), Left::Open(10)),
+    (
+        13,
+        ("", SAID, "unauthenticated\r\nERROR\r\n"),
+        Left::Open(3),
+    ),
+    (17, ("", NONE, "ERROR\r\n"), Left::Open(3)),
+    (8, ("", NONE, ""), Left::Open(3)),
+];
+
+/// What a connection that was shut makes of a line that is unread.
+pub const SHUT: [Step; 1] = [(0, ("", NONE, ""), Left::Closed(5))];
+
+/// A stream of a login, with requests before it and after it.
+pub const STREAM: &str = "get k\r\n\
+    set x 0 0 9\r\nalice two\r\n\
+    set x 0 0 9\r\nalice one\r\n\
+    set k 0 0 7\r\n\r\nEND\r\n\r\n\
+    set k 0 0 7\r\nbob two\r\n\
+    set k 0 0 9 noreply\r\nquit\r\nget\r\n\
+    delete k\r\n\
+    incr k 1\r\n\
+    version\r\n\
+    verbosity 1\r\n\
+    quit\r\n\
+    version\r\n";
+
+/// What its commands came to, one after another.
+pub const CAME_TO: [Outcome; 7] = [
+    Outcome::Stored,
+    Outcome::Stored,
+    Outcome::Stored,
+    Outcome::Deleted,
+    Outcome::Number(8),
+    Outcome::Version,
+    Outcome::Done,
+];
+
+/// What it is answered.
+pub const ANSWERED: &str = "CLIENT_ERROR unauthenticated\r\n\
+    CLIENT_ERROR authentication failure\r\n\
+    STORED\r\nSTORED\r\nSTORED\r\n\
+    DELETED\r\n8\r\n\
+    VERSION 1.0.0-partcached\r\nOK\r\n";
+
+/// Commands, what they came to, and their replies.
+pub const REPLIES: [(&str, Outcome, &str); 17] = [
+    ("set k 0 0 1\r\nx\r\n", Outcome::Stored, "STORED\r\n"),
+    ("set k 0 0 1 noreply\r\nx\r\n", Outcome::Stored, ""),
+    ("add k 0 0 1\r\nx\r\n", Outcome::NotStored, "NOT_STORED\r\n"),
+    ("cas k 0 0 1 5\r\nx\r\n", Outcome::Exists, "EXISTS\r\n"),
+    ("cas k 0 0 1 5\r\nx\r\n", Outcome::NotFound, "NOT_FOUND\r\n"),
+    (
+        "set k 0 0 1\r\nx\r\n",
+        Outcome::TooLarge,
+        "SERVER_ERROR object too large for cache\r\n",
+    ),
+    (
+        "incr k 1\r\n",
+        Outcome::CasWorn,
+        "SERVER_ERROR cas numbers exhausted\r\n",
+    ),
+    (
+        "incr k 1\r\n",
+        Outcome::Number(u64::MAX),
+        "18446744073709551615\r\n",
+    ),
+    ("decr k 1\r\n", Outcome::Number(0), "0\r\n"),
+    (
+        "incr k 1\r\n",
+        Outcome::NotNumeric,
+        "CLIENT_ERROR cannot increment or decrement non-numeric value\r\n",
+    ),
+    ("delete k\r\n", Outcome::Deleted, "DELETED\r\n"),
+    ("touch k 5\r\n", Outcome::Touched, "TOUCHED\r\n"),
+    ("flush_all\r\n", Outcome::Done, "OK\r\n"),
+    ("verbosity 1\r\n", Outcome::Done, "OK\r\n"),
+    ("verbosity 1 noreply\r\n", Outcome::Done, ""),
+    (
+        "version\r\n",
+        Outcome::Version,
+        "VERSION 1.0.0-partcached\r\n",
+    ),
+    ("version\r\n", Outcome::Stored, ""),
+];
+
+const BARE: &str = "VALUE a 4294967295 7\r\n\r\nEND\r\n\r\nVALUE b 0 0\r\n\r\nEND\r\n";
+
+const WITH_CAS: &str = "VALUE a 4294967295 7 18446744073709551615\r\n\r\nEND\r\n\r\n\
+    VALUE b 0 0 1\r\n\r\nEND\r\n";
+
+/// A command and its reply.
+pub type Reply = (&'static str, &'static str);
+
+/// Two hits, one of them of a block that looks like a reply's end.
+pub const FOUND: [Found; 2] = [
+    (
+        "a",
+        "\r\nEND\r\n",
+        4_294_967_295,
+        18_446_744_073_709_551_615,
+    ),
+    ("b", "", 0, 1),
+];
+
+/// Look-ups that find the two, and their replies.
+pub const LOOK_UPS: [Reply; 4] = [
+    ("get a b\r\n", BARE),
+    ("gets a b\r\n", WITH_CAS),
+    ("gat 0 a b\r\n", BARE),
+    ("gats 0 a b\r\n", WITH_CAS),
+];
+
+/// A look-up that finds nothing, and its reply.
+pub const MISS: [Reply; 1] = [("get a\r\n", "END\r\n")];
+
+const NO_MEMORY: &str = "SERVER_ERROR out of memory\r\n";
+
+/// Commands, and what is said where they want memory.
+pub const REFUSALS: [Reply; 3] = [
+    ("get k\r\n", NO_MEMORY),
+    ("set k 0 0 1\r\nx\r\n", NO_MEMORY),
+    ("set k 0 0 1 noreply\r\nx\r\n", ""),
+];
+
+/// The counters after a too large `set`, a `set` of three bytes, a too large `append`, a `set` of
+/// one byte, an `incr` to five digits and a `get` of them, where an item may have three bytes.
+pub const COUNTERS: Counters = Counters {
+    curr_items: 2,
+    total_items: 2,
+    bytes: 138,
+    cmd_get: 1,
+    cmd_set: 4,
+    cmd_flush: 0,
+    cmd_touch: 0,
+    get_hits: 1,
+    get_misses: 0,
+    delete_misses: 0,
+    delete_hits: 0,
+    incr_misses: 0,
+    incr_hits: 1,
+    decr_misses: 0,
+    decr_hits: 0,
+    cas_misses: 0,
+    cas_hits: 0,
+    cas_badval: 0,
+    touch_hits: 0,
+    touch_misses: 0,
+    evictions: 0,
+    limit_maxbytes: 65_536,
+    item_size_max: 3,
+    store_too_large: 2,
+};
+
+/// What they are shown as.
+const ROWS: &str = "STAT version 1.0.0-partcached\r\nSTAT curr_items 2\r\nSTAT total_items 2\r\n\
+    STAT bytes 138\r\nSTAT cmd_get 1\r\nSTAT cmd_set 4\r\nSTAT cmd_flush 0\r\n\
+    STAT cmd_touch 0\r\nSTAT get_hits 1\r\nSTAT get_misses 0\r\nSTAT delete_misses 0\r\n\
+    STAT delete_hits 0\r\nSTAT incr_misses 0\r\nSTAT incr_hits 1\r\nSTAT decr_misses 0\r\n\
+    STAT decr_hits 0\r\nSTAT cas_misses 0\r\nSTAT cas_hits 0\r\nSTAT cas_badval 0\r\n\
+    STAT touch_hits 0\r\nSTAT touch_misses 0\r\nSTAT evictions 0\r\n\
+    STAT limit_maxbytes 65536\r\nSTAT item_size_max 3\r\nSTAT store_too_large 2\r\nEND\r\n";
+
+/// The command that shows them.
+pub const STATS: [Reply; 1] = [("stats\r\n", ROWS)];

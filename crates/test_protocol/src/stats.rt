@@ -1,0 +1,296 @@
+//! What no clause says of outcomes, hits and counters: the rows of `stats`, counts by hand, and
+//! each call with memory to spare.
+
+use crate::fixtures::{Found, command, expect_bytes, expect_number, hits};
+use std::alloc::Global;
+use std::process::Abort;
+use std::test::Fail;
+use tc_item::NoMemory;
+use tc_stats::{Counters, Hits, Outcome, Statistics};
+
+/// Three hits, two of them of one key, with the cas numbers 1 to 3.
+const FOUND: [Found; 3] = [
+    ("a", "data", 7, 1),
+    ("b", "data", 7, 2),
+    ("a", "data", 7, 3),
+];
+
+/// Whether hits have these cas numbers.
+fn expect_cas(rt: &impl Abort, hits: &Hits, wanted: &[u64]) {
+    expect_number(rt, hits.len() as u64, wanted.len() as u64, "len");
+    for (hit, cas) in hits.as_slice().iter().zip(wanted) {
+        expect_number(rt, hit.cas, *cas, "cas");
+    }
+}
+
+/// Whether these are the three hits, and a copy of them is too.
+fn expect_three(rt: &(impl AllocGlobal + Abort), hits: &Hits) -> Result<(), NoMemory> {
+    expect_cas(rt, hits, &[1, 2, 3]);
+    let copied = hits.copy(rt.alloc())?;
+    expect_cas(rt, &copied, &[1, 2, 3]);
+    Ok(())
+}
+
+#[test]
+fn hits_stand_in_the_order_pushed(rt: HostRuntime) -> Result<(), Fail> {
+    assert!(rt; Hits::new().is_empty());
+    expect_three(&rt, &hits(rt.alloc(), &FOUND)?)?;
+    Ok(())
+}
+
+const COUNTERS: Counters = Counters {
+    curr_items: 1,
+    total_items: 2,
+    bytes: 66,
+    cmd_get: 4,
+    cmd_set: 5,
+    cmd_flush: 6,
+    cmd_touch: 7,
+    get_hits: 8,
+    get_misses: 9,
+    delete_misses: 10,
+    delete_hits: 11,
+    incr_misses: 12,
+    incr_hits: 13,
+    decr_misses: 14,
+    decr_hits: 15,
+    cas_misses: 16,
+    cas_hits: 17,
+    cas_badval: 18,
+    touch_hits: 19,
+    touch_misses: 20,
+    evictions: 21,
+    limit_maxbytes: 65536,
+    item_size_max: 1048576,
+    store_too_large: 24,
+};
+
+/// Whether counters are these.
+fn expect_counters(rt: &impl Abort, got: &Counters, want: &Counters) {
+    assert!(rt; got == want, "{got:?}");
+}
+
+#[test]
+fn boxed_counters_are_what_was_put_in(rt: HostRuntime) -> Result<(), Fail> {
+    let mut statistics = Statistics::new(rt.alloc(), Counters::new())?;
+    statistics.set(COUNTERS);
+    let copied = statistics.copy(rt.alloc())?;
+    expect_counters(&rt, copied.counters(), &COUNTERS);
+    Ok(())
+}
+
+/// Outcomes that hold no data.
+const OUTCOMES: [Outcome; 12] = [
+    Outcome::Stored,
+    Outcome::NotStored,
+    Outcome::Exists,
+    Outcome::NotFound,
+    Outcome::Deleted,
+    Outcome::Touched,
+    Outcome::Number(5),
+    Outcome::Done,
+    Outcome::Version,
+    Outcome::TooLarge,
+    Outcome::NotNumeric,
+    Outcome::CasWorn,
+];
+
+/// Whether there is memory for a copy.
+fn expect_copied(rt: &(impl AllocGlobal + Abort), outcome: &Outcome) {
+    assert!(rt; outcome.copy(rt.alloc()).is_ok());
+}
+
+fn expect_all_copied(rt: &(impl AllocGlobal + Abort), outcomes: &[Outcome]) {
+    for outcome in outcomes {
+        expect_copied(rt, outcome);
+    }
+}
+
+#[test]
+fn outcomes_that_hold_no_data_are_copied(rt: HostRuntime) {
+    expect_all_copied(&rt, &OUTCOMES);
+}
+
+/// What a look-up comes to that finds these.
+pub fn look_up(alloc: Global, found: &[Found]) -> Result<Outcome, Fail> {
+    Ok(Outcome::Values(hits(alloc, found)?))
+}
+
+/// What `stats` comes to where these are the counters.
+pub fn stats_of(alloc: Global, counters: &Counters) -> Result<Outcome, NoMemory> {
+    Ok(Outcome::Stats(Statistics::new(alloc, *counters)?))
+}
+
+#[test]
+fn outcomes_that_hold_something_are_copied(rt: HostRuntime) -> Result<(), Fail> {
+    expect_copied(&rt, &look_up(rt.alloc(), &FOUND)?);
+    expect_copied(&rt, &stats_of(rt.alloc(), &COUNTERS)?);
+    Ok(())
+}
+
+/// Counts a command that came to this outcome.
+fn note(alloc: Global, counters: &mut Counters, said: &str, outcome: &Outcome) -> Result<(), Fail> {
+    let command = command(alloc, said)?;
+    counters.note(&command, outcome);
+    Ok(())
+}
+
+/// Counts a look-up that found these.
+fn note_look_up(
+    alloc: Global,
+    counters: &mut Counters,
+    said: &str,
+    found: &[Found],
+) -> Result<(), Fail> {
+    let outcome = look_up(alloc, found)?;
+    note(alloc, counters, said, &outcome)
+}
+
+/// One hit.
+const ONE: [Found; 1] = [("k", "x", 0, 1)];
+
+/// The rows after a miss, a `set` of one byte and a hit.
+const ROWS: &str = "STAT version 1.0.0-partcached\r\nSTAT curr_items 1\r\nSTAT total_items 1\r\n\
+    STAT bytes 66\r\nSTAT cmd_get 2\r\nSTAT cmd_set 1\r\nSTAT cmd_flush 0\r\n\
+    STAT cmd_touch 0\r\nSTAT get_hits 1\r\nSTAT get_misses 1\r\nSTAT delete_misses 0\r\n\
+    STAT delete_hits 0\r\nSTAT incr_misses 0\r\nSTAT incr_hits 0\r\nSTAT decr_misses 0\r\n\
+    STAT decr_hits 0\r\nSTAT cas_misses 0\r\nSTAT cas_hits 0\r\nSTAT cas_badval 0\r\n\
+    STAT touch_hits 0\r\nSTAT touch_misses 0\r\nSTAT evictions 0\r\n\
+    STAT limit_maxbytes 65536\r\nSTAT item_size_max 1048576\r\nSTAT store_too_large 0\r\n";
+
+/// Counts these three.
+fn note_three(alloc: Global, counters: &mut Counters) -> Result<(), Fail> {
+    note_look_up(alloc, counters, "gets k\r\n", &[])?;
+    note(alloc, counters, "set k 0 0 1\r\nx\r\n", &Outcome::Stored)?;
+    note_look_up(alloc, counters, "gets k\r\n", &ONE)
+}
+
+/// The counters then, of a cache that holds the one item.
+fn after_three(alloc: Global) -> Result<Counters, Fail> {
+    let mut counters = Counters::new();
+    note_three(alloc, &mut counters)?;
+    counters.curr_items = 1;
+    counters.bytes = 66;
+    counters.limit_maxbytes = 65_536;
+    counters.item_size_max = 1_048_576;
+    Ok(counters)
+}
+
+/// Appends the rows, once more where memory was refused.
+fn render(counters: &Counters, out: &mut Vec<u8>) -> Result<(), NoMemory> {
+    match counters.render(out) {
+        Ok(()) => Ok(()),
+        Err(NoMemory) => counters.render(out),
+    }
+}
+
+/// Whether counters have these rows.
+fn expect_rows(
+    rt: &(impl AllocGlobal + Abort),
+    counters: &Counters,
+    want: &str,
+) -> Result<(), NoMemory> {
+    let mut out = Vec::new(rt.alloc());
+    render(counters, &mut out)?;
+    expect_bytes(rt, out.as_slice(), want.as_bytes(), "rows");
+    Ok(())
+}
+
+#[test]
+fn a_miss_a_set_and_a_hit_have_these_rows(rt: HostRuntime) -> Result<(), Fail> {
+    let counters = after_three(rt.alloc())?;
+    expect_rows(&rt, &counters, ROWS)?;
+    Ok(())
+}
+
+/// A command, what it came to, and how often.
+type Noted = (&'static str, Outcome, u32);
+
+const NOTED: [Noted; 20] = [
+    ("set k 0 0 1\r\nx\r\n", Outcome::Stored, 1),
+    ("add k 0 0 1\r\nx\r\n", Outcome::NotStored, 1),
+    ("append k 0 0 1\r\nx\r\n", Outcome::TooLarge, 2),
+    ("replace k 0 0 1\r\nx\r\n", Outcome::CasWorn, 1),
+    ("cas k 0 0 1 5\r\nx\r\n", Outcome::NotFound, 3),
+    ("cas k 0 0 1 5\r\nx\r\n", Outcome::Stored, 4),
+    ("cas k 0 0 1 5\r\nx\r\n", Outcome::Exists, 5),
+    ("touch k 5\r\n", Outcome::Touched, 2),
+    ("touch k 5\r\n", Outcome::NotFound, 1),
+    ("delete k\r\n", Outcome::NotFound, 1),
+    ("delete k\r\n", Outcome::Deleted, 2),
+    ("incr k 1\r\n", Outcome::NotFound, 3),
+    ("incr k 1\r\n", Outcome::Number(7), 4),
+    ("incr k 1\r\n", Outcome::NotNumeric, 1),
+    ("decr k 1\r\n", Outcome::NotFound, 5),
+    ("decr k 1\r\n", Outcome::Number(6), 6),
+    ("decr k 1\r\n", Outcome::CasWorn, 1),
+    ("flush_all\r\n", Outcome::Done, 7),
+    ("verbosity 1\r\n", Outcome::Done, 1),
+    ("version\r\n", Outcome::Version, 1),
+];
+
+/// Counts these.
+fn note_all(alloc: Global, counters: &mut Counters, rows: &[Noted]) -> Result<(), Fail> {
+    for (said, outcome, times) in rows {
+        for _ in 0..*times {
+            note(alloc, counters, said, outcome)?;
+        }
+    }
+    Ok(())
+}
+
+/// The counters after these, a `get` that found one of three keys, and a `gats` that found one of
+/// two.
+const COUNTED: Counters = Counters {
+    curr_items: 0,
+    total_items: 5,
+    bytes: 0,
+    cmd_get: 5,
+    cmd_set: 17,
+    cmd_flush: 7,
+    cmd_touch: 5,
+    get_hits: 2,
+    get_misses: 3,
+    delete_misses: 1,
+    delete_hits: 2,
+    incr_misses: 3,
+    incr_hits: 4,
+    decr_misses: 5,
+    decr_hits: 6,
+    cas_misses: 3,
+    cas_hits: 4,
+    cas_badval: 5,
+    touch_hits: 3,
+    touch_misses: 2,
+    evictions: 0,
+    limit_maxbytes: 0,
+    item_size_max: 0,
+    store_too_large: 2,
+};
+
+/// The counters after all of these.
+fn counted(alloc: Global) -> Result<Counters, Fail> {
+    let mut counters = Counters::new();
+    note_all(alloc, &mut counters, &NOTED)?;
+    note_look_up(alloc, &mut counters, "get a b c\r\n", &ONE)?;
+    note_look_up(alloc, &mut counters, "gats 0 a b\r\n", &ONE)?;
+    Ok(counters)
+}
+
+#[test]
+fn each_command_counts_by_what_it_came_to(rt: HostRuntime) -> Result<(), Fail> {
+    expect_counters(&rt, &counted(rt.alloc())?, &COUNTED);
+    Ok(())
+}
+
+/// A `flush_all`, three times.
+const FLUSHED: [Noted; 1] = [("flush_all\r\n", Outcome::Done, 3)];
+
+#[test]
+fn a_counter_stops_at_the_top(rt: HostRuntime) -> Result<(), Fail> {
+    let mut counters = Counters::new();
+    counters.cmd_flush = u64::MAX - 1;
+    note_all(rt.alloc(), &mut counters, &FLUSHED)?;
+    expect_number(&rt, counters.cmd_flush, u64::MAX, "cmd_flush");
+    Ok(())
+}
