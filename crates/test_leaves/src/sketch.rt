@@ -1,7 +1,7 @@
 //! Worked values of the sketch, by hand, and FNV's published ones.
 
-use super::*;
 use std::test::Fail;
+use tc_sketch::{Sketch, halve, hash, width_of};
 
 #[test]
 fn fnv_1a_gives_its_published_values(rt: HostRuntime) {

@@ -1,15 +1,23 @@
 //! Streams that come in pieces: wherever they are cut, what is printed is the same.
 
 use super::{IN, expect_whole};
-use crate::printing::write_bytes;
 use std::alloc::Global;
 use std::process::Abort;
 use std::test::Fail;
 
+const DIGITS: [u8; 16] = *b"0123456789abcdef";
+
+/// A digit of a byte's hexadecimal text.
+fn digit(number: u8) -> u8 {
+    DIGITS.get(number as usize).copied().unwrap_or(b'?')
+}
+
 /// Appends a line that brings these bytes to connection 1, and one that does all that it can.
 fn push_piece(script: &mut Vec<u8>, bytes: &[u8]) -> Result<(), Fail> {
     script.extend_from_slice(b"piece 1 ")?;
-    write_bytes(script, bytes)?;
+    for byte in bytes {
+        script.extend_from_slice(&[b'\\', b'x', digit(byte / 16), digit(byte % 16)])?;
+    }
     script.extend_from_slice(b"\nact 1 9\n")?;
     Ok(())
 }

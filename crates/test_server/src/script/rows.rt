@@ -2,10 +2,10 @@
 //! the policy's rules. `scripts/examples` says whether they are what the files hold.
 
 use super::played;
-use crate::Ended;
 use std::alloc::Global;
 use std::process::Abort;
 use std::test::Fail;
+use tc_script::Ended;
 
 /// A script and what it prints.
 struct Row {

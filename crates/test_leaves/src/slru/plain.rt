@@ -1,6 +1,6 @@
 //! The definition of the areas, word for word, over plain lists.
-use crate::Weights;
 use std::alloc::{AllocError, Global};
+use tc_slru::Weights;
 
 /// A slot in a plain list.
 #[derive(Clone, Copy, Debug, PartialEq, Eq, Drop)]

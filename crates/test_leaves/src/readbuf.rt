@@ -1,9 +1,9 @@
 //! A ring that is filled, refused and emptied.
 
-use crate::{Full, Noted, ReadBuf};
 use std::process::Abort;
 use std::test::Fail;
 use tc_item::{Moment, Slot};
+use tc_readbuf::{Full, Noted, ReadBuf};
 
 /// A hit for an even number, a miss for an odd one.
 fn noted(number: usize) -> Noted {

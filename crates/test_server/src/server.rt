@@ -1,8 +1,8 @@
 //! Streams and what they are answered, by hand from the protocol's text.
 
-use crate::{Outputs, Server, Step, fresh_caches, run};
 use std::alloc::Global;
 use std::test::Fail;
+use tc_core::{Outputs, Server, Step, fresh_caches, run};
 use tc_item::Moment;
 use tc_users::{Text, UserSpec, Users};
 

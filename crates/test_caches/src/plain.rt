@@ -2,13 +2,13 @@
 
 mod table;
 
-use crate::{Cache, Plain};
 use std::alloc::Global;
 use std::process::Abort;
 use std::test::Fail;
 use table::{COUNTS, DUES, FLUSHES, LAST_NUMBER, Row, SMALL, STORES};
 use tc_grammar::{Command, Line, parse_line};
 use tc_item::{Blob, Moment, NoMemory};
+use tc_plain::{Cache, Plain};
 use tc_stats::{Counters, Hit, Hits, Outcome};
 
 fn empty(alloc: Global) -> Result<Plain, Fail> {

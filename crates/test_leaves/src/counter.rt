@@ -1,7 +1,7 @@
 //! Examples of number text, written by hand from the protocol's text.
 
-use super::*;
 use std::test::Fail;
+use tc_counter::{decr, incr, read, write_into};
 
 const SPELLED: [(&str, u64); 9] = [
     ("0", 0),

@@ -1,9 +1,9 @@
 //! Runs by hand, and refusals of memory.
 
-use crate::{Slot, Wheel};
 use std::process::Abort;
 use std::test::Fail;
 use tc_item::{Moment, NoMemory};
+use tc_wheel::{Slot, Wheel};
 
 /// The moment of so many seconds, or the last one.
 fn at(seconds: u64) -> Moment {

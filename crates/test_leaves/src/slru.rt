@@ -1,12 +1,12 @@
 //! Runs by hand, refusals of memory, and a random run beside the plain definition over `Vec`s.
 mod plain;
 
-use crate::{Lists, Slot, Weights};
 use plain::{Entry, MAIN, PROTECTED, Plain, WINDOW};
 use std::alloc::AllocError;
 use std::process::Abort;
 use std::test::Fail;
 use tc_item::NoMemory;
+use tc_slru::{Lists, Slot, Weights};
 
 /// Puts a slot into the window, where the caller's conditions hold.
 fn push(rt: &impl Abort, lists: &mut Lists, slot: usize, weight: u64) {
@@ -20,7 +20,7 @@ fn push(rt: &impl Abort, lists: &mut Lists, slot: usize, weight: u64) {
 }
 
 /// An access, where the caller's conditions hold.
-#[tactic(auto, using(crate::proofs::Gone::without_slot_weighs_less))]
+#[tactic(auto, using(tc_slru::proofs::Gone::without_slot_weighs_less))]
 fn access(rt: &impl Abort, lists: &mut Lists, slot: usize, weight: u64) {
     let held = lists.weights();
     assert!(rt; lists.holds(Slot(slot)), "slot {slot} is held");

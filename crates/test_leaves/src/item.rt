@@ -2,13 +2,13 @@
 //! and each call with memory to spare. A test that a refused allocation reaches ends in an error
 //! or sees everything as it was, and never asserts in vain.
 
-use crate::exptime::due;
-use crate::{
-    Blob, Due, Item, Key, KeyFault, Keys, LONGEST_KEY, Moment, NoMemory, alive, is_key, weight,
-};
 use std::alloc::Global;
 use std::collections::HashMap;
 use std::test::Fail;
+use tc_item::exptime::due;
+use tc_item::{
+    Blob, Due, Item, Key, KeyFault, Keys, LONGEST_KEY, Moment, NoMemory, alive, is_key, weight,
+};
 
 fn key_of(alloc: Global, text: &str) -> Result<Key, KeyFault> {
     Key::new(alloc, text.as_bytes())

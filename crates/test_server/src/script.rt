@@ -3,11 +3,11 @@
 mod cuts;
 mod rows;
 
-use crate::{Ended, run_script};
 use std::alloc::Global;
 use std::io::{self, ErrorKind, Read, Write};
 use std::process::Abort;
 use std::test::Fail;
+use tc_script::{Ended, run_script};
 
 /// One user, and a connection that is logged in.
 const IN: &[u8] =
