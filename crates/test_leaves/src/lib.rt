@@ -1,5 +1,5 @@
-//! Tests of what the caches stand on: keys and items, number text, the sketch, the linked lists, the
-//! expiry wheel and the ring of look-ups that wait.
+//! Tests of what the caches stand on: keys and items, number text, the sketch, the linked lists,
+//! the expiry wheel and the ring of look-ups that wait.
 #![tactic(auto)]
 
 #[cfg(test)]
