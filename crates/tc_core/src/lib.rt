@@ -13,8 +13,6 @@ mod outputs;
 mod running;
 mod server;
 mod step;
-#[cfg(test)]
-mod tests;
 
 pub use fresh::fresh_caches;
 pub use outputs::{Output, Outputs, Sent};

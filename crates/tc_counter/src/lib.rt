@@ -9,9 +9,6 @@ ghost use Rattle.std.specs.Prelude.{◌≡◌, ◌==◌, ◌<◌, ◌≤◌, ◌
 ghost use Rattle.std.specs.List.{list_all};
 ghost use Rattle.tc_counter.specs.CounterText.{Spells, number_in, text_of, raised_by, lowered_by};
 
-#[cfg(test)]
-mod tests;
-
 use itoa::Buffer;
 use tc_item::NoMemory;
 

@@ -15,8 +15,6 @@ mod keys;
 pub mod moment;
 mod no_memory;
 mod slot;
-#[cfg(test)]
-mod tests;
 
 pub use blob::Blob;
 pub use item::{Item, alive, weight};

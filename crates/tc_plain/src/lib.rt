@@ -27,8 +27,6 @@ mod offers;
 mod plain;
 mod plans;
 mod settling;
-#[cfg(test)]
-mod tests;
 
 pub use areas::Areas;
 pub use cache::Cache;

@@ -7,8 +7,6 @@
 
 mod noted;
 mod read_buf;
-#[cfg(test)]
-mod tests;
 
 pub use noted::Noted;
 pub use read_buf::{Full, PLACES, ReadBuf};

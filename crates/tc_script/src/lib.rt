@@ -16,8 +16,6 @@ mod printing;
 mod running;
 mod script;
 mod step_line;
-#[cfg(test)]
-mod tests;
 mod unescape;
 
 pub use action::{Action, Bytes};

@@ -9,8 +9,6 @@ mod fnv;
 mod lanes;
 mod row;
 mod sketch;
-#[cfg(test)]
-mod tests;
 mod width;
 
 pub use fnv::hash;

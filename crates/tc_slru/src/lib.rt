@@ -18,8 +18,6 @@ mod linked_areas;
 mod lists;
 mod nodes;
 mod settle;
-#[cfg(test)]
-mod tests;
 
 pub use lists::{Lists, Weights};
 pub use tc_item::Slot;

@@ -9,8 +9,6 @@
 
 mod nodes;
 mod sweep;
-#[cfg(test)]
-mod tests;
 mod wheel;
 
 pub use tc_item::Slot;

@@ -1,32 +1,44 @@
-//! Runs by hand, refusals of memory, and a random run beside the plain definition over `Vec`s.
-mod plain;
+//! Runs by hand, and refusals of memory.
 
-use crate::{Lists, Slot, Weights};
-use plain::{Entry, MAIN, PROTECTED, Plain, WINDOW};
-use std::alloc::AllocError;
+ghost use Rattle.std.specs.Prelude.{◌+◌, ◌<◌, ◌^◌, IsTrue};
+ghost use Rattle.tc_model.specs.Areas.{total};
+ghost use Rattle.tc_slru.specs.Slots.{weigh};
+
+use std::alloc::Global;
 use std::process::Abort;
 use std::test::Fail;
 use tc_item::NoMemory;
+use tc_slru::{Lists, Slot};
+
+/// Far below 2^64.
+const FEW: u64 = 1 << 40;
+
+/// Whether one more item keeps the sum of all weights far below 2^64.
+fn has_room(lists: &Lists, weight: u64) -> bool
+    ensures { IsTrue result → total weigh lists.now.areas + weight < 2 ^ 64 }
+{
+    let held = lists.weights();
+    held.window < FEW && held.probation < FEW && held.protected < FEW && weight < FEW
+}
 
 /// Puts a slot into the window, where the caller's conditions hold.
 fn push(rt: &impl Abort, lists: &mut Lists, slot: usize, weight: u64) {
-    let held = lists.weights();
-    assert!(rt; slot < lists.slots(), "slot {slot} has room");
-    assert!(rt; !lists.holds(Slot(slot)), "slot {slot} is free");
-    assert!(rt; weight <= lists.heaviest(), "slot {slot} is light enough");
-    let few = 1u64 << 40;
-    assert!(rt; held.window < few && held.probation < few && held.protected < few && weight < few);
+    let is_free = slot < lists.slots() && !lists.holds(Slot(slot));
+    assert!(rt;
+        is_free && weight <= lists.heaviest() && has_room(lists, weight),
+        "slot {slot}"
+    );
     lists.push_window(Slot(slot), weight);
 }
 
 /// An access, where the caller's conditions hold.
-#[tactic(auto, using(crate::proofs::Gone::without_slot_weighs_less))]
+#[tactic(auto, using(tc_slru::proofs::Gone::without_slot_weighs_less))]
 fn access(rt: &impl Abort, lists: &mut Lists, slot: usize, weight: u64) {
-    let held = lists.weights();
-    assert!(rt; lists.holds(Slot(slot)), "slot {slot} is held");
-    assert!(rt; weight <= lists.heaviest(), "slot {slot} is light enough");
-    let few = 1u64 << 40;
-    assert!(rt; held.window < few && held.probation < few && held.protected < few && weight < few);
+    let is_held = lists.holds(Slot(slot));
+    assert!(rt;
+        is_held && weight <= lists.heaviest() && has_room(lists, weight),
+        "slot {slot}"
+    );
     lists.access(Slot(slot), weight);
 }
 
@@ -37,13 +49,18 @@ fn remove(rt: &impl Abort, lists: &mut Lists, slot: usize) {
 }
 
 /// The next slot that is dropped, by how often each was seen.
-fn dropped(lists: &mut Lists, seen: &Vec<u8>) -> Option<usize> {
+fn dropped(lists: &mut Lists, seen: &[u8]) -> Option<usize> {
     let next = lists.settle_step(|slot| seen.get(slot.0).copied().unwrap_or(0));
     next.map(|slot| slot.0)
 }
 
+/// Whether the areas weigh so.
+fn weighs(lists: &Lists, window: u64, probation: u64, protected: u64) -> bool {
+    let weights = lists.weights();
+    weights.window == window && weights.probation == probation && weights.protected == protected
+}
+
 /// A call of lists, or what is to be seen of them.
-#[derive(Clone, Copy)]
 enum Move {
     /// A slot of this weight is put into the window.
     Push(usize, u64),
@@ -60,46 +77,55 @@ enum Move {
     Holds(usize, bool),
 }
 
+/// Notes how often a slot was seen.
+fn note(seen: &mut [u8], slot: usize, times: u8) {
+    if let Some(count) = seen.get_mut(slot) {
+        *count = times;
+    }
+}
+
 /// Makes one move.
-fn make(rt: &impl Abort, lists: &mut Lists, seen: &mut Vec<u8>, step: Move, at: usize) {
+fn make(rt: &impl Abort, lists: &mut Lists, seen: &mut [u8], step: &Move, place: usize) {
     match step {
-        Move::Push(slot, weight) => push(rt, lists, slot, weight),
-        Move::Access(slot, weight) => access(rt, lists, slot, weight),
-        Move::Remove(slot) => remove(rt, lists, slot),
-        Move::Seen(slot, times) => {
-            if let Some(count) = seen.get_mut(slot) {
-                *count = times;
-            }
+        Move::Push(slot, weight) => push(rt, lists, *slot, *weight),
+        Move::Access(slot, weight) => access(rt, lists, *slot, *weight),
+        Move::Remove(slot) => remove(rt, lists, *slot),
+        Move::Seen(slot, times) => note(seen, *slot, *times),
+        Move::Settle(gone) => {
+            assert!(rt; dropped(lists, seen) == *gone, "move {place}");
         }
-        Move::Settle(gone) => assert_eq!(rt; dropped(lists, seen), gone, "move {at}"),
         Move::Weigh(window, probation, protected) => {
-            let weights = Weights {
-                window,
-                probation,
-                protected,
-            };
-            assert_eq!(rt; lists.weights(), weights, "move {at}");
+            assert!(rt;
+                weighs(lists, *window, *probation, *protected),
+                "move {place}"
+            );
         }
         Move::Holds(slot, held) => {
-            assert_eq!(rt; lists.holds(Slot(slot)), held, "move {at}");
+            assert!(rt; lists.holds(Slot(*slot)) == *held, "move {place}");
         }
     }
 }
 
-/// Makes moves on empty lists with these limits, where each of five slots was seen once.
+/// Makes moves on lists where each of five slots was seen once.
+fn make_all(rt: &impl Abort, lists: &mut Lists, moves: &[Move]) {
+    let mut seen = [1; 5];
+    for (place, step) in moves.iter().enumerate() {
+        make(rt, lists, &mut seen, step, place);
+    }
+}
+
+/// Makes moves on empty lists with these limits.
 fn play(
-    rt: &(impl Abort + AllocGlobal),
+    rt: &impl Abort,
+    alloc: Global,
     window: u64,
     main: u64,
     protected: u64,
     moves: &[Move],
 ) -> Result<(), Fail> {
-    let mut lists = Lists::new(rt.alloc(), window, main, protected);
+    let mut lists = Lists::new(alloc, window, main, protected);
     lists.reserve(5)?;
-    let mut seen = vec![in rt.alloc(); 1u8, 1, 1, 1, 1]?;
-    for (at, step) in moves.iter().enumerate() {
-        make(rt, &mut lists, &mut seen, *step, at);
-    }
+    make_all(rt, &mut lists, moves);
     Ok(())
 }
 
@@ -144,7 +170,7 @@ const FIVE_EVICTIONS: [Move; 30] = [
 
 #[test]
 fn five_evictions_as_worked_by_hand(rt: HostRuntime) -> Result<(), Fail> {
-    play(&rt, 655, 64881, 51904, &FIVE_EVICTIONS)
+    play(&rt, rt.alloc(), 655, 64881, 51904, &FIVE_EVICTIONS)
 }
 
 /// The last of main goes first: 0, 2 and then 1, which was accessed.
@@ -167,7 +193,7 @@ const ALL_OF_MAIN: [Move; 14] = [
 
 #[test]
 fn a_candidate_as_heavy_as_main_drops_all_of_it(rt: HostRuntime) -> Result<(), Fail> {
-    play(&rt, 10, 100, 80, &ALL_OF_MAIN)
+    play(&rt, rt.alloc(), 10, 100, 80, &ALL_OF_MAIN)
 }
 
 const VICTIMS_IN_PROBATION: [Move; 15] = [
@@ -190,7 +216,7 @@ const VICTIMS_IN_PROBATION: [Move; 15] = [
 
 #[test]
 fn victims_in_probation_leave_protected_alone(rt: HostRuntime) -> Result<(), Fail> {
-    play(&rt, 10, 100, 80, &VICTIMS_IN_PROBATION)
+    play(&rt, rt.alloc(), 10, 100, 80, &VICTIMS_IN_PROBATION)
 }
 
 /// Slot 1 was seen as often as the candidate, slot 3.
@@ -211,7 +237,7 @@ const SEEN_AS_OFTEN: [Move; 12] = [
 
 #[test]
 fn one_victim_seen_as_often_keeps_the_candidate_out(rt: HostRuntime) -> Result<(), Fail> {
-    play(&rt, 10, 100, 80, &SEEN_AS_OFTEN)
+    play(&rt, rt.alloc(), 10, 100, 80, &SEEN_AS_OFTEN)
 }
 
 /// Slot 1 was demoted before slot 2.
@@ -238,7 +264,7 @@ const HEAVIER_THAN_PROTECTED: [Move; 16] = [
 fn an_item_heavier_than_protected_goes_back_to_the_front_of_probation(
     rt: HostRuntime,
 ) -> Result<(), Fail> {
-    play(&rt, 10, 120, 40, &HEAVIER_THAN_PROTECTED)
+    play(&rt, rt.alloc(), 10, 120, 40, &HEAVIER_THAN_PROTECTED)
 }
 
 /// Slot 1 is the window's last at the end, and main has room for it.
@@ -256,7 +282,7 @@ const WITHIN_THE_WINDOW: [Move; 7] = [
 fn an_access_in_the_window_stays_there_and_takes_its_new_weight(
     rt: HostRuntime,
 ) -> Result<(), Fail> {
-    play(&rt, 50, 100, 80, &WITHIN_THE_WINDOW)
+    play(&rt, rt.alloc(), 50, 100, 80, &WITHIN_THE_WINDOW)
 }
 
 /// Slot 5 has no room.
@@ -277,96 +303,25 @@ const REMOVAL: [Move; 12] = [
 
 #[test]
 fn a_removed_slot_is_free_and_weighs_nothing(rt: HostRuntime) -> Result<(), Fail> {
-    play(&rt, 10, 100, 80, &REMOVAL)
+    play(&rt, rt.alloc(), 10, 100, 80, &REMOVAL)
+}
+
+/// Asks for more room than there is memory, and for less than there is.
+fn expect_room(rt: &impl Abort, lists: &mut Lists) {
+    push(rt, lists, 0, 20);
+    assert!(rt; lists.reserve(1 << 60) == Err(NoMemory));
+    assert!(rt; lists.reserve(usize::MAX) == Err(NoMemory));
+    assert!(rt; lists.slots() == 2 && lists.holds(Slot(0)) && weighs(lists, 20, 0, 0));
+    assert!(rt;
+        lists.reserve(1).is_ok() && lists.slots() == 2,
+        "room is never taken away"
+    );
 }
 
 #[test]
 fn a_refused_reserve_changes_nothing(rt: HostRuntime) -> Result<(), Fail> {
     let mut lists = Lists::new(rt.alloc(), 10, 100, 80);
-    assert_eq!(rt; lists.reserve(1 << 60), Err(NoMemory));
-    assert_eq!(rt; lists.reserve(usize::MAX), Err(NoMemory));
-    assert_eq!(rt; lists.slots(), 0);
     lists.reserve(2)?;
-    let seen = vec![in rt.alloc(); 1u8, 1]?;
-    push(&rt, &mut lists, 0, 20);
-    push(&rt, &mut lists, 1, 5);
-    assert_eq!(rt; lists.reserve(1 << 60), Err(NoMemory));
-    assert_eq!(rt; lists.slots(), 2);
-    assert_eq!(rt;
-        lists.weights(),
-        Weights {
-            window: 25,
-            probation: 0,
-            protected: 0
-        }
-    );
-    assert_eq!(rt; dropped(&mut lists, &seen), None, "slot 0 enters main");
-    assert_eq!(rt;
-        lists.weights(),
-        Weights {
-            window: 5,
-            probation: 20,
-            protected: 0
-        }
-    );
-    lists.reserve(1)?;
-    assert_eq!(rt; lists.slots(), 2, "room is never taken away");
-    Ok(())
-}
-
-/// Numbers that look random (Knuth's MMIX generator).
-fn stir(state: &mut u64) -> u64 {
-    *state = state
-        .wrapping_mul(6364136223846793005)
-        .wrapping_add(1442695040888963407);
-    *state >> 33
-}
-
-/// Settles both and compares each drop.
-fn settle_both(
-    rt: &(impl Abort + AllocGlobal),
-    lists: &mut Lists,
-    plain: &mut Plain,
-    seen: &Vec<u8>,
-) -> Result<(), AllocError> {
-    let gone = plain.settle(rt.alloc(), seen)?;
-    for slot in &gone {
-        assert_eq!(rt; dropped(lists, seen), Some(*slot));
-    }
-    assert_eq!(rt; dropped(lists, seen), None);
-    assert_eq!(rt; lists.weights(), plain.weights());
-    Ok(())
-}
-
-#[test]
-fn ten_thousand_calls_agree_with_the_plain_definition(rt: HostRuntime) -> Result<(), Fail> {
-    let mut lists = Lists::new(rt.alloc(), WINDOW, MAIN, PROTECTED);
-    lists.reserve(48)?;
-    let mut plain = Plain::new(rt.alloc());
-    let mut seen = vec![in rt.alloc(); 0u8; 48]?;
-    let mut state = 7u64;
-    for call in 0..10000 {
-        let slot = (stir(&mut state) % 48) as usize;
-        let weight = 1 + stir(&mut state) % 40 + stir(&mut state) % 2 * (stir(&mut state) % 200);
-        let choice = stir(&mut state) % 8;
-        if let Some(count) = seen.get_mut(slot) {
-            *count = (stir(&mut state) % 16) as u8;
-        }
-        assert_eq!(rt; lists.holds(Slot(slot)), plain.holds(slot), "call {call}");
-        if !lists.holds(Slot(slot)) {
-            push(&rt, &mut lists, slot, weight);
-            plain.window.insert(0, Entry { slot, weight })?;
-        } else if choice == 0 {
-            lists.remove(Slot(slot));
-            plain.remove(slot);
-        } else {
-            access(&rt, &mut lists, slot, weight);
-            plain.access(slot, weight)?;
-        }
-        assert_eq!(rt; lists.weights(), plain.weights(), "call {call}");
-        if choice < 5 {
-            settle_both(&rt, &mut lists, &mut plain, &seen)?;
-        }
-    }
+    expect_room(&rt, &mut lists);
     Ok(())
 }

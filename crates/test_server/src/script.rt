@@ -1,0 +1,105 @@
+//! Scripts and what they print, by hand from the protocol's text.
+
+mod cuts;
+mod rows;
+mod streams;
+mod table;
+mod worked;
+
+use std::alloc::{AllocError, Global};
+use std::test::Fail;
+use table::{ILL_ESCAPED, ILL_FORMED, ILL_PLACED, ILL_USERS, SCRIPTS, USER};
+use tc_script::{Ended, run_script};
+
+/// A text, and how many times it stands.
+type Part = (&'static str, usize);
+
+/// A script and what it prints.
+struct Row {
+    name: &'static str,
+    script: &'static [Part],
+    output: &'static [Part],
+}
+
+/// Appends a part.
+fn push_part(text: &mut Vec<u8>, part: &Part) -> Result<(), AllocError> {
+    for _ in 0..part.1 {
+        text.extend_from_slice(part.0.as_bytes())?;
+    }
+    Ok(())
+}
+
+/// A whole text.
+fn joined(alloc: Global, parts: &[Part]) -> Result<Vec<u8>, AllocError> {
+    let mut text = Vec::new(alloc);
+    for part in parts {
+        push_part(&mut text, part)?;
+    }
+    Ok(text)
+}
+
+/// Whether a script ends so, and prints this.
+fn ends(alloc: Global, script: &[u8], wanted: Ended, output: &[u8]) -> bool {
+    let mut input = script;
+    let mut out = Vec::new(alloc);
+    let ended = run_script(alloc, &mut input, &mut out);
+    ended == wanted && out.as_slice() == output
+}
+
+/// Whether a script is run to its end, and prints this.
+fn prints(alloc: Global, script: &[u8], output: &[u8]) -> bool {
+    ends(alloc, script, Ended::Done, output)
+}
+
+/// Whether a row's script prints its output.
+fn prints_row(alloc: Global, row: &Row) -> Result<bool, AllocError> {
+    let script = joined(alloc, row.script)?;
+    let output = joined(alloc, row.output)?;
+    Ok(prints(alloc, &script, &output))
+}
+
+#[test]
+fn scripts_print_what_they_do_by_hand(rt: HostRuntime) -> Result<(), Fail> {
+    for row in &SCRIPTS {
+        assert!(rt; prints_row(rt.alloc(), row)?, "{}", row.name);
+    }
+    Ok(())
+}
+
+/// Whether these lines behind a user's are refused at this line, and nothing is printed.
+fn is_refused(alloc: Global, lines: &'static str, line: u64) -> Result<bool, AllocError> {
+    let script = joined(alloc, &[(USER, 1), (lines, 1), ("\nopen\n", 1)])?;
+    Ok(ends(alloc, &script, Ended::BadLine(line), b""))
+}
+
+#[test]
+fn lines_that_are_not_of_their_form_are_refused(rt: HostRuntime) -> Result<(), Fail> {
+    for line in &ILL_FORMED {
+        assert!(rt; is_refused(rt.alloc(), *line, 3)?, "{line}");
+    }
+    Ok(())
+}
+
+#[test]
+fn texts_with_another_backslash_are_refused(rt: HostRuntime) -> Result<(), Fail> {
+    for line in &ILL_ESCAPED {
+        assert!(rt; is_refused(rt.alloc(), *line, 3)?, "{line}");
+    }
+    Ok(())
+}
+
+#[test]
+fn users_with_a_fault_are_refused(rt: HostRuntime) -> Result<(), Fail> {
+    for line in &ILL_USERS {
+        assert!(rt; is_refused(rt.alloc(), *line, 3)?, "{line}");
+    }
+    Ok(())
+}
+
+#[test]
+fn lines_of_users_come_before_steps_and_once(rt: HostRuntime) -> Result<(), Fail> {
+    for lines in &ILL_PLACED {
+        assert!(rt; is_refused(rt.alloc(), *lines, 4)?, "{lines}");
+    }
+    Ok(())
+}

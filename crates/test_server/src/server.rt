@@ -1,0 +1,57 @@
+//! Two users' streams and what they are answered, by hand from the protocol's text.
+
+use std::alloc::Global;
+use std::test::Fail;
+use tc_core::{Step, fresh_caches, run};
+use tc_script::{Script, ScriptFault, print};
+use tc_users::Users;
+
+/// Alice, whose token is `one`, and bob, whose token is `two`.
+fn both(alloc: Global) -> Result<Users, ScriptFault> {
+    let script = Script::read(alloc, b"user alice one 65536\nuser bob two 65536")?;
+    let (users, _actions) = script.into_parts();
+    Ok(users)
+}
+
+/// What connections are sent where steps are run, as a script prints it.
+fn printed(alloc: Global, steps: &[Step]) -> Result<Vec<u8>, Fail> {
+    let users = both(alloc)?;
+    let caches = fresh_caches(alloc, &users)?;
+    let outputs = run(alloc, users, caches, steps)?;
+    Ok(print(alloc, &outputs)?)
+}
+
+const ALICE: &[u8] = b"set a 0 0 9\r\nalice one\r\nset k 0 0 1\r\na\r\n";
+
+const BOB: &[u8] = b"set a 0 0 7\r\nbob two\r\ngets k\r\nset k 0 0 1\r\nb\r\ngets k\r\n";
+
+/// Bob does not find what alice stored, and his first cas number is 1.
+const PRINTED: &str = "\
+    conn 3 open =STORED\\r\\nEND\\r\\nSTORED\\r\\nVALUE k 0 1 1\\r\\nb\\r\\nEND\\r\\n\n\
+    conn 7 open =STORED\\r\\nSTORED\\r\\n\n";
+
+/// Whether what alice stores does not show to bob.
+fn is_isolated(alloc: Global) -> Result<bool, Fail> {
+    let text = printed(
+        alloc,
+        &[
+            Step::Open(7),
+            Step::Open(3),
+            Step::Piece(7, ALICE),
+            Step::Piece(3, BOB),
+            Step::Act(7),
+            Step::Act(7),
+            Step::Act(3),
+            Step::Act(3),
+            Step::Act(3),
+            Step::Act(3),
+        ],
+    )?;
+    Ok(text.as_slice() == PRINTED.as_bytes())
+}
+
+#[test]
+fn users_do_not_see_each_other(rt: HostRuntime) -> Result<(), Fail> {
+    assert!(rt; is_isolated(rt.alloc())?);
+    Ok(())
+}
