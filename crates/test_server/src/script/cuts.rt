@@ -135,8 +135,8 @@ const LONG_KEYS: [Cut; 1] = [Cut {
 const LARGE_BLOCK: [Cut; 1] = [Cut {
     name: "the front of a block over the limit",
     begin: IN,
-    stream: &[("set k 0 0 1048577\r\n", 1), ("\n", 81)],
-    behind: "fill 1 1048498 0a\npiece 1 get k\\r\\n\nact 1 9\n",
+    stream: &[("set k 0 0 1048577\r\n", 1), ("\n", 281)],
+    behind: "fill 1 1048298 0a\npiece 1 get k\\r\\n\nact 1 9\n",
     output: "\
             conn 1 open =STORED\\r\\nSERVER_ERROR object too large for cache\\r\\nEND\\r\\n\n",
 }];
