@@ -8,7 +8,6 @@
 #![tactic(auto)]
 
 mod doing;
-mod fresh;
 mod outputs;
 mod running;
 mod server;
@@ -16,8 +15,8 @@ mod step;
 #[cfg(test)]
 mod tests;
 
-pub use fresh::fresh_caches;
 pub use outputs::{Output, Outputs, Sent};
 pub use running::run;
 pub use server::Server;
 pub use step::Step;
+pub use tc_fresh::fresh_caches;
