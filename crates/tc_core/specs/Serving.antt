@@ -4,13 +4,9 @@ use Rattle.tc_model.specs.Server.{Machine, World}
 use Rattle.tc_grammar.specs.declared.command.Command.{Command}
 use Rattle.tc_stats.specs.declared.outcome.Outcome.{Outcome}
 use Rattle.tc_users.specs.declared.users.UserSpec.{UserSpec}
-use Rattle.tc_plain.specs.UserCache.{UserCache, fresh}
 use Rattle.tc_plain.specs.Laws.{user_caching}
 use Rattle.tc_session.specs.Talking.{talking}
-
--- the cache that a user begins with
-abbrev pub fresh_cache : UserSpec → UserCache
-fresh_cache row = fresh row.budget row.largest
+use Rattle.tc_fresh.specs.Beginning.{fresh_cache}
 
 -- the server's machine
 abbrev pub serving : Machine

@@ -8,14 +8,13 @@
 #![tactic(auto)]
 
 mod doing;
-mod fresh;
 mod outputs;
 mod running;
 mod server;
 mod step;
 
-pub use fresh::fresh_caches;
 pub use outputs::{Output, Outputs, Sent};
 pub use running::run;
 pub use server::Server;
 pub use step::Step;
+pub use tc_fresh::fresh_caches;

@@ -1,6 +1,6 @@
 //! All steps of a server, and what is promised of them.
 ghost use Rattle.std.specs.Prelude.{◌≡◌, map, IfOk};
-ghost use Rattle.tc_core.specs.Serving.{fresh_cache};
+ghost use Rattle.tc_fresh.specs.Beginning.{fresh_cache};
 ghost use Rattle.tc_core.specs.Steps.{step_of};
 ghost use Rattle.tc_core.specs.Sending.{IsRun, IsIsolatedRun, IsUntouchedRun, IsIndifferentRun, IsFreshRun};
 

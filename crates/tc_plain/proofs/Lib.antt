@@ -15,3 +15,4 @@ pub mod Used
 pub mod Shown
 pub mod Asked
 pub mod Planning
+pub mod Left

@@ -17,3 +17,7 @@ AdvancesOnce = (k : UserCache) (m n : ℕ) → m ≤ n → advance (advance k m)
 -- each command first advances the cache to its moment
 abbrev pub ActsAdvanced : Type 0
 ActsAdvanced = (k : UserCache) (m : ℕ) (command : Command) → act k m command ≡ act (advance k m) m command
+
+-- what a command leaves is advanced to its moment
+abbrev pub LeavesAdvanced : Type 0
+LeavesAdvanced = (k : UserCache) (m : ℕ) (command : Command) → advance (act k m command).1 m ≡ (act k m command).1

@@ -1,3 +1,4 @@
 pub mod HitLists
 pub mod Counting
 pub mod StatsRows
+pub mod Sameness

@@ -1,5 +1,7 @@
 //! A user's counters, as the rows of `stats` show them.
-ghost use Rattle.std.specs.Prelude.{◌≡◌, IfOk};
+ghost use Rattle.std.specs.Prelude.{◌≡◌, IfOk, IsTrue, ◌↔◌};
+ghost use Rattle.std.specs.Cmp.{partial_equiv_from_equiv};
+ghost use Rattle.tc_stats.specs.Sameness.{are_same_counters, same_counters-equivalence};
 
 use std::alloc::Global;
 use std::marker::Model;
@@ -103,4 +105,21 @@ impl Statistics {
     {
         Statistics::new(alloc, *self.counters)
     }
+}
+
+impl PartialEq for Statistics {
+    ghost eq = { are_same_counters };
+
+    ghost laws = { partial_equiv_from_equiv same_counters-equivalence };
+
+    fn eq(&self, other: &Statistics) -> bool
+        ensures value { result ≡ are_same_counters self.now other.now }
+        ensures same { IsTrue result ↔ (self.now ≡ other.now) }
+    {
+        self.counters() == other.counters()
+    }
+}
+
+impl Eq for Statistics {
+    ghost laws = { same_counters-equivalence };
 }

@@ -1,5 +1,7 @@
 //! What a look-up found: hits, in the order asked.
 ghost use Rattle.std.specs.Prelude.{◌≡◌, ◌∷◌, ◌++◌, [], length, IfOk, OnOk, OnErr, IsTrue, ◌↔◌};
+ghost use Rattle.std.specs.Cmp.{partial_equiv_from_equiv};
+ghost use Rattle.tc_stats.specs.Sameness.{are_same_hits, same_hits-equivalence};
 
 use std::alloc::Global;
 use std::marker::Model;
@@ -123,4 +125,21 @@ impl Hits {
         }
         Ok(copied)
     }
+}
+
+impl PartialEq for Hits {
+    ghost eq = { are_same_hits };
+
+    ghost laws = { partial_equiv_from_equiv same_hits-equivalence };
+
+    fn eq(&self, other: &Hits) -> bool
+        ensures value { result ≡ are_same_hits self.now other.now }
+        ensures same { IsTrue result ↔ (self.now ≡ other.now) }
+    {
+        self.as_slice() == other.as_slice()
+    }
+}
+
+impl Eq for Hits {
+    ghost laws = { same_hits-equivalence };
 }

@@ -1,12 +1,12 @@
 //! What a command comes to.
-ghost use Rattle.std.specs.Prelude.{◌≡◌, IfOk};
+ghost use Rattle.std.specs.Prelude.{◌≡◌, IfOk, IsTrue, ◌↔◌};
 
 use crate::{Hits, Statistics};
 use std::alloc::Global;
 use tc_item::NoMemory;
 
 /// What a command comes to in a user's cache (doc/protocol.txt).
-#[derive(Debug, Drop)]
+#[derive(Debug, PartialEq, Eq, Drop)]
 pub enum Outcome {
     /// The data was stored.
     Stored,
@@ -58,6 +58,37 @@ impl Outcome {
             Outcome::TooLarge => Ok(Outcome::TooLarge),
             Outcome::NotNumeric => Ok(Outcome::NotNumeric),
             Outcome::CasWorn => Ok(Outcome::CasWorn),
+        }
+    }
+
+    /// Whether two outcomes are the same: `==`, with a contract that says so.
+    pub fn is(&self, other: &Outcome) -> bool
+        ensures same { IsTrue result ↔ (self.now ≡ other.now) }
+    {
+        match self {
+            Outcome::Stored => matches!(other, Outcome::Stored),
+            Outcome::NotStored => matches!(other, Outcome::NotStored),
+            Outcome::Exists => matches!(other, Outcome::Exists),
+            Outcome::NotFound => matches!(other, Outcome::NotFound),
+            Outcome::Deleted => matches!(other, Outcome::Deleted),
+            Outcome::Touched => matches!(other, Outcome::Touched),
+            Outcome::Number(number) => match other {
+                Outcome::Number(found) => number == found,
+                _ => false,
+            },
+            Outcome::Values(hits) => match other {
+                Outcome::Values(found) => hits == found,
+                _ => false,
+            },
+            Outcome::Done => matches!(other, Outcome::Done),
+            Outcome::Stats(statistics) => match other {
+                Outcome::Stats(found) => statistics == found,
+                _ => false,
+            },
+            Outcome::Version => matches!(other, Outcome::Version),
+            Outcome::TooLarge => matches!(other, Outcome::TooLarge),
+            Outcome::NotNumeric => matches!(other, Outcome::NotNumeric),
+            Outcome::CasWorn => matches!(other, Outcome::CasWorn),
         }
     }
 }

@@ -1,5 +1,5 @@
 -- The first fault of the rows, row by row, and what rows without a fault keep.
-use Rattle.std.specs.Prelude.{nat_le, ◌&&◌}
+use Rattle.std.specs.Prelude.{nat_le, ◌&&◌, ◌^◌}
 use Rattle.std.specs.Option.{option_or}
 use Rattle.std.specs.List.{All}
 use Rattle.std.proofs.Common.{◌≡◌, ℕ, zero, suc, ◌+◌, ◌<◌, ◌≤◌, Bool, true, false, cond, List, [], ◌∷◌, ◌++◌, length, get_or, slice_get, take, drop, Option, Some, None, IfSome, refl, ◌∙◌, ap, arith}
@@ -7,6 +7,7 @@ use Rattle.std.proofs.lemmas.Bool.Decides.{nat_tests}
 use Rattle.std.proofs.lemmas.List.{take_more, drop_more}
 use Rattle.tc_users.specs.declared.users.UserSpec.{UserSpec}
 use Rattle.tc_users.specs.declared.settings_fault.SettingsFault.{SettingsFault}
+use Rattle.tc_users.specs.declared.settings_fault.SettingsFault.TheVariants.{TooManyUsers}
 use Rattle.tc_users.specs.Faults.{row_fault, user_fault, fault_after, first_fault, IsSoundRow}
 
 -- the first fault from a row on is that row's, or that of the rows behind it
@@ -72,3 +73,9 @@ cond-none_else false x o e = (refl, e)
 -- a table without a fault has good rows
 pub All-IsSoundRow-from_first_fault : (rows : List UserSpec) → first_fault rows ≡ None → All IsSoundRow rows
 All-IsSoundRow-from_first_fault rows e = All-IsSoundRow-from_fault_after [] rows (cond-none_else _ _ _ e).1
+
+-- a table without a fault is numbered by 32 bits
+pub length-from_first_fault : (rows : List UserSpec) → first_fault rows ≡ None → length rows < 2 ^ 32
+length-from_first_fault rows e =
+    let few : nat_le (2 ^ 32) (length rows) ≡ false = (cond-none_else (nat_le (2 ^ 32) (length rows)) (TooManyUsers (length rows)) (fault_after [] rows) e).0 in
+    grind (arith, nat_tests)

@@ -172,7 +172,8 @@ impl Users {
 
     /// How many users there are.
     pub fn len(&self) -> usize
-        ensures { result ≡ length self.now }
+        ensures count { result ≡ length self.now }
+        ensures most { length self.now < 2 ^ 32 }
     {
         self.rows.len()
     }
