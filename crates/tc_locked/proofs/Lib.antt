@@ -1,0 +1,8 @@
+pub mod Books
+pub mod TableSteps
+pub mod KeptBooks
+pub mod ClosedHalls
+pub mod NotePlaces
+pub mod EmptyCaches
+pub mod Replayed
+pub mod FreshHits

@@ -1,0 +1,109 @@
+//! A hall that has ended.
+ghost use Rattle.std.specs.Prelude.{◌≡◌, ◌<◌, length, IfSome, IfNone, option_map, option_copied};
+ghost use Rattle.tc_locked.specs.Calls.{IsUser};
+ghost use Rattle.tc_locked.specs.Closing.{IsBookOf, AllKept, AllTied, IsCountOf, HasNote, IsNoteOf, OnPage, TurnedPage, book_of, HasLegalPage};
+ghost use Rattle.tc_locked.specs.declared.view.Note.{Note};
+
+use crate::closing::Shut;
+use crate::entry::Entry;
+use crate::hall::Hall;
+use crate::naming::{Naming, TableSeat};
+use crate::receipt::Receipt;
+use crate::seat::Seat;
+use std::marker::{Model, PhantomData};
+use tc_plain::{Cache, Plain};
+use tc_users::UserNo;
+
+/// Too few seats: the hall and the seats come back.
+#[derive(Drop)]
+pub struct Missing<C: Cache, N: Naming> {
+    pub hall: Hall<C, N>,
+    pub seats: Vec<Seat<N>>,
+}
+
+/// A hall that has ended, seen as its books and its seats.
+#[derive(Drop)]
+pub struct Closed<C: Cache, N: Naming> {
+    pub(crate) all: TableSeat,
+    pub(crate) books: Vec<Shut<C>>,
+    pub(crate) of: PhantomData<N>,
+}
+
+impl<C: Cache, N: Naming> Model for Closed<C, N> {
+    ghost use Rattle.std.specs.Prelude.{◌≡◌, length, map};
+    ghost use Rattle.tc_locked.specs.Closing.{ClosedState, with_logs, seat_of, AllKept, AllTied, AllThere};
+
+    ghost Value = { ClosedState };
+
+    ghost view = { λ c. record { books = with_logs c.books.items c.all.me.0.books; seats = map seat_of c.all.me.0.seats } };
+
+    ghost invariant = { λ c. AllKept N.terms (with_logs c.books.items c.all.me.0.books) × AllTied (with_logs c.books.items c.all.me.0.books) (map seat_of c.all.me.0.seats) × (length (with_logs c.books.items c.all.me.0.books) ≡ length c.books.items) × AllThere N.terms (with_logs c.books.items c.all.me.0.books) };
+}
+
+impl<C: Cache, N: Naming> Closed<C, N> {
+    /// The book of a user.
+    fn find(&self, user: UserNo) -> Option<&Shut<C>>
+        ensures none { IfNone result (IsUser (length N.terms.begins) user → ⊥) }
+        ensures some { IfSome result (λ shut. IsBookOf user self.now.books shut.now) }
+        ensures known { IfSome result (λ _. IsUser (length N.terms.begins) user) }
+        ensures first { option_map (λ shut. shut.book) (option_copied result) ≡ book_of user self.now.books }
+        ensures kept { AllKept N.terms self.now.books }
+        ensures tied { AllTied self.now.books self.now.seats }
+    {
+        let number = user.number();
+        for shut in &self.books {
+            if shut.user() == number {
+                return Some(shut);
+            }
+        }
+        None
+    }
+
+    /// How many entries the seat wrote into the user's book, over all pages.
+    pub fn count(&self, seat_no: usize, user: UserNo) -> u64
+        requires seat { seat_no < N.terms.seats }
+        ensures unknown { (IsUser (length N.terms.begins) user → ⊥) → result ≡ 0 }
+        ensures count { IsUser (length N.terms.begins) user → IsCountOf seat_no user self.now.seats result }
+    {
+        match self.find(user) {
+            Some(shut) => shut.count(seat_no),
+            None => 0,
+        }
+    }
+
+    /// The entry of a receipt: none exactly where its page was turned.
+    pub fn entry_of(&self, receipt: &Receipt<N>) -> Option<&Entry>
+        ensures found { (n : Note) → HasNote self.now.seats n → IsNoteOf receipt.now.user receipt.now.slip n → IsUser (length N.terms.begins) receipt.now.user
+            → IfSome result (λ entry. (entry.now ≡ n.entry) × OnPage receipt.now.user self.now.books n.page)
+            × IfNone result (TurnedPage receipt.now.user self.now.books n.page) }
+    {
+        let shut = self.find(receipt.user)?;
+        shut.entry(receipt.slip.page, receipt.slip.number)
+    }
+
+    /// What the last page of a user's book began with; `None` exactly where there is no such user.
+    pub fn opening(&self, user: UserNo) -> Option<&Plain>
+        ensures opening { option_copied result ≡ option_map (λ book. book.opening) (book_of user self.now.books) }
+        ensures known { IfSome result (λ _. IsUser (length N.terms.begins) user) }
+        ensures unknown { IfNone result (IsUser (length N.terms.begins) user → ⊥) }
+        ensures legal { IfSome (book_of user self.now.books) HasLegalPage }
+    {
+        match self.find(user) {
+            Some(shut) => Some(shut.opening()),
+            None => None,
+        }
+    }
+
+    /// The entries of the last page of a user's book; `None` exactly where there is no such user.
+    pub fn page(&self, user: UserNo) -> Option<&[Entry]>
+        ensures page { option_copied result ≡ option_map (λ book. book.entries) (book_of user self.now.books) }
+        ensures known { IfSome result (λ _. IsUser (length N.terms.begins) user) }
+        ensures unknown { IfNone result (IsUser (length N.terms.begins) user → ⊥) }
+        ensures legal { IfSome (book_of user self.now.books) HasLegalPage }
+    {
+        match self.find(user) {
+            Some(shut) => Some(shut.page()),
+            None => None,
+        }
+    }
+}

@@ -1,0 +1,149 @@
+//! A hall's end: all seats become one, which knows what is tied.
+ghost use Rattle.std.specs.Prelude.{◌≡◌, ◌≢◌, ◌+◌, slice_get, Some, IfSome, IfNone, ℕ, ◌<◌, ◌≤◌, ◌++◌, ◌∷◌, [], length, slice_index, map, vec_len, vec_capacity};
+ghost use Rattle.tc_locked.specs.Views.{both_of, seat_view, book_view};
+ghost use Rattle.tc_locked.specs.Rule.{Tied, Apart};
+ghost use Rattle.tc_locked.specs.KeptBooks.{IsKept};
+ghost use Rattle.tc_locked.specs.declared.entry.Entry.{Entry};
+ghost use Rattle.tc_locked.specs.Closing.{seat_face, add_seats, shut_of, TookBooks, HasLegalPage};
+
+use crate::book::Book;
+use crate::entry::Entry;
+use crate::kept::Kept;
+use crate::naming::{Naming, Shared, TableSeat};
+use crate::seat::Seat;
+use crate::view::{Compared, Together};
+use std::marker::Model;
+use std::sync::Mutex;
+use tc_plain::{Cache, Plain};
+use tc_users::UserNo;
+
+/// A book that has left its lock.
+#[derive(Drop)]
+pub struct Shut<C: Cache> {
+    pub(crate) user: UserNo,
+    pub(crate) book: Book<C>,
+}
+
+impl<C: Cache> Model for Shut<C> {
+    ghost use Rattle.tc_locked.specs.Closing.{ShutState};
+
+    ghost Value = { ShutState };
+
+    ghost view = { λ s. record { user = s.user; book = s.book } };
+}
+
+impl<C: Cache> Shut<C> {
+    /// The number of the book's user.
+    pub fn user(&self) -> u32
+        ensures { result ≡ self.now.user }
+    {
+        self.user.number()
+    }
+
+    /// How many entries a seat made in it, over all pages.
+    pub fn count(&self, seat_no: usize) -> u64
+        requires { seat_no < length self.now.book.counts }
+        ensures { result ≡ slice_index self.now.book.counts seat_no }
+    {
+        self.book.count(seat_no)
+    }
+
+    /// The entry of that page and that number, if the page was not turned.
+    pub fn entry(&self, page: u64, number: u64) -> Option<&Entry>
+        ensures other { page ≢ self.now.book.turns → IfSome result (λ _. ⊥) }
+        ensures found { page ≡ self.now.book.turns → (j : ℕ) (e : Entry) → slice_get self.now.book.entries j ≡ Some e → number + length self.now.book.entries ≡ self.now.book.number + j + 1 → IfSome result (λ x. x.now ≡ e) × IfNone result ⊥ }
+    {
+        if page != self.book.turns() {
+            return None;
+        }
+        self.book.entry(number)
+    }
+
+    /// What the page began with.
+    pub fn opening(&self) -> &Plain
+        ensures opening { result.now ≡ self.now.book.opening }
+        ensures legal { HasLegalPage self.now.book }
+    {
+        self.book.opening()
+    }
+
+    /// The entries of the page.
+    pub fn page(&self) -> &[Entry]
+        ensures entries { result.now ≡ self.now.book.entries }
+        ensures legal { HasLegalPage self.now.book }
+    {
+        self.book.page()
+    }
+}
+
+/// Takes one caller's seat in.
+fn take_seat<N: Naming>(table: &Shared, all: &mut TableSeat, seat: Seat<N>)
+    requires table { (table.now.table_id ≡ N.table) × (0 < table.now.table_id.words) }
+    requires all { all.old.table_id ≡ N.table }
+    ensures { (all.new.table_id ≡ N.table) × (all.new.me ≡ (both_of all.old.me.0 (seat_view seat.number seat.notes), all.old.me.1)) }
+{
+    let Seat {
+        inner,
+        number: _,
+        of: _,
+    } = seat;
+    table.join_seat::<Together>(all, inner);
+}
+
+/// Takes a book's seat in.
+fn take_book<C: Cache, N: Naming>(table: &Shared, all: &mut TableSeat, kept: Kept<C, N>) -> Shut<C>
+    requires table { (table.now.table_id ≡ N.table) × (0 < table.now.table_id.words) }
+    requires all { all.old.table_id ≡ N.table }
+    ensures shut { result ≡ shut_of kept }
+    ensures kept { IsKept N.terms kept }
+    ensures all { (all.new.table_id ≡ N.table) × (all.new.me ≡ (both_of all.old.me.0 (book_view kept.user kept.log), all.old.me.1)) }
+{
+    let Kept {
+        user,
+        book,
+        badge,
+        of: _,
+    } = kept;
+    table.join_seat::<Together>(all, badge.into_seat());
+    Shut { user, book }
+}
+
+/// Takes all callers' seats in.
+pub fn take_seats<N: Naming>(table: &Shared, all: &mut TableSeat, seats: Vec<Seat<N>>)
+    requires table { (table.now.table_id ≡ N.table) × (0 < table.now.table_id.words) }
+    requires all { all.old.table_id ≡ N.table }
+    ensures { (all.new.table_id ≡ N.table) × (all.new.me ≡ (add_seats all.old.me.0 (map seat_face seats.items), all.old.me.1)) }
+{
+    for seat in seats {
+        take_seat(table, all, seat);
+    }
+}
+
+/// Takes all books and their seats in; the last lock's comes first.
+pub fn take_books<C: Cache, N: Naming>(
+    table: &Shared,
+    all: &mut TableSeat,
+    mut locks: Vec<Mutex<Kept<C, N>>>,
+    out: &mut Vec<Shut<C>>,
+)
+    requires table { (table.now.table_id ≡ N.table) × (0 < table.now.table_id.words) }
+    requires all { all.old.table_id ≡ N.table }
+    requires room { (vec_len out.old ≡ 0) × (out.old.items ≡ []) × (vec_len locks ≤ vec_capacity out.old) }
+    ensures seat { (all.new.table_id ≡ N.table) × (all.new.me.1 ≡ all.old.me.1) }
+    ensures books { TookBooks N.terms all.old.me.0 out.new.items all.new.me.0 }
+    ensures count { vec_len out.new ≡ vec_len locks }
+{
+    while let Some(lock) = locks.pop() {
+        out.push_reserved(take_book(table, all, lock.into_inner()));
+    }
+}
+
+/// What the one seat knows.
+pub fn compare(table: &Shared, all: &mut TableSeat)
+    requires { (all.old.table_id ≡ table.now.table_id) × (0 < table.now.table_id.words) }
+    ensures same { (all.new.table_id ≡ all.old.table_id) × (all.new.me ≡ all.old.me) }
+    ensures tied { Tied all.new.me.0 }
+    ensures apart { Apart all.new.me.0.books }
+{
+    table.load::<Compared>(all, 0);
+}

@@ -1,0 +1,164 @@
+//! A hall: each user's book under a lock of its own.
+ghost use Rattle.std.specs.Prelude.{◌≡◌, ◌<◌, ◌≤◌, length, IfOk, OnOk, IfErr, OnErr, vec_len};
+ghost use Rattle.tc_locked.specs.Closing.{AllKept, AllTied, AllThere, AllFresh};
+ghost use Rattle.tc_locked.specs.Calls.{IsUser, Wrote};
+ghost use Rattle.tc_locked.specs.declared.call_fault.CallFault.TheVariants.{NoUser};
+
+use crate::call_fault::CallFault;
+use crate::closed::{Closed, Missing};
+use crate::closing::{Shut, compare, take_books, take_seats};
+use crate::kept::Kept;
+use crate::naming::{HallTable, Naming};
+use crate::receipt::Receipt;
+use crate::seat::Seat;
+use std::alloc::Global;
+use std::marker::{Model, PhantomData};
+use std::sync::{Mutex, Wait};
+use tc_grammar::Command;
+use tc_item::Moment;
+use tc_plain::Cache;
+use tc_users::UserNo;
+
+/// The books of all users of the hall N. Contracts see how many there are.
+#[derive(Drop)]
+pub struct Hall<C: Cache, N: Naming> {
+    pub(crate) table: HallTable,
+    pub(crate) books: Vec<Mutex<Kept<C, N>>>,
+    pub(crate) journal: usize,
+    pub(crate) seats: usize,
+    /// Room for the books when the hall ends.
+    pub(crate) room: Vec<Shut<C>>,
+}
+
+impl<C: Cache, N: Naming> Model for Hall<C, N> {
+    ghost use Rattle.std.specs.Prelude.{◌≡◌, ◌<◌, ◌≤◌, ◌^◌, ℕ, length, [], vec_len, vec_capacity};
+
+    ghost Value = { ℕ };
+
+    ghost view = { λ h. vec_len h.books };
+
+    ghost invariant = { λ h. (h.table.shared.table_id ≡ N.table) × (0 < h.table.shared.table_id.words) × (h.journal ≡ N.terms.journal) × (0 < h.journal) × (h.seats ≡ N.terms.seats) × (0 < h.seats) × ((vec_len h.room ≡ 0) × (h.room.items ≡ []) × (vec_len h.books ≤ vec_capacity h.room)) × (vec_len h.books ≡ length N.terms.begins) × (vec_len h.books < 2 ^ 32) };
+}
+
+impl<C: Cache, N: Naming> Hall<C, N> {
+    /// How many users there are.
+    pub fn users(&self) -> u32
+        ensures count { result ≡ self.now }
+        ensures begins { self.now ≡ length N.terms.begins }
+    {
+        self.books.len() as u32
+    }
+
+    /// `call`, which runs `held` once the lock is got.
+    pub fn call_with<R: Wait, F: FnOnce()>(
+        &self,
+        rt: &R,
+        alloc: Global,
+        seat: &mut Seat<N>,
+        user: UserNo,
+        now: Moment,
+        conn: u32,
+        command: &Command,
+        held: F,
+    ) -> Result<Receipt<N>, CallFault>
+        requires held { F.pre held }
+        ensures receipt { IfOk result (λ receipt. receipt.user ≡ user) }
+        ensures wrote { IfOk result (λ receipt. Wrote user seat.old now conn command.now receipt.slip seat.new) }
+        ensures known { IfOk result (λ _. IsUser self.now user) }
+        ensures unknown { IfErr result (λ fault. (fault ≡ NoUser → IsUser self.now user → ⊥) × ((IsUser self.now user → ⊥) → fault ≡ NoUser)) }
+        ensures unchanged_on_err { OnErr result (seat.new ≡ seat.old) }
+    {
+        let number = user.number();
+        if number == 0 || number > self.users() {
+            return Err(CallFault::NoUser);
+        }
+        let at = (number - 1) as usize;
+        let mut guard = self.books[at].lock(rt);
+        held();
+        let kept = &mut *guard;
+        if kept.user() != number {
+            // A lock doesn't know which place it has. No hall is made so.
+            return Err(CallFault::Worn);
+        }
+        let slip = kept.call(
+            alloc,
+            &self.table.shared,
+            seat,
+            self.journal,
+            now,
+            conn,
+            command,
+        )?;
+        Ok(Receipt {
+            user,
+            slip,
+            of: PhantomData,
+        })
+    }
+
+    /// One call of a seat, in the user's book. A refusal leaves the seat as it was.
+    pub fn call<R: Wait>(
+        &self,
+        rt: &R,
+        alloc: Global,
+        seat: &mut Seat<N>,
+        user: UserNo,
+        now: Moment,
+        conn: u32,
+        command: &Command,
+    ) -> Result<Receipt<N>, CallFault>
+        ensures receipt { IfOk result (λ receipt. receipt.user ≡ user) }
+        ensures wrote { IfOk result (λ receipt. Wrote user seat.old now conn command.now receipt.slip seat.new) }
+        ensures known { IfOk result (λ _. IsUser self.now user) }
+        ensures unknown { IfErr result (λ fault. (fault ≡ NoUser → IsUser self.now user → ⊥) × ((IsUser self.now user → ⊥) → fault ≡ NoUser)) }
+        ensures unchanged_on_err { OnErr result (seat.new ≡ seat.old) }
+    {
+        self.call_with(rt, alloc, seat, user, now, conn, command, || ())
+    }
+
+    /// Deferred work of a user's cache, at most `limit` pieces of it; nothing for an unknown user.
+    pub fn maintain<R: Wait>(&self, rt: &R, user: UserNo, now: Moment, limit: u32) {
+        let number = user.number();
+        if number == 0 || number > self.users() {
+            return;
+        }
+        self.books[(number - 1) as usize]
+            .lock(rt)
+            .maintain(now, limit);
+    }
+
+    /// Ends the hall. It is refused exactly where fewer seats than all are given, and the hall and the
+    /// seats come back. Else each book is legal over all pages (`kept`), each seat's entries in each
+    /// book are what the seat wrote there (`tied`), each hit is what the entries before it last left
+    /// under its key (`fresh`), and each user has a book (`there`).
+    pub fn close(self, mut seats: Vec<Seat<N>>) -> Result<Closed<C, N>, Missing<C, N>>
+        ensures seats { IfOk result (λ closed. closed.seats ≡ seats.items) }
+        ensures books { IfOk result (λ closed. length closed.books ≡ self) }
+        ensures kept { IfOk result (λ closed. AllKept N.terms closed.books) }
+        ensures tied { IfOk result (λ closed. AllTied closed.books closed.seats) }
+        ensures fresh { IfOk result (λ closed. AllFresh closed.books) }
+        ensures there { IfOk result (λ closed. AllThere N.terms closed.books) }
+        ensures all { IfOk result (λ _. N.terms.seats ≤ vec_len seats) }
+        ensures missing { IfErr result (λ m. (vec_len seats < N.terms.seats) × (m.hall ≡ self) × (m.seats.items ≡ seats.items)) }
+    {
+        if seats.len() < self.seats {
+            return Err(Missing { hall: self, seats });
+        }
+        let Hall {
+            table,
+            books: locks,
+            journal: _,
+            seats: _,
+            room: mut books,
+        } = self;
+        let mut all = seats.remove(0).into_inner();
+        take_seats(&table.shared, &mut all, seats);
+        take_books(&table.shared, &mut all, locks, &mut books);
+        compare(&table.shared, &mut all);
+        Ok(Closed {
+            all,
+            books,
+            of: PhantomData,
+        })
+    }
+}

@@ -1,0 +1,96 @@
+//! What lies under a user's lock: the user's book, beside its own seat of the hall's table.
+ghost use Rattle.std.specs.Prelude.{◌≡◌, ◌≢◌, ◌-◌, ◌^◌, ◌<◌, IfOk, OnOk, IfErr, OnErr, length};
+ghost use Rattle.tc_locked.specs.Views.{of_user};
+ghost use Rattle.tc_locked.specs.Books.{entry_of, slip_of, paged, after_maintain};
+ghost use Rattle.tc_locked.specs.KeptBooks.{kept_after, seat_after};
+ghost use Rattle.tc_locked.specs.declared.call_fault.CallFault.TheVariants.{Worn, NoUser};
+
+use crate::book::Book;
+use crate::call_fault::CallFault;
+use crate::entry::Slip;
+use crate::naming::{Naming, Shared};
+use crate::noting::note_both;
+use crate::seat::Seat;
+use crate::view::View;
+use atomic_table::Badge;
+use std::alloc::Global;
+use std::marker::{Model, PhantomData};
+use std::mem;
+use tc_grammar::Command;
+use tc_item::Moment;
+use tc_plain::Cache;
+use tc_users::UserNo;
+
+/// A book of the hall N, seen as its user, its state and the notes of all its pages.
+#[derive(Drop)]
+pub struct Kept<C: Cache, N: Naming> {
+    pub(crate) user: UserNo,
+    pub(crate) book: Book<C>,
+    pub(crate) badge: Badge<View>,
+    pub(crate) of: PhantomData<N>,
+}
+
+impl<C: Cache, N: Naming> Model for Kept<C, N> {
+    ghost use Rattle.std.specs.Prelude.{◌≡◌, ◌∷◌, []};
+    ghost use Rattle.tc_locked.specs.Views.{book_view};
+    ghost use Rattle.tc_locked.specs.KeptBooks.{KeptState, log_of, IsKept};
+
+    ghost Value = { KeptState };
+
+    ghost view = { λ k. record { user = k.user; book = k.book; log = log_of k.badge.views } };
+
+    ghost invariant = { λ k. (k.badge.table_id ≡ N.table) × (k.badge.views ≡ book_view k.user (log_of k.badge.views) ∷ []) × IsKept N.terms (record { user = k.user; book = k.book; log = log_of k.badge.views }) };
+}
+
+impl<C: Cache, N: Naming> Kept<C, N> {
+    /// One call of a seat: the book's paged call, and the notes of both seats. It waits for nobody, and
+    /// a refusal changes nothing.
+    pub fn call(
+        &mut self,
+        alloc: Global,
+        table: &Shared,
+        seat: &mut Seat<N>,
+        journal: usize,
+        now: Moment,
+        conn: u32,
+        command: &Command,
+    ) -> Result<Slip, CallFault>
+        requires table { (table.now.table_id ≡ N.table) × (0 < table.now.table_id.words) }
+        requires journal { (journal ≡ N.terms.journal) × (0 < journal) }
+        ensures slip { IfOk result (λ slip. slip ≡ slip_of (paged journal self.old.book) (entry_of self.old.book seat.old.number now conn command.now)) }
+        ensures kept { OnOk result (self.new ≡ kept_after journal self.old seat.old.number now conn command.now) }
+        ensures seat { OnOk result (seat.new ≡ seat_after journal self.old seat.old now conn command.now) }
+        ensures tally { IfOk result (λ slip. slip.tally ≡ length (of_user self.old.user seat.new.notes)) }
+        ensures worn { IfErr result (λ fault. (fault ≡ Worn → self.old.book.number ≡ 2 ^ 64 - 1) × (fault ≢ NoUser)) }
+        ensures unchanged_on_err { OnErr result ((self.new ≡ self.old) × (seat.new ≡ seat.old)) }
+    {
+        let slip = self
+            .book
+            .call_paged(alloc, journal, seat.number, now, conn, command)?;
+        let badge = mem::replace(&mut self.badge, Badge::blank());
+        self.badge = note_both(
+            table,
+            &mut seat.inner,
+            seat.number,
+            badge,
+            self.user,
+            slip.page,
+            self.book.last(),
+        );
+        Ok(slip)
+    }
+
+    /// Deferred work of the cache, at most `limit` pieces of it.
+    pub fn maintain(&mut self, now: Moment, limit: u32)
+        ensures { self.new ≡ record { user = self.old.user; book = after_maintain self.old.book now; log = self.old.log } }
+    {
+        self.book.maintain(now, limit);
+    }
+
+    /// The number of the book's user.
+    pub(crate) fn user(&self) -> u32
+        ensures { result ≡ self.now.user }
+    {
+        self.user.number()
+    }
+}

@@ -1,0 +1,32 @@
+//! The name of a hall.
+use crate::entry::Entry;
+use crate::view::{OneHistory, View};
+use std::alloc::Global;
+use std::marker::Brand;
+
+/// Which hall it is: its table, and what all its books share.
+pub trait Naming {
+    ghost use Rattle.atomic_table.specs.Seated.{TableId};
+    ghost use Rattle.tc_locked.specs.KeptBooks.{Terms};
+
+    ghost table: { TableId };
+
+    ghost terms: { Terms };
+}
+
+impl Naming for Brand {
+    ghost use Rattle.tc_locked.specs.KeptBooks.{no_table, no_terms};
+
+    ghost table = { no_table };
+
+    ghost terms = { no_terms };
+}
+
+/// The part of a hall's table that threads share.
+pub type Shared = atomic_table::Shared<Entry, View, (), OneHistory>;
+
+/// A seat of the table.
+pub type TableSeat = atomic_table::Seat<Entry, View>;
+
+/// A hall's table.
+pub type HallTable = atomic_table::Table<Entry, View, (), OneHistory, Global>;
