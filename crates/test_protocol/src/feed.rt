@@ -97,9 +97,11 @@ fn text_of_next(alloc: Global, request: &Option<Request>) -> Result<String, Allo
 }
 
 /// The next request as text.
-fn shown(alloc: Global, feed: &mut Feed, limit: u32) -> Result<String, Fail> {
-    let request = next(alloc, feed, limit)?;
-    Ok(text_of_next(alloc, &request)?)
+fn shown(alloc: Global, feed: &mut Feed, limit: u32) -> Result<String, AllocError> {
+    match next(alloc, feed, limit) {
+        Ok(request) => text_of_next(alloc, &request),
+        Err(NoMemory) => String::from_str(alloc, "out of memory"),
+    }
 }
 
 /// The request of this number of the stream.

@@ -5,7 +5,7 @@ use std::process::Abort;
 use std::test::Fail;
 use tc_feed::{Feed, Request};
 use tc_grammar::Command;
-use tc_item::{Blob, Key};
+use tc_item::{Blob, Key, NoMemory};
 use tc_stats::{Hit, Hits};
 use tc_users::{Text, UserSpec, Users};
 
@@ -36,7 +36,10 @@ fn ask(request: Option<Request>) -> Result<Command, Fail> {
 pub fn command(alloc: Global, stream: &str) -> Result<Command, Fail> {
     let mut feed = Feed::new(alloc);
     feed.push(stream.as_bytes())?;
-    ask(feed.next(alloc, 16)?)
+    match feed.next(alloc, 16) {
+        Ok(request) => ask(request),
+        Err(NoMemory) => Err("out of memory".into()),
+    }
 }
 
 /// A hit.

@@ -4,21 +4,21 @@ ghost use Rattle.std.specs.Prelude.{◌≤◌, OnOk};
 
 mod table;
 
-use crate::fixtures::{expect_bytes, users};
+use crate::fixtures::{expect_bytes, expect_number, users};
 use crate::stats::{look_up, stats_of};
 use std::alloc::Global;
 use std::process::Abort;
 use std::test::Fail;
 use table::{
     ANSWERED, BEFORE_A_LOGIN, CALLED, CAME_TO, COUNTERS, FAULTS, FOUND, LINE_TOO_LONG, LOGINS,
-    LOOK_UPS, Left, MISS, QUITTING, REFUSALS, REPLIES, Reply, SHUT, STATS, STAYING, STREAM, Step,
-    Turn, UNSENT, Wanted,
+    LOOK_UPS, MISS, QUITTING, REFUSALS, REPLIES, Reply, SHUT, STATS, STAYING, STREAM, State, Step,
+    Turn, UNSENT, Visit, Wanted,
 };
 use tc_grammar::Command;
 use tc_item::NoMemory;
 use tc_session::{Session, Want};
 use tc_stats::Outcome;
-use tc_users::Users;
+use tc_users::{UserNo, Users};
 
 /// Takes a piece, once more where memory was refused.
 fn push(session: &mut Session, piece: &[u8]) -> Result<(), NoMemory> {
@@ -38,12 +38,21 @@ fn next(alloc: Global, session: &mut Session, users: &Users) -> Result<Want, NoM
     }
 }
 
+/// Whose cache a command is for.
+fn owner_of(user: UserNo) -> Wanted {
+    match user.number() {
+        1 => Wanted::Alices,
+        2 => Wanted::Bobs,
+        _ => Wanted::Unknown,
+    }
+}
+
 /// What a request wants, without the command.
 fn wanted_of(want: &Want) -> Wanted {
     match want {
         Want::Nothing => Wanted::Nothing,
         Want::Said => Wanted::Said,
-        Want::Call(user, _) => Wanted::Call(user.number()),
+        Want::Call(user, _) => owner_of(*user),
         Want::Close => Wanted::Close,
     }
 }
@@ -52,8 +61,10 @@ fn wanted_of(want: &Want) -> Wanted {
 fn wanted(alloc: Global, session: &mut Session, users: &Users) -> Result<Wanted, NoMemory>
     ensures { OnOk result (64 ≤ session.new.room) }
 {
-    let want = next(alloc, session, users)?;
-    Ok(wanted_of(&want))
+    match next(alloc, session, users) {
+        Ok(want) => Ok(wanted_of(&want)),
+        Err(NoMemory) => Err(NoMemory),
+    }
 }
 
 /// A connection that is new, or that alice's login has bound, with nothing to send.
@@ -86,18 +97,18 @@ fn expect_turn(
     Ok(())
 }
 
-/// Takes a turn on a connection, which makes this of `version` then.
+/// Takes a turn on a connection, and what it makes of `version` then.
 fn expect_owner(
     rt: &(impl AllocGlobal + Abort),
     session: &mut Session,
     users: &Users,
-    turn: &Turn,
-    version: Wanted,
+    visit: &Visit,
 ) -> Result<(), NoMemory> {
-    expect_turn(rt, session, users, turn)?;
+    let (said, want, out, version) = *visit;
+    expect_turn(rt, session, users, &(said, want, out))?;
     push(session, b"version\r\n")?;
     let got = wanted(rt.alloc(), session, users)?;
-    expect_wanted(rt, got, version, turn.0);
+    expect_wanted(rt, got, version, said);
     Ok(())
 }
 
@@ -106,11 +117,11 @@ fn expect_each_owner(
     rt: &(impl AllocGlobal + Abort),
     users: &Users,
     bound: bool,
-    rows: &[(Turn, Wanted)],
+    visits: &[Visit],
 ) -> Result<(), NoMemory> {
-    for (turn, version) in rows {
+    for visit in visits {
         let mut session = opened(rt.alloc(), users, bound)?;
-        expect_owner(rt, &mut session, users, turn, *version)?;
+        expect_owner(rt, &mut session, users, visit)?;
     }
     Ok(())
 }
@@ -119,10 +130,10 @@ fn expect_each_owner(
 fn expect_owners(
     rt: &(impl AllocGlobal + Abort),
     bound: bool,
-    rows: &[(Turn, Wanted)],
+    visits: &[Visit],
 ) -> Result<(), Fail> {
     let users = users(rt.alloc())?;
-    expect_each_owner(rt, &users, bound, rows)?;
+    expect_each_owner(rt, &users, bound, visits)?;
     Ok(())
 }
 
@@ -151,19 +162,19 @@ fn a_bound_command_is_handed_to_its_users_cache(rt: HostRuntime) -> Result<(), F
     expect_owners(&rt, true, &CALLED)
 }
 
-/// How much is unread, and whether the connection is closed.
-fn left_of(session: &Session) -> Left {
-    let kept = session.kept();
+/// Whether the connection is closed.
+fn state_of(session: &Session) -> State {
     if session.is_closed() {
-        Left::Closed(kept)
+        State::Closed
     } else {
-        Left::Open(kept)
+        State::Open
     }
 }
 
-/// Whether this is left here.
-fn expect_left(rt: &impl Abort, got: Left, want: Left, at: &str) {
-    assert_eq!(rt; got, want, "{at}");
+/// Whether a connection is in this state, with so many bytes unread.
+fn expect_state(rt: &impl Abort, session: &Session, state: State, kept: u64, at: &str) {
+    assert_eq!(rt; state_of(session), state, "{at}");
+    expect_number(rt, session.kept() as u64, kept, at);
 }
 
 /// Takes steps.
@@ -173,10 +184,10 @@ fn expect_steps(
     users: &Users,
     steps: &[Step],
 ) -> Result<(), NoMemory> {
-    for (sent, turn, left) in steps {
+    for (sent, turn, state, kept) in steps {
         session.sent(*sent);
         expect_turn(rt, session, users, turn)?;
-        expect_left(rt, left_of(session), *left, turn.0);
+        expect_state(rt, session, *state, *kept, turn.0);
     }
     Ok(())
 }
@@ -264,13 +275,13 @@ fn serve(
     users: &Users,
     want: &Want,
     outcome: &Outcome,
-) -> Result<(), NoMemory>
+) -> Result<Wanted, NoMemory>
     requires { 64 ≤ session.old.room }
 {
-    match want {
-        Want::Call(_, command) => answer(rt, session, users, command, outcome),
-        _ => Ok(()),
+    if let Want::Call(_, command) = want {
+        answer(rt, session, users, command, outcome)?;
     }
+    Ok(wanted_of(want))
 }
 
 /// Does the next request.
@@ -280,9 +291,10 @@ fn serve_next(
     users: &Users,
     outcome: &Outcome,
 ) -> Result<Wanted, NoMemory> {
-    let want = next(rt.alloc(), session, users)?;
-    serve(rt, session, users, &want, outcome)?;
-    Ok(wanted_of(&want))
+    match next(rt.alloc(), session, users) {
+        Ok(want) => serve(rt, session, users, &want, outcome),
+        Err(NoMemory) => Err(NoMemory),
+    }
 }
 
 /// What is to be sent for an outcome of a command on a connection.
@@ -296,7 +308,7 @@ fn expect_reply(
     let (said, out) = *reply;
     push(session, said.as_bytes())?;
     let got = serve_next(rt, session, users, outcome)?;
-    expect_wanted(rt, got, Wanted::Call(1), said);
+    expect_wanted(rt, got, Wanted::Alices, said);
     expect_bytes(rt, session.out(), out.as_bytes(), said);
     Ok(())
 }
@@ -315,11 +327,13 @@ fn expect_each_reply(
     Ok(())
 }
 
-/// The same, of commands, what they came to, and the reply.
-fn expect_replies(
+/// A command, what it came to, and the reply.
+type Answer = (&'static str, Outcome, &'static str);
+
+fn expect_each_answer(
     rt: &(impl AllocGlobal + Abort),
     users: &Users,
-    rows: &[(&'static str, Outcome, &'static str)],
+    rows: &[Answer],
 ) -> Result<(), NoMemory> {
     for (said, outcome, reply) in rows {
         expect_each_reply(rt, users, outcome, &[(*said, *reply)])?;
@@ -327,11 +341,16 @@ fn expect_replies(
     Ok(())
 }
 
+/// The same, each on a connection of alice's own.
+fn expect_answers(rt: &(impl AllocGlobal + Abort), rows: &[Answer]) -> Result<(), Fail> {
+    let users = users(rt.alloc())?;
+    expect_each_answer(rt, &users, rows)?;
+    Ok(())
+}
+
 #[test]
 fn each_outcome_has_its_reply(rt: HostRuntime) -> Result<(), Fail> {
-    let users = users(rt.alloc())?;
-    expect_replies(&rt, &users, &REPLIES)?;
-    Ok(())
+    expect_answers(&rt, &REPLIES)
 }
 
 /// The replies to an outcome that holds something.
@@ -369,6 +388,15 @@ fn refuse(session: &mut Session, want: &Want)
     }
 }
 
+/// Refuses the next request.
+fn refuse_next(alloc: Global, session: &mut Session, users: &Users) -> Result<(), NoMemory> {
+    match next(alloc, session, users) {
+        Ok(want) => refuse(session, &want),
+        Err(NoMemory) => return Err(NoMemory),
+    }
+    Ok(())
+}
+
 /// What is to be sent where a command wants memory.
 fn expect_refused(
     rt: &(impl AllocGlobal + Abort),
@@ -378,8 +406,7 @@ fn expect_refused(
 ) -> Result<(), NoMemory> {
     let (said, out) = *reply;
     push(session, said.as_bytes())?;
-    let want = next(rt.alloc(), session, users)?;
-    refuse(session, &want);
+    refuse_next(rt.alloc(), session, users)?;
     expect_bytes(rt, session.out(), out.as_bytes(), said);
     Ok(())
 }
@@ -421,7 +448,7 @@ fn converse(
         match serve_next(rt, session, users, outcome)? {
             Wanted::Nothing | Wanted::Close => return Ok(number),
             Wanted::Said => {}
-            Wanted::Call(_) => number = number.saturating_add(1),
+            Wanted::Alices | Wanted::Bobs | Wanted::Unknown => number = number.saturating_add(1),
         }
     }
     Ok(number)

@@ -130,8 +130,10 @@ fn outcomes_that_hold_something_are_copied(rt: HostRuntime) -> Result<(), Fail> 
 
 /// Counts a command that came to this outcome.
 fn note(alloc: Global, counters: &mut Counters, said: &str, outcome: &Outcome) -> Result<(), Fail> {
-    let command = command(alloc, said)?;
-    counters.note(&command, outcome);
+    match command(alloc, said) {
+        Ok(command) => counters.note(&command, outcome),
+        Err(fail) => return Err(fail),
+    }
     Ok(())
 }
 

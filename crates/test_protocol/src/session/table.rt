@@ -8,45 +8,93 @@ use tc_stats::{Counters, Outcome};
 pub enum Wanted {
     Nothing,
     Said,
-    /// A command for this user's cache.
-    Call(u32),
+    /// Alice's cache, who is 1.
+    Alices,
+    /// Bob's, who is 2.
+    Bobs,
+    /// The cache of somebody else.
+    Unknown,
     Close,
 }
 
 /// A piece that comes, what the next request wants then, and all that waits to be sent after it.
 pub type Turn = (&'static str, Wanted, &'static str);
 
-const FAILURE: &str = "CLIENT_ERROR authentication failure\r\n";
+/// A turn, and what `version` wants then.
+pub type Visit = (&'static str, Wanted, &'static str, Wanted);
 
-const SAID: Wanted = Wanted::Said;
+const FAILURE: &str = "CLIENT_ERROR authentication failure\r\n";
 
 /// Logins, and what `version` wants then: the cache of the user whose the connection is, or nothing
 /// but its answer.
-pub const LOGINS: [(Turn, Wanted); 12] = [
+pub const LOGINS: [Visit; 12] = [
     (
-        ("set x 0 0 9\r\nalice one\r\n", SAID, "STORED\r\n"),
-        Wanted::Call(1),
+        "set x 0 0 9\r\nalice one\r\n",
+        Wanted::Said,
+        "STORED\r\n",
+        Wanted::Alices,
     ),
     (
-        ("set y 7 -1 7\r\nbob two\r\n", SAID, "STORED\r\n"),
-        Wanted::Call(2),
+        "set y 7 -1 7\r\nbob two\r\n",
+        Wanted::Said,
+        "STORED\r\n",
+        Wanted::Bobs,
     ),
     (
-        ("set y 7 -1 8\r\nbob zwei\r\n", SAID, "STORED\r\n"),
-        Wanted::Call(2),
+        "set y 7 -1 8\r\nbob zwei\r\n",
+        Wanted::Said,
+        "STORED\r\n",
+        Wanted::Bobs,
     ),
     (
-        ("set x 0 0 9 noreply\r\nalice one\r\n", SAID, ""),
-        Wanted::Call(1),
+        "set x 0 0 9 noreply\r\nalice one\r\n",
+        Wanted::Said,
+        "",
+        Wanted::Alices,
     ),
-    (("set x 0 0 9\r\nalice two\r\n", SAID, FAILURE), SAID),
-    (("set x 0 0 9\r\ncarol one\r\n", SAID, FAILURE), SAID),
-    (("set x 0 0 10\r\nalice zwei\r\n", SAID, FAILURE), SAID),
-    (("set x 0 0 10\r\nalice one \r\n", SAID, FAILURE), SAID),
-    (("set x 0 0 10\r\nalice  one\r\n", SAID, FAILURE), SAID),
-    (("set x 0 0 5\r\nalice\r\n", SAID, FAILURE), SAID),
-    (("set x 0 0 0\r\n\r\n", SAID, FAILURE), SAID),
-    (("set x 0 0 9 noreply\r\nalice two\r\n", SAID, ""), SAID),
+    (
+        "set x 0 0 9\r\nalice two\r\n",
+        Wanted::Said,
+        FAILURE,
+        Wanted::Said,
+    ),
+    (
+        "set x 0 0 9\r\ncarol one\r\n",
+        Wanted::Said,
+        FAILURE,
+        Wanted::Said,
+    ),
+    (
+        "set x 0 0 10\r\nalice zwei\r\n",
+        Wanted::Said,
+        FAILURE,
+        Wanted::Said,
+    ),
+    (
+        "set x 0 0 10\r\nalice one \r\n",
+        Wanted::Said,
+        FAILURE,
+        Wanted::Said,
+    ),
+    (
+        "set x 0 0 10\r\nalice  one\r\n",
+        Wanted::Said,
+        FAILURE,
+        Wanted::Said,
+    ),
+    (
+        "set x 0 0 5\r\nalice\r\n",
+        Wanted::Said,
+        FAILURE,
+        Wanted::Said,
+    ),
+    ("set x 0 0 0\r\n\r\n", Wanted::Said, FAILURE, Wanted::Said),
+    (
+        "set x 0 0 9 noreply\r\nalice two\r\n",
+        Wanted::Said,
+        "",
+        Wanted::Said,
+    ),
 ];
 
 const DENIED: &str = "CLIENT_ERROR unauthenticated\r\n";
@@ -61,107 +109,172 @@ const TOO_LARGE: &str = "SERVER_ERROR object too large for cache\r\n";
 
 /// What a connection that is bound to nobody is told, and what `version` wants then: nothing where
 /// it is part of a block.
-pub const BEFORE_A_LOGIN: [(Turn, Wanted); 12] = [
-    (("get k\r\n", SAID, DENIED), SAID),
-    (("stats\r\n", SAID, DENIED), SAID),
-    (("add x 0 0 9\r\nalice one\r\n", SAID, DENIED), SAID),
-    (("cas x 0 0 9 1\r\nalice one\r\n", SAID, DENIED), SAID),
-    (("add x 0 0 9\r\nalice one..", SAID, BAD_CHUNK), SAID),
-    (("delete k noreply\r\n", SAID, ""), SAID),
-    (("bogus\r\n", SAID, "ERROR\r\n"), SAID),
-    (("set k\r\n", SAID, BAD_FORMAT), SAID),
-    (("incr k x noreply\r\n", SAID, BAD_DELTA), SAID),
+pub const BEFORE_A_LOGIN: [Visit; 12] = [
+    ("get k\r\n", Wanted::Said, DENIED, Wanted::Said),
+    ("stats\r\n", Wanted::Said, DENIED, Wanted::Said),
     (
-        ("set x 0 0 257\r\nalice one\r\n", SAID, TOO_LARGE),
+        "add x 0 0 9\r\nalice one\r\n",
+        Wanted::Said,
+        DENIED,
+        Wanted::Said,
+    ),
+    (
+        "cas x 0 0 9 1\r\nalice one\r\n",
+        Wanted::Said,
+        DENIED,
+        Wanted::Said,
+    ),
+    (
+        "add x 0 0 9\r\nalice one..",
+        Wanted::Said,
+        BAD_CHUNK,
+        Wanted::Said,
+    ),
+    ("delete k noreply\r\n", Wanted::Said, "", Wanted::Said),
+    ("bogus\r\n", Wanted::Said, "ERROR\r\n", Wanted::Said),
+    ("set k\r\n", Wanted::Said, BAD_FORMAT, Wanted::Said),
+    (
+        "incr k x noreply\r\n",
+        Wanted::Said,
+        BAD_DELTA,
+        Wanted::Said,
+    ),
+    (
+        "set x 0 0 257\r\nalice one\r\n",
+        Wanted::Said,
+        TOO_LARGE,
         Wanted::Nothing,
     ),
     (
-        ("set x 0 0 257 noreply\r\nalice one\r\n", SAID, ""),
+        "set x 0 0 257 noreply\r\nalice one\r\n",
+        Wanted::Said,
+        "",
         Wanted::Nothing,
     ),
     (
-        ("set x 0 0 256\r\nalice one\r\n", Wanted::Nothing, ""),
+        "set x 0 0 256\r\nalice one\r\n",
+        Wanted::Nothing,
+        "",
         Wanted::Nothing,
     ),
 ];
 
 /// Lines of a connection of alice's that are refused, and what `version` wants then.
-pub const FAULTS: [(Turn, Wanted); 5] = [
-    (("bogus\r\n", SAID, "ERROR\r\n"), Wanted::Call(1)),
-    (("get\r\n", SAID, BAD_FORMAT), Wanted::Call(1)),
-    (("set k 0 0 1\r\nabc", SAID, BAD_CHUNK), Wanted::Call(1)),
-    (("set k 0 0 1 noreply\r\nabc", SAID, ""), Wanted::Call(1)),
-    (("set k 0 0 1048577\r\n", SAID, TOO_LARGE), Wanted::Nothing),
+pub const FAULTS: [Visit; 5] = [
+    ("bogus\r\n", Wanted::Said, "ERROR\r\n", Wanted::Alices),
+    ("get\r\n", Wanted::Said, BAD_FORMAT, Wanted::Alices),
+    (
+        "set k 0 0 1\r\nabc",
+        Wanted::Said,
+        BAD_CHUNK,
+        Wanted::Alices,
+    ),
+    (
+        "set k 0 0 1 noreply\r\nabc",
+        Wanted::Said,
+        "",
+        Wanted::Alices,
+    ),
+    (
+        "set k 0 0 1048577\r\n",
+        Wanted::Said,
+        TOO_LARGE,
+        Wanted::Nothing,
+    ),
 ];
-
-const CALL: Wanted = Wanted::Call(1);
 
 /// What a connection of alice's makes of bob's login.
-pub const STAYING: [(Turn, Wanted); 1] = [(("set x 0 0 7\r\nbob two\r\n", CALL, ""), CALL)];
+pub const STAYING: [Visit; 1] = [(
+    "set x 0 0 7\r\nbob two\r\n",
+    Wanted::Alices,
+    "",
+    Wanted::Alices,
+)];
 
 /// Commands that a connection of alice's hands to her cache.
-pub const CALLED: [(Turn, Wanted); 13] = [
-    (("add k 0 0 1\r\nx\r\n", CALL, ""), CALL),
-    (("replace k 0 0 1\r\nx\r\n", CALL, ""), CALL),
-    (("append k 0 0 1\r\nx\r\n", CALL, ""), CALL),
-    (("prepend k 0 0 1\r\nx\r\n", CALL, ""), CALL),
-    (("cas k 0 0 1 1\r\nx\r\n", CALL, ""), CALL),
-    (("delete k\r\n", CALL, ""), CALL),
-    (("incr k 1\r\n", CALL, ""), CALL),
-    (("touch k 1\r\n", CALL, ""), CALL),
-    (("gat 1 k\r\n", CALL, ""), CALL),
-    (("flush_all\r\n", CALL, ""), CALL),
-    (("flush_all noreply\r\n", CALL, ""), CALL),
-    (("stats\r\n", CALL, ""), CALL),
-    (("version\r\n", CALL, ""), CALL),
+pub const CALLED: [Visit; 13] = [
+    ("add k 0 0 1\r\nx\r\n", Wanted::Alices, "", Wanted::Alices),
+    (
+        "replace k 0 0 1\r\nx\r\n",
+        Wanted::Alices,
+        "",
+        Wanted::Alices,
+    ),
+    (
+        "append k 0 0 1\r\nx\r\n",
+        Wanted::Alices,
+        "",
+        Wanted::Alices,
+    ),
+    (
+        "prepend k 0 0 1\r\nx\r\n",
+        Wanted::Alices,
+        "",
+        Wanted::Alices,
+    ),
+    ("cas k 0 0 1 1\r\nx\r\n", Wanted::Alices, "", Wanted::Alices),
+    ("delete k\r\n", Wanted::Alices, "", Wanted::Alices),
+    ("incr k 1\r\n", Wanted::Alices, "", Wanted::Alices),
+    ("touch k 1\r\n", Wanted::Alices, "", Wanted::Alices),
+    ("gat 1 k\r\n", Wanted::Alices, "", Wanted::Alices),
+    ("flush_all\r\n", Wanted::Alices, "", Wanted::Alices),
+    ("flush_all noreply\r\n", Wanted::Alices, "", Wanted::Alices),
+    ("stats\r\n", Wanted::Alices, "", Wanted::Alices),
+    ("version\r\n", Wanted::Alices, "", Wanted::Alices),
 ];
 
-/// What is left of a connection: so many bytes are unread.
+/// Whether a connection is closed.
 #[derive(Clone, Copy, Debug, PartialEq, Eq)]
-pub enum Left {
-    Open(usize),
-    Closed(usize),
+pub enum State {
+    Open,
+    Closed,
 }
 
-/// How many bytes are sent, a turn that is taken then, and what is left.
-pub type Step = (usize, Turn, Left);
-
-const NONE: Wanted = Wanted::Nothing;
+/// How many bytes are sent, a turn that is taken then, and how many bytes are unread after it.
+pub type Step = (usize, Turn, State, u64);
 
 /// The last byte of a line of 65,536 bytes, and one more.
 pub const LINE_TOO_LONG: [Step; 2] = [
-    (0, ("x", NONE, ""), Left::Open(65_536)),
+    (0, ("x", Wanted::Nothing, ""), State::Open, 65_536),
     (
         0,
         ("x", Wanted::Close, "CLIENT_ERROR line too long\r\n"),
-        Left::Closed(0),
+        State::Closed,
+        0,
     ),
 ];
 
 pub const QUITTING: [Step; 3] = [
-    (0, ("", NONE, ""), Left::Open(0)),
+    (0, ("", Wanted::Nothing, ""), State::Open, 0),
     (
         0,
         ("quit\r\nversion\r\n", Wanted::Close, ""),
-        Left::Closed(9),
+        State::Closed,
+        9,
     ),
-    (0, ("version\r\n", NONE, ""), Left::Closed(9)),
+    (0, ("version\r\n", Wanted::Nothing, ""), State::Closed, 9),
 ];
 
 /// What waits is sent bit by bit, the last of it with more bytes than there are.
 pub const UNSENT: [Step; 4] = [
-    (0, ("get k\r\nbogus\r\nget", SAID, DENIED), Left::Open(10)),
+    (
+        0,
+        ("get k\r\nbogus\r\nget", Wanted::Said, DENIED),
+        State::Open,
+        10,
+    ),
     (
         13,
-        ("", SAID, "unauthenticated\r\nERROR\r\n"),
-        Left::Open(3),
+        ("", Wanted::Said, "unauthenticated\r\nERROR\r\n"),
+        State::Open,
+        3,
     ),
-    (17, ("", NONE, "ERROR\r\n"), Left::Open(3)),
-    (8, ("", NONE, ""), Left::Open(3)),
+    (17, ("", Wanted::Nothing, "ERROR\r\n"), State::Open, 3),
+    (8, ("", Wanted::Nothing, ""), State::Open, 3),
 ];
 
 /// What a connection that was shut makes of a line that is unread.
-pub const SHUT: [Step; 1] = [(0, ("", NONE, ""), Left::Closed(5))];
+pub const SHUT: [Step; 1] = [(0, ("", Wanted::Nothing, ""), State::Closed, 5)];
 
 /// A stream of a login, with requests before it and after it.
 pub const STREAM: &str = "get k\r\n\

@@ -2,7 +2,8 @@
 //! that is found, and of a text that is no name or token.
 
 use crate::fixtures::{expect_number, expect_text};
-use crate::users::{TOP, fault_of};
+use crate::users::fault_of;
+use crate::users::table::TOP;
 use std::alloc::{AllocError, Global};
 use std::process::Abort;
 use std::test::Fail;

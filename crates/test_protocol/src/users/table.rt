@@ -1,0 +1,111 @@
+//! Texts of settings and rows of users, with their faults, by hand.
+
+use tc_users::{Field, SettingsFault, TextFault};
+
+/// The text of `examples/partcached.toml`; `scripts/examples` compares the two.
+pub const EXAMPLE: &str =
+    "# Settings of a partcached server. Each field below but token2 and largest is needed; other \
+fields\n\
+# are passed over.\n\n\
+# Where the server listens: an IP address and a port. Names are not resolved.\n\
+listen = \"127.0.0.1:11211\"\n\n\
+# How many threads serve connections: 1 to 64.\n\
+workers = 4\n\n\
+# How many entries a page of the journal holds before it is turned: 16 to 65536.\n\
+journal = 4096\n\n\
+# One [[user]] table for each user, at least one. Each user has a partition of its own.\n\
+[[user]]\n\
+# 1 to 64 letters, digits, `_`, `-` and `.`; no two users have the same name.\n\
+name = \"alice\"\n\
+# What the user logs in with: 1 to 128 printable ASCII characters without a space.\n\
+token = \"change-me-1\"\n\
+# The partition's size in bytes: 65536 (64 KiB) to 1073741824 (1 GiB). An item takes its key, its\n\
+# data and 64 bytes of it.\n\
+budget = 67108864\n\n\
+[[user]]\n\
+name = \"bob\"\n\
+token = \"change-me-2\"\n\
+# A second token that logs in too, as while the first is being changed. It may be left out.\n\
+token2 = \"change-me-3\"\n\
+budget = 1048576\n\
+# The most data bytes of one item: 1 to 1048576, which holds where it is left out.\n\
+largest = 65536\n";
+
+/// The first lines of a good text.
+pub const TOP: &str = "listen = \"127.0.0.1:11211\"\nworkers = 4\njournal = 4096\n";
+
+/// A good user's table.
+pub const ALICE: &str = "[[user]]\nname = \"alice\"\ntoken = \"one\"\nbudget = 65536\n";
+
+/// Two texts, and the number of their fault, 0 where there is none.
+pub type Numbered = (&'static str, &'static str, u64);
+
+/// Texts, and the numbers of their first faults.
+pub const FIRST_FAULTS: [Numbered; 9] = [
+    ("x =", "", 1),
+    ("", "", 2),
+    (
+        "listen = \"a\"\nworkers = \"4\"\njournal = 4096\n",
+        ALICE,
+        2,
+    ),
+    ("listen = \"a\"\nworkers = 65\njournal = 15\n", ALICE, 7),
+    ("listen = \"a\"\nworkers = 4\njournal = 15\n", ALICE, 8),
+    (TOP, "", 6),
+    (
+        TOP,
+        "[[user]]\nname = \"a b\"\ntoken = \"\"\nbudget = 65536\n",
+        3,
+    ),
+    (
+        TOP,
+        "[[user]]\nname = \"alice\"\ntoken = \"a b\"\nbudget = 65536\n",
+        10,
+    ),
+    (
+        TOP,
+        "[[user]]\nname = \"alice\"\ntoken = \"one\"\nbudget = 65535\n",
+        5,
+    ),
+];
+
+/// How many bytes a name and a token have, and the fault of the row.
+pub type Lengths = (usize, usize, Option<SettingsFault>);
+
+pub const LENGTHS: [Lengths; 7] = [
+    (
+        0,
+        1,
+        Some(SettingsFault::BadName {
+            user: 1,
+            fault: TextFault::Empty,
+        }),
+    ),
+    (1, 1, None),
+    (64, 1, None),
+    (
+        65,
+        1,
+        Some(SettingsFault::BadName {
+            user: 1,
+            fault: TextFault::TooLong { length: 65 },
+        }),
+    ),
+    (
+        1,
+        0,
+        Some(SettingsFault::BadToken {
+            field: Field::Token(1),
+            fault: TextFault::Empty,
+        }),
+    ),
+    (1, 128, None),
+    (
+        1,
+        129,
+        Some(SettingsFault::BadToken {
+            field: Field::Token(1),
+            fault: TextFault::TooLong { length: 129 },
+        }),
+    ),
+];
