@@ -71,7 +71,7 @@ pub fn hall_of<C: Cache, N: Naming>(
 }
 
 /// The first seat.
-pub fn first<N: Naming, R: Abort>(rt: &R, seats: &mut Vec<Seat<N>>) -> &mut Seat<N> {
+pub fn first<'a, N: Naming, R: Abort>(rt: &R, seats: &'a mut Vec<Seat<N>>) -> &'a mut Seat<N> {
     assert!(rt; !seats.is_empty());
     &mut seats[0]
 }
