@@ -1,84 +1,42 @@
 //! The program: `partcached run` reads a script from standard input, runs it, and prints what each
-//! connection was sent. All that it does is tc_script's `run_script`; here are the command line, the
-//! exit statuses and the lines on standard error (docs/OPERATING.md, "Exit statuses").
+//! connection was sent; `partcached serve` listens and serves clients. All that they do is tc_script's
+//! `run_script` and tc_net's `serve`; here are the command line, what a server begins with, the exit
+//! statuses and the lines on standard error (docs/OPERATING.md, "Exit statuses").
 #![tactic(auto)]
 
-use clap::error::ErrorKind;
-use clap::{Command, Error};
-use std::alloc::{AllocError, Global};
+mod asking;
+mod preparing;
+
+use crate::asking::{Asked, Unasked, parse};
+use crate::preparing::{Unready, prepare};
+use std::marker::Brand;
 use std::process::ExitCode;
 use std::{env, io};
+use tc_net::{Unserved, serve};
+use tc_plain::Plain;
 use tc_script::{Ended, run_script};
 
-/// The command line was refused, or help was asked for.
-const USAGE: u8 = 2;
-
-/// What the command line may be.
-fn command<'a>(alloc: Global) -> Result<Command<'a>, AllocError> {
-    let run = Command::new(alloc, "run").about(
-        "Run the script on standard input, and print what each connection was sent",
-    );
-    Command::new(alloc, "partcached")
-        .version("1.0.0")
-        .about("A memcached server in which each user has a partition of its own")
-        .subcommand_required(true)
-        .subcommand(run)
+/// What the command line asks for.
+fn asked(rt: &HostRuntime) -> Result<Asked, Unasked> {
+    let words: Vec<String> = env::args(rt)?.collect(rt.alloc())?;
+    parse(rt.alloc(), words.as_slice())
 }
 
-/// Why the command line asks for no run.
-#[derive(Drop)]
-enum Unasked {
-    /// It is refused, or asks for help; the parser's own text says so.
-    Usage(Error),
-    /// Its words cannot be read as text.
-    Words(io::Error),
-    NoMemory,
-}
-
-impl From<io::Error> for Unasked {
-    fn from(error: io::Error) -> Unasked {
-        match error.kind() {
-            io::ErrorKind::OutOfMemory => Unasked::NoMemory,
-            _ => Unasked::Words(error),
-        }
-    }
-}
-
-impl From<AllocError> for Unasked {
-    fn from(_refused: AllocError) -> Unasked {
-        Unasked::NoMemory
-    }
-}
-
-impl From<Error> for Unasked {
-    fn from(error: Error) -> Unasked {
-        match error.kind() {
-            ErrorKind::OutOfMemory => Unasked::NoMemory,
-            _ => Unasked::Usage(error),
-        }
-    }
-}
-
-/// Whether the command line asks for a run.
-fn parse(rt: &HostRuntime) -> Result<(), Unasked> {
-    let alloc = rt.alloc();
-    let words: Vec<String> = env::args(rt)?.collect(alloc)?;
-    command(alloc)?.try_get_matches_from(words.as_slice())?;
-    Ok(())
+/// The exit status of a program that memory or a thread was refused.
+fn report_no_memory(rt: &HostRuntime) -> io::Result<u8> {
+    eprintln!(rt; "partcached: out of memory")?;
+    Ok(5)
 }
 
 /// The exit status of a run, and the line on standard error that says why it is not 0.
-fn report(rt: &HostRuntime, ended: Ended) -> io::Result<u8> {
+fn report_run(rt: &HostRuntime, ended: Ended) -> io::Result<u8> {
     match ended {
         Ended::Done => Ok(0),
         Ended::BadLine(number) => {
             eprintln!(rt; "partcached: script line {number}")?;
             Ok(3)
         }
-        Ended::NoMemory => {
-            eprintln!(rt; "partcached: out of memory")?;
-            Ok(5)
-        }
+        Ended::NoMemory => report_no_memory(rt),
         Ended::Stream => {
             eprintln!(rt; "partcached: stream failed")?;
             Ok(6)
@@ -86,21 +44,63 @@ fn report(rt: &HostRuntime, ended: Ended) -> io::Result<u8> {
     }
 }
 
-fn main(rt: HostRuntime) -> io::Result<ExitCode> {
-    let status = match parse(&rt) {
-        Ok(()) => {
-            let ended = run_script(rt.alloc(), &mut rt.stdin(), &mut rt.stdout());
-            report(&rt, ended)?
+/// The exit status of a server that could not begin, and its line.
+fn report_unready(rt: &HostRuntime, unready: Unready) -> io::Result<u8> {
+    match unready {
+        Unready::Unreadable => {
+            eprintln!(rt; "partcached: cannot read settings")?;
+            Ok(1)
         }
-        Err(Unasked::NoMemory) => report(&rt, Ended::NoMemory)?,
-        Err(Unasked::Usage(error)) => {
+        Unready::Refused(number) => {
+            eprintln!(rt; "partcached: settings fault {number}")?;
+            Ok(1)
+        }
+        Unready::NoMemory => report_no_memory(rt),
+    }
+}
+
+/// The exit status of a server, and its line.
+fn report_served(rt: &HostRuntime, ended: Result<(), Unserved>) -> io::Result<u8> {
+    match ended {
+        Ok(()) => Ok(0),
+        Err(Unserved::CannotListen) => {
+            eprintln!(rt; "partcached: cannot listen")?;
+            Ok(4)
+        }
+        Err(Unserved::NoMemory) => report_no_memory(rt),
+    }
+}
+
+/// The exit status of a command line that asks for nothing, and its text.
+fn report_unasked(rt: &HostRuntime, unasked: Unasked) -> io::Result<u8> {
+    match unasked {
+        Unasked::NoMemory => report_no_memory(rt),
+        Unasked::Usage(error) => {
             eprint!(rt; "{error}")?;
-            USAGE
+            Ok(2)
         }
-        Err(Unasked::Words(error)) => {
+        Unasked::Words(error) => {
             eprintln!(rt; "error: {error}")?;
-            USAGE
+            Ok(2)
         }
+    }
+}
+
+fn main(rt: HostRuntime) -> io::Result<ExitCode> {
+    let status = match asked(&rt) {
+        Ok(Asked::Run) => {
+            let ended = run_script(rt.alloc(), &mut rt.stdin(), &mut rt.stdout());
+            report_run(&rt, ended)?
+        }
+        Ok(Asked::Serve { config, until }) => match prepare(&rt, config.as_str()) {
+            Ok(beginning) => {
+                let until = until.map(u64::from);
+                let ended = serve::<Plain, Brand, HostRuntime>(&rt, rt.alloc(), beginning, until);
+                report_served(&rt, ended)?
+            }
+            Err(unready) => report_unready(&rt, unready)?,
+        },
+        Err(unasked) => report_unasked(&rt, unasked)?,
     };
     Ok(ExitCode::from(status))
 }

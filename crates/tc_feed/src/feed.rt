@@ -57,6 +57,7 @@ impl Feed {
     /// Takes the next piece of the stream. A refusal leaves the unread bytes as they were.
     pub fn push(&mut self, piece: &[u8]) -> Result<(), NoMemory>
         ensures more { OnOk result (self.new ≡ more self.old piece.now) }
+        ensures longer { list_length self.new.unread ≤ list_length self.old.unread + list_length piece.now }
         ensures unchanged_on_err { OnErr result (self.new ≡ self.old) }
     {
         let n = piece.len();
@@ -95,6 +96,7 @@ impl Feed {
         ensures found { IfOk result (λ request. request ≡ found limit self.old) }
         ensures after { OnOk result (self.new ≡ after_first limit self.old) }
         ensures bounded { IfOk result (λ request. request ≡ None → list_length self.new.unread ≤ limit + 65538) }
+        ensures no_longer { list_length self.new.unread ≤ list_length self.old.unread }
         ensures unchanged_on_err { OnErr result (self.new ≡ self.old) }
     {
         if self.is_lacking(limit) {
@@ -131,7 +133,8 @@ impl Feed {
     /// Goes past the bytes of a request, and past more of those that came or are to come.
     fn pass(&mut self, alloc: Global, length: usize, skip: usize)
         requires { length ≤ list_length self.old.unread }
-        ensures { self.new ≡ more (record { unread = []; owed = skip }) (drop length self.old.unread) }
+        ensures after { self.new ≡ more (record { unread = []; owed = skip }) (drop length self.old.unread) }
+        ensures no_longer { list_length self.new.unread ≤ list_length self.old.unread }
     {
         let there = self.bytes.len() - self.start - length;
         self.scanned = 0;

@@ -44,3 +44,7 @@ abbrev pub KeepsAtMost : Phase → ℕ → Type 0
 KeepsAtMost Unbound unread = unread ≤ unbound_limit + 65538
 KeepsAtMost (Bound user) unread = unread ≤ bound_limit + 65538
 KeepsAtMost Closed unread = Unit {0}
+
+-- the most bytes that are unread of an open connection with no whole request: what KeepsAtMost says of either limit
+abbrev pub most_resting : ℕ
+most_resting = 1114114

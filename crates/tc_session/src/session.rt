@@ -1,11 +1,11 @@
 //! A connection.
-ghost use Rattle.std.specs.Prelude.{◌≡◌, ◌≢◌, ◌≤◌, ◌++◌, ℕ, [], false, codes, drop, length, None, IsOk, IfOk, OnOk, OnErr};
+ghost use Rattle.std.specs.Prelude.{◌≡◌, ◌≢◌, ◌+◌, ◌≤◌, ◌++◌, ℕ, [], false, codes, drop, length, None, IsOk, IfOk, OnOk, OnErr};
 ghost use Rattle.tc_model.specs.Connection.{turn, login, login_turn, unbound_turn, bound_turn, with_piece, shut_endpoint, new_endpoint, Unbound, Bound, Nothing, Close, is_closed};
 ghost use Rattle.tc_grammar.specs.declared.fault.Fault.TheVariants.{AuthenticationFailure, NoMemory as OutOfMemory};
 ghost use Rattle.tc_session.specs.Texts.{fault_line, unless_quiet};
 ghost use Rattle.tc_session.specs.Replies.{is_quiet, render, is_long};
 ghost use Rattle.tc_session.specs.Talking.{talking, fault_said, unbound_asks, unbound_command, unbound_store, bound_wants, bound_command};
-ghost use Rattle.tc_session.specs.Linked.{Linked, want_of, fault_want, fault_phase, KeepsAtMost};
+ghost use Rattle.tc_session.specs.Linked.{Linked, want_of, fault_want, fault_phase, KeepsAtMost, most_resting};
 
 use crate::Want;
 use crate::ending::{write_refusal, write_reply};
@@ -76,6 +76,7 @@ impl Session {
     pub fn push(&mut self, piece: &[u8]) -> Result<(), NoMemory>
         ensures endpoint { OnOk result (self.new.endpoint ≡ with_piece talking self.old.endpoint piece.now) }
         ensures out { self.new.out ≡ self.old.out }
+        ensures longer { length self.new.endpoint.reader.unread ≤ length self.old.endpoint.reader.unread + length piece.now }
         ensures unchanged_on_err { OnErr result (self.new ≡ self.old) }
     {
         match self.stage {
@@ -85,13 +86,16 @@ impl Session {
     }
 
     /// The connection's next request. What needs no cache is answered at once. Where there is nothing
-    /// to do, at most 65,538 bytes and the limit of blocks are unread. A refusal leaves the request unread.
+    /// to do, at most 65,538 bytes and the limit of blocks are unread, unless it is closed. A refusal leaves
+    /// the request unread.
     pub fn next(&mut self, alloc: Global, users: &Users) -> Result<Want, NoMemory>
         ensures want { IfOk result (λ want. want_of want ≡ (turn talking users.now self.old.endpoint).want) }
         ensures endpoint { OnOk result (self.new.endpoint ≡ (turn talking users.now self.old.endpoint).endpoint) }
         ensures said { OnOk result (self.new.out ≡ self.old.out ++ (turn talking users.now self.old.endpoint).said) }
         ensures room { OnOk result (64 ≤ self.new.room) }
         ensures bounded { IfOk result (λ want. want_of want ≡ Nothing → KeepsAtMost self.old.endpoint.phase (length self.new.endpoint.reader.unread)) }
+        ensures open_bounded { IfOk result (λ want. want_of want ≡ Nothing → is_closed self.old.endpoint.phase ≡ false → length self.new.endpoint.reader.unread ≤ most_resting) }
+        ensures no_longer { length self.new.endpoint.reader.unread ≤ length self.old.endpoint.reader.unread }
         ensures endpoint_on_err { OnErr result (self.new.endpoint ≡ self.old.endpoint) }
         ensures out_on_err { OnErr result (self.new.out ≡ self.old.out) }
     {
@@ -117,6 +121,7 @@ impl Session {
         ensures rests { want_of result ≡ Nothing → request ≡ None }
         ensures endpoint { self.new.endpoint ≡ (unbound_turn talking users.now self.old.endpoint.reader (unbound_asks request)).endpoint }
         ensures said { self.new.out ≡ self.old.out ++ (unbound_turn talking users.now self.old.endpoint.reader (unbound_asks request)).said }
+        ensures reader { self.new.endpoint.reader ≡ self.old.endpoint.reader }
         ensures room { 64 ≤ self.new.room }
     {
         match request {
@@ -134,6 +139,7 @@ impl Session {
         ensures busy { want_of result ≢ Nothing }
         ensures endpoint { self.new.endpoint ≡ (unbound_turn talking users.now self.old.endpoint.reader (unbound_command command.now)).endpoint }
         ensures said { self.new.out ≡ self.old.out ++ (unbound_turn talking users.now self.old.endpoint.reader (unbound_command command.now)).said }
+        ensures reader { self.new.endpoint.reader ≡ self.old.endpoint.reader }
         ensures room { 64 ≤ self.new.room }
     {
         match command {
@@ -154,6 +160,7 @@ impl Session {
         ensures busy { want_of result ≢ Nothing }
         ensures endpoint { self.new.endpoint ≡ (unbound_turn talking users.now self.old.endpoint.reader (unbound_store head.now.kind head.now blob.now)).endpoint }
         ensures said { self.new.out ≡ self.old.out ++ (unbound_turn talking users.now self.old.endpoint.reader (unbound_store head.now.kind head.now blob.now)).said }
+        ensures reader { self.new.endpoint.reader ≡ self.old.endpoint.reader }
         ensures room { 64 ≤ self.new.room }
     {
         match head.kind {
@@ -169,6 +176,7 @@ impl Session {
         requires unbound { self.old.endpoint.phase ≡ Unbound }
         ensures endpoint { self.new.endpoint ≡ (login_turn talking self.old.endpoint.reader (unless_quiet quiet (codes "STORED\r\n")) (fault_said AuthenticationFailure quiet) (login talking users.now text.now)).endpoint }
         ensures said { self.new.out ≡ self.old.out ++ (login_turn talking self.old.endpoint.reader (unless_quiet quiet (codes "STORED\r\n")) (fault_said AuthenticationFailure quiet) (login talking users.now text.now)).said }
+        ensures reader { self.new.endpoint.reader ≡ self.old.endpoint.reader }
         ensures room { 64 ≤ self.new.room }
     {
         match find_login(users, text) {
@@ -188,6 +196,7 @@ impl Session {
         ensures rests { want_of result ≡ Nothing → request ≡ None }
         ensures endpoint { self.new.endpoint ≡ (bound_turn talking user self.old.endpoint.reader (bound_wants request)).endpoint }
         ensures said { self.new.out ≡ self.old.out ++ (bound_turn talking user self.old.endpoint.reader (bound_wants request)).said }
+        ensures reader { self.new.endpoint.reader ≡ self.old.endpoint.reader }
         ensures room { 64 ≤ self.new.room }
     {
         match request {
@@ -205,6 +214,7 @@ impl Session {
         ensures busy { want_of result ≢ Nothing }
         ensures endpoint { self.new.endpoint ≡ (bound_turn talking user self.old.endpoint.reader (bound_command command)).endpoint }
         ensures said { self.new.out ≡ self.old.out ++ (bound_turn talking user self.old.endpoint.reader (bound_command command)).said }
+        ensures reader { self.new.endpoint.reader ≡ self.old.endpoint.reader }
         ensures room { 64 ≤ self.new.room }
     {
         match command {
@@ -317,6 +327,7 @@ impl Session {
         ensures want { want_of result ≡ Close }
         ensures endpoint { self.new.endpoint ≡ shut_endpoint talking self.old.endpoint }
         ensures out { self.new.out ≡ self.old.out }
+        ensures reader { self.new.endpoint.reader ≡ self.old.endpoint.reader }
         ensures room { self.new.room ≡ self.old.room }
     {
         self.stage = Stage::Closed;

@@ -7,4 +7,4 @@ mod pages;
 mod refusals;
 mod replayed;
 mod scenes;
-mod stage;
+pub mod stage;

@@ -1,5 +1,5 @@
-//! Tests of a whole server: streams of bytes, scripts, what connections are sent, and halls that many
-//! threads call.
+//! Tests of a whole server: streams of bytes, scripts, what connections are sent, halls that many
+//! threads call, workers and sockets.
 #![tactic(auto)]
 
 #[cfg(test)]
@@ -8,3 +8,7 @@ mod hall;
 mod script;
 #[cfg(test)]
 mod server;
+#[cfg(test)]
+mod serving;
+#[cfg(test)]
+mod workers;

@@ -1,0 +1,121 @@
+//! The listener: it takes connections and hands them to the workers in turn.
+use crate::door::Door;
+use crate::handover::{Arrival, Outlet};
+use mio::net::{TcpListener, TcpStream};
+use mio::{Events, Interest, Poll, Token, Waker};
+use std::alloc::Global;
+use std::io;
+use std::net::{Net, SocketAddr};
+use std::sync::{Arc, Wait};
+use std::time::Duration;
+
+/// The most events of one wait.
+const EVENTS: usize = 16;
+
+/// How many milliseconds the listener waits for a connection before it looks whether it is done.
+const WAIT: u64 = 20;
+
+/// The most connections that are taken before it looks whether it is done.
+const BURST: u32 = 1_024;
+
+/// Where a worker's connections are put, and what wakes it.
+#[derive(Drop)]
+pub(crate) struct Post {
+    pub(crate) outlet: Outlet,
+    pub(crate) waker: Waker,
+}
+
+/// The listener, before its thread starts.
+#[derive(Drop)]
+pub(crate) struct Listening {
+    listener: TcpListener,
+    poll: Poll,
+    events: Events,
+    posts: Vec<Post>,
+    door: Arc<Door, Global>,
+    /// After so many closed connections it ends.
+    until: Option<u64>,
+    /// The number of the next connection, from 0.
+    number: u64,
+}
+
+impl Listening {
+    pub(crate) fn new<N: Net + AllocGlobal>(
+        net: &N,
+        addr: SocketAddr,
+        posts: Vec<Post>,
+        door: Arc<Door, Global>,
+        until: Option<u64>,
+    ) -> io::Result<Listening> {
+        let mut listener = TcpListener::bind(net, addr)?;
+        let poll = Poll::new(net)?;
+        poll.registry()
+            .register(&mut listener, Token(0), Interest::READABLE)?;
+        let events = Events::with_capacity(net.alloc(), EVENTS)?;
+        Ok(Listening {
+            listener,
+            poll,
+            events,
+            posts,
+            door,
+            until,
+            number: 0,
+        })
+    }
+
+    /// Whether it is to end.
+    fn is_done(&self) -> bool {
+        if self.door.has_ended() {
+            return true;
+        }
+        match self.until {
+            Some(until) => self.door.closed() >= until,
+            None => false,
+        }
+    }
+
+    /// Takes connections until none waits, or the system has no room for one now.
+    fn take_all<R: Wait>(&mut self, rt: &R) {
+        for _ in 0..BURST {
+            let Ok((stream, _peer)) = self.listener.accept() else {
+                return;
+            };
+            if self.door.enter() && !self.hand_over(rt, stream) {
+                self.door.leave();
+            }
+        }
+    }
+
+    /// Hands a connection to the worker whose turn it is. Whether it was taken; else it is closed.
+    fn hand_over<R: Wait>(&mut self, rt: &R, stream: TcpStream) -> bool {
+        let _ = stream.set_nodelay(true);
+        let number = self.number;
+        self.number = number.wrapping_add(1);
+        let count = self.posts.len() as u64;
+        if count == 0 {
+            return false;
+        }
+        let conn = (number % 4_294_967_296) as u32;
+        let post = &mut self.posts[(number % count) as usize];
+        if !post.outlet.send(rt, Arrival { conn, stream }) {
+            return false;
+        }
+        // A worker that isn't woken looks by itself soon.
+        let _ = post.waker.wake();
+        true
+    }
+
+    /// Takes connections until enough were closed; then no further one comes.
+    pub(crate) fn run<R: Wait>(mut self, rt: &R) {
+        for _ in rt.forever() {
+            if self.is_done() {
+                break;
+            }
+            let _ = self
+                .poll
+                .poll(&mut self.events, Some(Duration::from_millis(WAIT)));
+            self.take_all(rt);
+        }
+        self.door.end();
+    }
+}

@@ -1,0 +1,184 @@
+//! A server from its settings to its end.
+ghost use Rattle.std.specs.Prelude.{◌≡◌, map};
+ghost use Rattle.tc_fresh.specs.Beginning.{fresh_cache};
+
+use crate::beginning::Beginning;
+use crate::clocking::{Ticking, moment_now};
+use crate::door::Door;
+use crate::handover::handover;
+use crate::listening::{Listening, Post};
+use crate::queue::Queue;
+use crate::socket::Socket;
+use std::alloc::{AllocError, Global};
+use std::io::ErrorKind;
+use std::net::{Net, SocketAddr};
+use std::sync::{Arc, Wait};
+use std::thread::Threads;
+use std::time::Clock as Time;
+use std::{io, thread};
+use tc_item::NoMemory;
+use tc_locked::{Clock, Hall, Naming, Seat};
+use tc_plain::Cache;
+use tc_users::{Settings, Users};
+use tc_workers::{Keeper, Open, Worker, run_crew};
+
+/// Why a server doesn't serve.
+#[derive(Debug, Drop, Clone, Copy, PartialEq, Eq)]
+pub enum Unserved {
+    /// The settings' address is none, or can't be listened on.
+    CannotListen,
+    /// Memory or a thread was refused.
+    NoMemory,
+}
+
+impl From<NoMemory> for Unserved {
+    fn from(_refused: NoMemory) -> Unserved {
+        Unserved::NoMemory
+    }
+}
+
+impl From<AllocError> for Unserved {
+    fn from(_refused: AllocError) -> Unserved {
+        Unserved::NoMemory
+    }
+}
+
+impl From<io::Error> for Unserved {
+    fn from(error: io::Error) -> Unserved {
+        match error.kind() {
+            ErrorKind::OutOfMemory => Unserved::NoMemory,
+            _ => Unserved::CannotListen,
+        }
+    }
+}
+
+/// A worker with its inlet, and where its connections are put.
+#[derive(Drop)]
+struct Hired<N: Naming, R: Wait + Drop> {
+    worker: Worker<Socket, N>,
+    queue: Queue<R>,
+    post: Post,
+}
+
+/// A worker for a seat.
+fn hire<N: Naming, R: Wait + Net + AllocGlobal + Copy + Drop>(
+    rt: &R,
+    alloc: Global,
+    door: &Arc<Door, Global>,
+    seat: Seat<N>,
+) -> Result<Hired<N, R>, Unserved> {
+    let (outlet, intake) = handover(alloc)?;
+    let queue = Queue::new(rt, *rt, intake, shared(door)?)?;
+    let waker = queue.waker()?;
+    let Ok(worker) = Worker::new(alloc, seat) else {
+        return Err(Unserved::NoMemory);
+    };
+    Ok(Hired {
+        worker,
+        queue,
+        post: Post { outlet, waker },
+    })
+}
+
+/// A further handle of the door.
+fn shared(door: &Arc<Door, Global>) -> Result<Arc<Door, Global>, Unserved> {
+    match Arc::try_clone(door) {
+        Ok(door) => Ok(door),
+        Err(_) => Err(Unserved::NoMemory),
+    }
+}
+
+/// All workers, with their inlets and where their connections are put.
+#[derive(Drop)]
+struct Staff<N: Naming, R: Wait + Drop> {
+    crew: Vec<(Worker<Socket, N>, Queue<R>)>,
+    posts: Vec<Post>,
+}
+
+/// A worker for each seat.
+fn hire_all<N: Naming, R: Wait + Net + AllocGlobal + Copy + Drop>(
+    rt: &R,
+    alloc: Global,
+    door: &Arc<Door, Global>,
+    seats: Vec<Seat<N>>,
+) -> Result<Staff<N, R>, Unserved> {
+    let mut posts = Vec::new(alloc);
+    let mut crew = Vec::new(alloc);
+    for seat in seats {
+        let Hired {
+            worker,
+            queue,
+            post,
+        } = hire(rt, alloc, door, seat)?;
+        if posts.push(post).is_err() || crew.push((worker, queue)).is_err() {
+            return Err(Unserved::NoMemory);
+        }
+    }
+    Ok(Staff { crew, posts })
+}
+
+/// Listens and serves, until so many connections were closed.
+pub fn serve<
+    C: Cache + Send + Sync,
+    N: Naming + Send + Sync,
+    R: Threads + Wait + Net + Time + AllocGlobal + Send + Sync + Copy + Drop + 'static,
+>(rt: &R, alloc: Global, beginning: Beginning<C>, until: Option<u64>) -> Result<(), Unserved>
+    requires name { beginning.opened ≡ N.table }
+    requires begins { N.terms.begins ≡ map fresh_cache beginning.settings.users }
+    requires seats { N.terms.seats ≡ beginning.settings.workers }
+    requires journal { N.terms.journal ≡ beginning.settings.journal }
+{
+    let Beginning {
+        settings,
+        opened,
+        caches,
+    } = beginning;
+    let Settings {
+        listen,
+        workers,
+        journal,
+        users,
+    } = settings;
+    let Ok(address) = listen.as_str().parse::<SocketAddr>() else {
+        return Err(Unserved::CannotListen);
+    };
+    let (hall, seats) = Hall::<C, N>::new(alloc, opened, &users, caches, workers, journal)?;
+    let Ok(door) = Arc::new(alloc, Door::new()) else {
+        return Err(Unserved::NoMemory);
+    };
+    let Staff { crew, posts } = hire_all(rt, alloc, &door, seats)?;
+    let listening = Listening::new(rt, address, posts, shared(&door)?, until)?;
+    run(rt, alloc, &hall, &users, crew, listening, &door)
+}
+
+/// Runs the listener, the workers and the keeper, until the listener ends.
+fn run<
+    C: Cache + Send + Sync,
+    N: Naming + Send + Sync,
+    R: Threads + Wait + Net + Time + AllocGlobal + Send + Sync + Copy + Drop + 'static,
+>(
+    rt: &R,
+    alloc: Global,
+    hall: &Hall<C, N>,
+    users: &Users,
+    crew: Vec<(Worker<Socket, N>, Queue<R>)>,
+    listening: Listening,
+    door: &Arc<Door, Global>,
+) -> Result<(), Unserved> {
+    let clock = Clock::new();
+    // Commands that come before the keeper's first turn are done at the right moment.
+    clock.advance(moment_now(rt));
+    let own = *rt;
+    let Ok(listener) = thread::spawn(rt, move || listening.run(&own)) else {
+        return Err(Unserved::NoMemory);
+    };
+    let keeper = Keeper::new();
+    let source = Ticking { rt: *rt };
+    let ended = run_crew(rt, alloc, hall, users, &clock, &Open, keeper, crew, source);
+    door.end();
+    listener.join(rt);
+    match ended {
+        Ok(_seats) => Ok(()),
+        Err(_) => Err(Unserved::NoMemory),
+    }
+}

@@ -1,0 +1,57 @@
+//! The keeper: deferred work of one user after another.
+ghost use Rattle.std.specs.Prelude.{◌≡◌, ◌<◌};
+ghost use Rattle.tc_workers.specs.Turns.{user_after};
+
+use std::marker::Model;
+use std::sync::Wait;
+use tc_item::Moment;
+use tc_locked::{Clock, Hall, Naming};
+use tc_plain::Cache;
+use tc_users::UserNo;
+
+/// How much deferred work a turn does at most.
+const LIMIT: u32 = 64;
+
+/// Goes round over the users. Contracts see who had the last turn, 0 before the first.
+#[derive(Debug, Drop)]
+pub struct Keeper {
+    done: u32,
+}
+
+impl Model for Keeper {
+    ghost use Rattle.std.specs.Prelude.{ℕ};
+
+    ghost Value = { ℕ };
+
+    ghost view = { λ k. k.done };
+}
+
+impl Keeper {
+    /// A keeper before the first user.
+    pub fn new() -> Keeper
+        ensures { result ≡ 0 }
+    {
+        Keeper { done: 0 }
+    }
+
+    /// One maintenance of the next user at the clock's moment; nothing where there is no user.
+    pub fn turn<R: Wait, C: Cache, N: Naming>(&mut self, rt: &R, hall: &Hall<C, N>, clock: &Clock)
+        ensures next { 0 < hall.now → self.new ≡ user_after hall.now self.old }
+        ensures nobody { hall.now ≡ 0 → self.new ≡ self.old }
+    {
+        if hall.users() == 0 {
+            return;
+        }
+        if self.done < hall.users() {
+            self.done += 1;
+        } else {
+            self.done = 1;
+        }
+        hall.maintain(rt, UserNo::new(self.done), clock.now(), LIMIT);
+    }
+}
+
+/// Where the keeper learns the moment. It sleeps, so that the keeper doesn't spin.
+pub trait Source: Drop {
+    fn moment(&mut self) -> Moment;
+}

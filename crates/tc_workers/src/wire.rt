@@ -1,0 +1,67 @@
+//! What a worker reads and writes, and where it gets its connections.
+ghost use Rattle.std.specs.Prelude.{◌≡◌, ℕ, length};
+ghost use Rattle.tc_workers.specs.Wires.{ReadsWithin, WritesWithin, CountsFailedRead, CountsFailedWrite};
+
+/// What a read gave.
+#[derive(Clone, Copy, Debug, PartialEq, Eq)]
+pub enum Got {
+    /// So many bytes stand at the front of the buffer. After 0 it is to be asked again.
+    Bytes(usize),
+    /// The peer sends no more.
+    Ended,
+    /// Nothing is there yet.
+    Later,
+    Failed,
+}
+
+/// What a write came to.
+#[derive(Clone, Copy, Debug, PartialEq, Eq)]
+pub enum Put {
+    /// So many of the first bytes were taken. After 0 it is to be asked again.
+    Wrote(usize),
+    /// Nothing can be taken yet.
+    Later,
+    Failed,
+}
+
+/// The two ways of a connection. No call of it waits.
+pub trait Wire {
+    /// How many reads and writes failed.
+    ghost failed: { Self → ℕ };
+
+    fn read(&mut self, into: &mut [u8]) -> Got
+        ensures within { ReadsWithin result (length into.old) }
+        ensures counted { CountsFailedRead result (failed self.old) (failed self.new) };
+
+    fn write(&mut self, from: &[u8]) -> Put
+        ensures within { WritesWithin result (length from.now) }
+        ensures counted { CountsFailedWrite result (failed self.old) (failed self.new) };
+
+    fn failures(&self) -> u64
+        ensures { result ≡ failed self.now };
+
+    /// Learns under which key its worker has it. Whether the inlet names that key each time that a
+    /// read or a write would no longer answer `Later`; where it doesn't, the wire is asked each turn.
+    fn set_key(&mut self, key: usize) -> bool;
+}
+
+/// What an inlet gives.
+#[derive(Drop)]
+pub enum Taken<W> {
+    /// A connection, under the caller's number.
+    Given(u32, W),
+    Nothing,
+    /// No more come.
+    Ended,
+}
+
+/// Where a worker gets its connections, and learns which of them have something to do.
+pub trait Inlet: Drop {
+    type Wire: Wire + Drop;
+
+    /// The next connection. It is asked once before each turn, and may wait where it is told so.
+    fn take(&mut self, may_wait: bool) -> Taken<Self::Wire>;
+
+    /// The key of a wire that may be read or written again; each is named once.
+    fn woken(&mut self) -> Option<usize>;
+}

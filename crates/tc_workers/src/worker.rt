@@ -1,0 +1,202 @@
+//! A worker: its connections, and one turn over those that may have something to do.
+ghost use Rattle.std.specs.Prelude.{◌≡◌, ◌≤◌, IfSome, vec_len};
+ghost use Rattle.tc_workers.specs.Turns.{most_kept};
+
+use crate::gate::Gate;
+use crate::link::{Link, PIECE};
+use crate::pace::{Onward, Pace};
+use crate::service::Service;
+use crate::wire::{Inlet, Wire};
+use slab::Slab;
+use std::alloc::Global;
+use std::sync::Wait;
+use tc_item::NoMemory;
+use tc_locked::{Clock, Hall, Naming, Seat};
+use tc_plain::Cache;
+use tc_users::Users;
+
+/// Room for so many connections is taken before the first comes.
+const FIRST_ROOM: usize = 16;
+
+/// The most keys that are taken from the inlet before a turn.
+const MOST_WOKEN: u32 = 1_024;
+
+/// Connections, and the seat by which their commands are done.
+#[derive(Drop)]
+pub struct Worker<W: Wire + Drop, N: Naming> {
+    alloc: Global,
+    seat: Seat<N>,
+    links: Slab<Link<W>>,
+    /// The keys of the connections that are served in the next turn, each once.
+    listed: Vec<usize>,
+    /// What is read, before a session takes it.
+    buffer: Vec<u8>,
+}
+
+impl<W: Wire + Drop, N: Naming> Worker<W, N> {
+    /// A worker with no connection. Where memory is refused, the seat comes back.
+    pub fn new(alloc: Global, seat: Seat<N>) -> Result<Worker<W, N>, (Seat<N>, NoMemory)> {
+        let Ok(buffer) = Vec::from_elem(alloc, 0u8, PIECE) else {
+            return Err((seat, NoMemory));
+        };
+        Ok(Worker {
+            alloc,
+            seat,
+            links: Slab::new(alloc),
+            listed: Vec::new(alloc),
+            buffer,
+        })
+    }
+
+    /// Takes room for the first connections. It is called in the worker's own thread, so that the
+    /// allocator has made what it keeps for that thread before memory is scarce.
+    pub(crate) fn prepare(&mut self) {
+        // Where memory is refused, `add` asks for it again.
+        let _ = self.links.reserve(FIRST_ROOM);
+        let _ = self.listed.reserve(FIRST_ROOM);
+    }
+
+    /// Takes a connection. Where memory is refused, its wire comes back.
+    pub fn add(&mut self, conn: u32, wire: W) -> Result<(), (W, NoMemory)> {
+        // With room for all connections, none is lost when it is to be listed again.
+        let room = self.links.len().saturating_add(1);
+        if self.listed.reserve(room).is_err() {
+            return Err((wire, NoMemory));
+        }
+        match self.links.insert(Link::new(self.alloc, conn, wire)) {
+            Ok(key) => {
+                self.introduce(key);
+                Ok(())
+            }
+            Err(refused) => Err((refused.value.into_wire(), NoMemory)),
+        }
+    }
+
+    /// Puts a new connection on the list, and tells it its key.
+    fn introduce(&mut self, key: usize) {
+        if let Some(link) = self.links.get_mut(key) {
+            link.set_key(key);
+        }
+        self.list(key);
+    }
+
+    /// Puts a connection on the list. Where memory is refused, it is dropped.
+    fn list(&mut self, key: usize) {
+        if self.listed.push(key).is_err() {
+            let _ = self.links.try_remove(key);
+        }
+    }
+
+    /// Has a connection served in the next turn. An unknown key is passed over.
+    pub fn wake(&mut self, key: usize) {
+        let is_new = match self.links.get_mut(key) {
+            Some(link) => {
+                let was_listed = link.is_listed;
+                link.is_listed = true;
+                !was_listed
+            }
+            None => false,
+        };
+        if is_new {
+            self.list(key);
+        }
+    }
+
+    /// Wakes the connections that the inlet names.
+    pub(crate) fn wake_named<I: Inlet>(&mut self, inlet: &mut I) {
+        for _ in 0..MOST_WOKEN {
+            let Some(key) = inlet.woken() else {
+                return;
+            };
+            self.wake(key);
+        }
+    }
+
+    /// Whether it has no connection.
+    pub fn is_idle(&self) -> bool {
+        self.links.is_empty()
+    }
+
+    /// How many bytes of a connection came and are unread.
+    pub fn kept(&self, key: usize) -> Option<usize>
+        ensures { IfSome result (λ kept. kept ≤ most_kept) }
+    {
+        match self.links.get(key) {
+            Some(link) => Some(link.kept()),
+            None => None,
+        }
+    }
+
+    /// Goes over the listed connections once, and drops those that are done. Whether one got on; else
+    /// nothing is to be done before the inlet has something new.
+    pub fn turn<R: Wait, C: Cache, G: Gate>(
+        &mut self,
+        rt: &R,
+        hall: &Hall<C, N>,
+        users: &Users,
+        clock: &Clock,
+        gate: &G,
+    ) -> bool {
+        let service = Service {
+            rt,
+            alloc: self.alloc,
+            hall,
+            users,
+            clock,
+            gate,
+        };
+        let mut one_got_on = false;
+        let mut at = 0;
+        for _ in 0..self.listed.len() {
+            if at >= self.listed.len() {
+                break;
+            }
+            let key = self.listed[at];
+            match self.serve(&service, key) {
+                Onward::GoesOn(Pace::GetsOn) => {
+                    one_got_on = true;
+                    at += 1;
+                }
+                Onward::GoesOn(Pace::Tries) => at += 1,
+                Onward::GoesOn(Pace::Rests) | Onward::Done => {
+                    let _ = self.listed.swap_remove(at);
+                }
+            }
+        }
+        one_got_on
+    }
+
+    /// One connection's turn. Where it is done it is dropped, and where it rests it is told so.
+    fn serve<R: Wait, C: Cache, G: Gate>(
+        &mut self,
+        service: &Service<'_, R, C, N, G>,
+        key: usize,
+    ) -> Onward
+        ensures { vec_len self.new.listed ≡ vec_len self.old.listed }
+    {
+        let Some(link) = self.links.get_mut(key) else {
+            return Onward::Done;
+        };
+        let onward = link.turn(service, &mut self.seat, self.buffer.as_mut_slice());
+        match onward {
+            Onward::Done => {
+                let _ = self.links.try_remove(key);
+            }
+            Onward::GoesOn(Pace::Rests) => link.is_listed = false,
+            Onward::GoesOn(_) => {}
+        }
+        onward
+    }
+
+    /// Drops the connections, and gives the seat back.
+    pub fn end(self) -> Seat<N> {
+        let Worker {
+            alloc: _,
+            seat,
+            links: _,
+            listed: _,
+            buffer: _,
+        } = self;
+        seat
+    }
+}

@@ -1,0 +1,70 @@
+//! A client and a server in one process, over loopback.
+use std::alloc::Global;
+use std::io::{Read, Write};
+use std::marker::Brand;
+use std::net::{Net, TcpStream};
+use std::test::*;
+use std::thread;
+use std::time::{Clock, Duration};
+use tc_fresh::fresh_caches;
+use tc_locked::Opened;
+use tc_net::{Beginning, serve};
+use tc_plain::Plain;
+use tc_users::Settings;
+
+const SETTINGS: &str = "listen = \"127.0.0.1:21211\"\nworkers = 2\njournal = 16\n\
+[[user]]\nname = \"alice\"\ntoken = \"one\"\nbudget = 65536\n";
+
+const STREAM: &[u8] = b"set a 0 0 9\r\nalice one\r\nset k 5 0 3\r\nabc\r\nget k\r\n";
+
+const ANSWERS: &[u8] = b"STORED\r\nSTORED\r\nVALUE k 5 3\r\nabc\r\nEND\r\n";
+
+/// So often the client tries to connect, a millisecond apart.
+const TRIES: u32 = 10_000;
+
+/// Whether as many bytes come as are expected, and these.
+fn hears<S: Read>(stream: &mut S) -> bool {
+    let mut buffer = [0u8; 39];
+    stream.read_exact(&mut buffer).is_ok() && buffer.as_slice() == ANSWERS
+}
+
+/// Whether a client that sends the stream is answered. It closes its connection at once.
+fn is_answered<S: Read + Write + Drop>(mut stream: S) -> bool {
+    stream.write_all(STREAM).is_ok() && hears(&mut stream)
+}
+
+/// Connects as soon as the server listens, and asks.
+fn ask<R: Net + Clock>(rt: &R) -> bool {
+    for _ in 0..TRIES {
+        if let Ok(stream) = TcpStream::connect(rt, "127.0.0.1:21211") {
+            return is_answered(stream);
+        }
+        thread::sleep(rt, Duration::from_millis(1));
+    }
+    false
+}
+
+/// A server of two workers on loopback.
+fn loopback(alloc: Global) -> Result<Beginning<Plain>, Fail> {
+    let settings = Settings::from_toml(alloc, SETTINGS)?;
+    let caches = fresh_caches(alloc, &settings.users)?;
+    Ok(Beginning {
+        settings,
+        opened: Opened::new(alloc)?,
+        caches,
+    })
+}
+
+#[test]
+fn a_client_is_served_and_the_server_ends_with_it(rt: HostRuntime) -> Result<(), Fail> {
+    let alloc = rt.alloc();
+    let beginning = loopback(alloc)?;
+    let own = rt;
+    let Ok(client) = thread::spawn(&rt, move || ask(&own)) else {
+        panic!(&rt; "no thread")
+    };
+    let served = serve::<Plain, Brand, HostRuntime>(&rt, alloc, beginning, Some(1));
+    assert!(&rt; served.is_ok());
+    assert!(&rt; client.join(&rt));
+    Ok(())
+}

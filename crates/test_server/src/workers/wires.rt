@@ -1,0 +1,164 @@
+//! A wire in memory, which knows what it is to be sent.
+ghost use Rattle.std.specs.Prelude.{◌≡◌, ◌<◌, ◌≤◌, length};
+
+use std::alloc::Global;
+use std::sync::Arc;
+use std::sync::atomic::AtomicU64;
+use std::sync::atomic::Ordering::SeqCst;
+use tc_workers::{Got, Put, Wire};
+
+/// How the bytes of a wire come.
+#[derive(Clone, Copy, Debug, PartialEq, Eq)]
+pub enum Cut {
+    /// In two pieces, cut at this byte.
+    At(usize),
+    /// A byte at a time.
+    Bytes,
+}
+
+/// What a wire answers once all its bytes are read, or before.
+#[derive(Clone, Copy, Debug, PartialEq, Eq)]
+pub enum Ending {
+    Ends,
+    /// It answers that nothing is there, for ever.
+    Stays,
+    /// Its read of this number fails, from 1.
+    FailsAtRead(u64),
+    FailsAtWrite(u64),
+}
+
+/// What a wire gives, and what it is to be sent.
+#[derive(Clone, Copy, Debug)]
+pub struct Plan {
+    pub sends: &'static [u8],
+    /// So many bytes `x` follow.
+    pub fill: usize,
+    pub cut: Cut,
+    pub ending: Ending,
+    pub expects: &'static [u8],
+}
+
+/// What is seen of a wire from outside.
+#[derive(Drop)]
+pub struct Seen {
+    /// How many of the expected bytes it was sent.
+    pub told: AtomicU64,
+    /// How many writes were not the next expected bytes.
+    pub odd: AtomicU64,
+    pub reads: AtomicU64,
+}
+
+impl Seen {
+    pub fn new() -> Seen {
+        Seen {
+            told: AtomicU64::new(0),
+            odd: AtomicU64::new(0),
+            reads: AtomicU64::new(0),
+        }
+    }
+}
+
+#[derive(Drop)]
+pub struct Memory {
+    plan: Plan,
+    at: usize,
+    told: usize,
+    reads: u64,
+    writes: u64,
+    failed: u64,
+    seen: Arc<Seen, Global>,
+}
+
+impl Memory {
+    pub fn new(plan: Plan, seen: Arc<Seen, Global>) -> Memory {
+        Memory {
+            plan,
+            at: 0,
+            told: 0,
+            reads: 0,
+            writes: 0,
+            failed: 0,
+            seen,
+        }
+    }
+
+    /// How many bytes the next read gives at most.
+    fn next_piece(&self) -> usize {
+        let all = self.plan.sends.len().saturating_add(self.plan.fill);
+        let left = all.saturating_sub(self.at);
+        match self.plan.cut {
+            Cut::At(place) if self.at < place => left.min(place - self.at),
+            Cut::At(_) => left,
+            Cut::Bytes => left.min(1),
+        }
+    }
+
+    fn byte(&self, at: usize) -> u8 {
+        match self.plan.sends.get(at) {
+            Some(byte) => *byte,
+            None => b'x',
+        }
+    }
+
+    /// Gives the next piece, as much as there is room for; 0 where all is read.
+    fn give(&mut self, into: &mut [u8]) -> usize
+        ensures { result ≤ length into.old }
+    {
+        let n = self.next_piece().min(into.len());
+        for i in 0..n {
+            into[i] = self.byte(self.at.saturating_add(i));
+        }
+        self.at = self.at.saturating_add(n);
+        n
+    }
+
+    /// Takes bytes, and counts those that are the next expected.
+    fn hear(&mut self, from: &[u8]) {
+        let end = self.told.saturating_add(from.len());
+        match self.plan.expects.get(self.told..end) {
+            Some(part) if part == from => {
+                self.told = end;
+                self.seen.told.store(end as u64, SeqCst);
+            }
+            _ => {
+                self.seen.odd.fetch_add(1, SeqCst);
+            }
+        }
+    }
+}
+
+impl Wire for Memory {
+    ghost failed = { λ w. w.failed };
+
+    fn read(&mut self, into: &mut [u8]) -> Got {
+        self.reads = self.reads.saturating_add(1);
+        self.seen.reads.fetch_add(1, SeqCst);
+        if self.plan.ending == Ending::FailsAtRead(self.reads) && self.failed == 0 {
+            self.failed = 1;
+            return Got::Failed;
+        }
+        match (self.give(into), self.plan.ending) {
+            (0, Ending::Ends) => Got::Ended,
+            (0, _) => Got::Later,
+            (n, _) => Got::Bytes(n),
+        }
+    }
+
+    fn write(&mut self, from: &[u8]) -> Put {
+        self.writes = self.writes.saturating_add(1);
+        if self.plan.ending == Ending::FailsAtWrite(self.writes) && self.failed == 0 {
+            self.failed = 1;
+            return Put::Failed;
+        }
+        self.hear(from);
+        Put::Wrote(from.len())
+    }
+
+    fn failures(&self) -> u64 {
+        self.failed
+    }
+
+    fn set_key(&mut self, _key: usize) -> bool {
+        false
+    }
+}
