@@ -14,7 +14,7 @@ use Rattle.tc_plain.specs.Laws.{AdvancesOnce, ActsAdvanced, user_caching}
 use Rattle.std.proofs.lemmas.Bool.{leb-true, le-leb, ltb-true, lt-ltb}
 
 -- what is before a due later is before it now
-is_before-earlier : (m n : ℕ) (due : Due) → m ≤ n → is_before n due ≡ true → is_before m due ≡ true
+pub is_before-earlier : (m n : ℕ) (due : Due) → m ≤ n → is_before n due ≡ true → is_before m due ≡ true
 is_before-earlier m n Never le h = refl
 is_before-earlier m n (At d) le h = lt-ltb m d (omega (arith, ltb-true n d h))
 
@@ -31,7 +31,7 @@ filter-filter {A} p q h (x ∷ xs) = go (p x) (q x) refl (h x) (filter-filter p 
     go false false e f ih = ih
 
 -- a flush that is due stays due
-is_flush_due-later : (m n : ℕ) (f : Option ℕ) → m ≤ n → is_flush_due f m ≡ true → is_flush_due f n ≡ true
+pub is_flush_due-later : (m n : ℕ) (f : Option ℕ) → m ≤ n → is_flush_due f m ≡ true → is_flush_due f n ≡ true
 is_flush_due-later m n None le h = h
 is_flush_due-later m n (Some d) le h = le-leb d n (omega (arith, leb-true d m h))
 
@@ -54,7 +54,7 @@ limits-at_moment m l = go (is_flush_due l.flush m)
     go true = refl
     go false = refl
 
-at_moment-at_moment : (m n : ℕ) (l : Live) → m ≤ n → at_moment n (at_moment m l) ≡ at_moment n l
+pub at_moment-at_moment : (m n : ℕ) (l : Live) → m ≤ n → at_moment n (at_moment m l) ≡ at_moment n l
 at_moment-at_moment m n l le = go (is_flush_due l.flush m) (is_flush_due l.flush n) refl (is_flush_due-later m n l.flush le)
   where
     go : (a b : Bool) → is_flush_due l.flush n ≡ b → (a ≡ true → b ≡ true)

@@ -26,7 +26,7 @@ use Rattle.tc_plain.proofs.Used.{held_key}
 use Rattle.tc_plain.proofs.Shown.{held-without_key, held-without_key_own, held-raised, held-raised_own, held-demoted}
 
 -- what keys hold once an entry was used in the place of what its key held
-held-used : (l : Live) (x old : Entry) (q : List ℕ) (b : Bool) → AreSound l.limits l.areas → held x.key l.areas ≡ Some old → lives l.moment x ≡ b
+pub held-used : (l : Live) (x old : Entry) (q : List ℕ) (b : Bool) → AreSound l.limits l.areas → held x.key l.areas ≡ Some old → lives l.moment x ≡ b
     → held q (used x l).areas ≡ cond (bytes_eq x.key q) (cond b (Some x) None) (held q l.areas)
 held-used l x old q b sound h alive =
     ap (λ t. held q (cond t (put_in l.limits x l.areas) (without_key x.key l.areas))) alive
@@ -54,7 +54,7 @@ held-used l x old q b sound h alive =
         ap (λ k. held k (without_key x.key l.areas)) (sym same) ∙ held-without_key_own x.key l.areas
     go false false e = held-without_key x.key q l.areas e
 
-every_placed : (P : Entry → Type 0) (l : Live) (x : Entry) → P x → EveryIn P l.areas → EveryIn P (placed l x)
+pub every_placed : (P : Entry → Type 0) (l : Live) (x : Entry) → P x → EveryIn P l.areas → EveryIn P (placed l x)
 every_placed P l x new h = go (lives l.moment x) (is_some (held x.key l.areas))
   where
     left : (xs : List Entry) → Every P xs → Every P (filter (λ y. not (has_key x.key y)) xs)

@@ -67,7 +67,7 @@ impl Areas {
     }
 
     /// Room in each list for all entries and one more. A refusal leaves the entries as they are.
-    pub(crate) fn make_room(&mut self) -> Result<(), NoMemory>
+    pub fn make_room(&mut self) -> Result<(), NoMemory>
         requires { total weight (areas_of self.old) < 2 ^ 63 }
         ensures room { OnOk result (HasRoom 1 self.new) }
         ensures areas { areas_of self.new ≡ areas_of self.old }

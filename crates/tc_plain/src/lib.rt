@@ -30,8 +30,11 @@ mod settling;
 
 pub use areas::Areas;
 pub use cache::Cache;
+pub use ends::End;
 pub use entry::Entry;
 pub use laws::{advancing, freshness, soundness};
 pub use limits::Limits;
 pub use live::Live;
+pub use offers::{Bid, offer};
 pub use plain::Plain;
+pub use plans::{Plan, plan_count, plan_item};

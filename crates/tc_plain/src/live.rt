@@ -44,7 +44,7 @@ fn is_flush_due(flush: Option<u64>, moment: Moment) -> bool
 
 impl Live {
     /// Brings it to the moment, if that is later than its own.
-    pub(crate) fn advance(&mut self, now: Moment)
+    pub fn advance(&mut self, now: Moment)
         ensures live { live_of self.new ≡ advanced (live_of self.old) now }
         ensures room { (spare : ℕ) → HasRoom spare self.old.areas → HasRoom spare self.new.areas }
     {
@@ -105,7 +105,7 @@ impl Live {
 
     /// One look-up of a key: whether it is held. What it holds has this due from now on, if one is
     /// given.
-    pub(crate) fn look(&mut self, key: &[u8], due: Option<Due>) -> bool
+    pub fn look(&mut self, key: &[u8], due: Option<Due>) -> bool
         requires weight { total weight (areas_of self.old.areas) < 2 ^ 32 }
         requires room { HasRoom 0 self.old.areas }
         ensures live { live_of self.new ≡ (looked_up (change_of due) key.now (held key.now (areas_of self.old.areas)) (live_of self.old)).1 }

@@ -1,5 +1,5 @@
 //! The ring of records that wait.
-ghost use Rattle.std.specs.Prelude.{◌≡◌, ◌↔◌, ◌≤◌, ◌∷◌, ◌++◌, [], length, IfOk, IsErr, OnErr, OnOk, IsTrue, MatchOption};
+ghost use Rattle.std.specs.Prelude.{◌≡◌, ◌↔◌, ◌≤◌, ◌∷◌, ◌++◌, [], length, IfOk, IsErr, OnErr, OnOk, IsTrue, MatchOption, slice_get};
 
 use crate::noted::Noted;
 use circular_buffer::HeapCircularBuffer;
@@ -71,6 +71,13 @@ impl ReadBuf {
             (λ first. self.old ≡ first ∷ self.new) }
     {
         self.ring.pop_front()
+    }
+
+    /// The record at a place in the order noted, the first at 0; none where fewer wait.
+    pub fn get(&self, place: usize) -> Option<(Noted, Moment)>
+        ensures { result ≡ slice_get self.now place }
+    {
+        self.ring.get(place).copied()
     }
 
     /// Whether as many records wait as there are places.

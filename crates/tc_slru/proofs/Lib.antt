@@ -5,6 +5,7 @@ pub mod Lasts
 pub mod Members
 pub mod Outranked
 pub mod Put
+pub mod Read
 pub mod Reserved
 pub mod Standing
 pub mod Taken

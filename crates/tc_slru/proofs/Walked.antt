@@ -37,7 +37,7 @@ map-reverse ws (x ∷ xs) =
     push [] = refl
     push (u ∷ us) = ap (λ t. placed_of ws u ∷ t) (push us)
 
-places_in : (area : Area) (hs : List (Option Area)) (n : ℕ) (xs : List ℕ) → AreAt area hs xs → AreBelow n xs → Every (IsPlace n) xs
+pub places_in : (area : Area) (hs : List (Option Area)) (n : ℕ) (xs : List ℕ) → AreAt area hs xs → AreBelow n xs → Every (IsPlace n) xs
 places_in area hs n [] k b = tt
 places_in area hs n (x ∷ xs) k b = ((k.0, b.0), places_in area hs n xs k.2 b.1)
 

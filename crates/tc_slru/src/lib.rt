@@ -19,5 +19,6 @@ mod lists;
 mod nodes;
 mod settle;
 
+pub use area::Area;
 pub use lists::{Lists, Weights};
 pub use tc_item::Slot;

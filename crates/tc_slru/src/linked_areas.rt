@@ -11,11 +11,12 @@
 //!    weigh; each of them is a slot's, and this list is noted at it.
 //! 3. `free`: at the node of every other slot no list is noted.
 //! 4. `weights_long`, `areas_long`: each node has a place for its weight and its list.
-ghost use Rattle.std.specs.Prelude.{◌≡◌, ℕ, reverse, ◌+◌, ◌-◌, ◌<◌, ◌≤◌, ◌^◌, true, false, length, max, slice_index, is_ok, OnErr, sum_by, if◌then◌else◌};
+ghost use Rattle.std.specs.Prelude.{◌≡◌, ℕ, reverse, ◌+◌, ◌-◌, ◌<◌, ◌≤◌, ◌^◌, true, false, length, max, slice_index, is_ok, IfOk, map, OnErr, sum_by, if◌then◌else◌};
 ghost use Rattle.tc_model.specs.Areas.{total};
 ghost use Rattle.tc_model.specs.Ring.{HasPlace};
 ghost use Rattle.tc_slru.specs.Links.{unlinked, linked_behind};
 ghost use Rattle.tc_slru.specs.Slots.{placed, weigh, holds, without_slot, taken_out, with_room};
+ghost use Rattle.tc_slru.specs.Slots.{slot_of};
 ghost use Rattle.tc_slru.specs.InAreas.{list_in, put_in, area_of, IsLast, IsSize, no_areas, mark_of, end_of};
 ghost use Rattle.tc_slru.specs.Victims.{Counts, left_over};
 
@@ -224,5 +225,19 @@ impl LinkedAreas {
             need = need.saturating_sub(node.weight);
         }
         Some(need)
+    }
+
+    /// The slots of a list, front to back.
+    pub fn slots_in(&self, alloc: Global, area: Area) -> Result<Vec<Slot>, NoMemory>
+        ensures { IfOk result (λ slots. slots.items ≡ map slot_of (list_in area self.now.areas)) }
+    {
+        let count = self.sizes.of(area).count;
+        let mut slots = Vec::with_capacity(alloc, count)?;
+        let mut at = mark_of(area);
+        for _place in 0..count {
+            at = self.nodes.node(at).next;
+            slots.push(Slot(at - MARKS))?;
+        }
+        Ok(slots)
     }
 }

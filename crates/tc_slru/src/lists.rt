@@ -1,7 +1,8 @@
 //! The lists of slots under access and settle.
-ghost use Rattle.std.specs.Prelude.{◌≡◌, ℕ, ◌+◌, ◌<◌, ◌≤◌, ◌^◌, true, false, is_ok, OnErr, if◌then◌else◌};
+ghost use Rattle.std.specs.Prelude.{◌≡◌, ℕ, ◌+◌, ◌<◌, ◌≤◌, ◌^◌, true, false, is_ok, IfOk, map, OnErr, if◌then◌else◌};
 ghost use Rattle.tc_model.specs.Areas.{total};
-ghost use Rattle.tc_slru.specs.Slots.{weigh, holds, without_slot};
+ghost use Rattle.tc_slru.specs.Slots.{weigh, holds, without_slot, slot_of};
+ghost use Rattle.tc_slru.specs.InAreas.{list_in};
 ghost use Rattle.tc_slru.specs.Victims.{Counts};
 ghost use Rattle.tc_slru.specs.SlotLists.{fresh, reserved, pushed, removed, accessed_at, weights_of, DropsNext};
 
@@ -95,6 +96,13 @@ impl Lists {
             probation: sizes.probation.weight,
             protected: sizes.protected.weight,
         }
+    }
+
+    /// The slots of a list, front to back.
+    pub fn slots_in(&self, alloc: Global, area: Area) -> Result<Vec<Slot>, NoMemory>
+        ensures { IfOk result (λ slots. slots.items ≡ map slot_of (list_in area self.now.areas)) }
+    {
+        self.areas.slots_in(alloc, area)
     }
 
     /// Puts a slot that is not held at the front of the window.
