@@ -1,0 +1,106 @@
+#!/usr/bin/env python3
+"""How much memory a server takes: by users, items, item size and journal.
+
+usage: bench/sizing.py PROGRAM [--port N] [--most ITEMS]
+
+It starts `PROGRAM serve` once for each row, with 4 workers, fills each user's partition over
+loopback, and reads the process's resident memory from /proc. A row's last column is what an item
+takes beside its key and its data, once the empty server of that row is taken off. Memory of the
+journal stands in it: the entries of a page, and the data that they keep alive."""
+import argparse
+import socket
+import subprocess
+import sys
+import tempfile
+import time
+from pathlib import Path
+
+KIB, MIB = 1024, 1024 * 1024
+# users, journal, items a user, data bytes an item
+ROWS = [
+    (1, 16, 0, 0), (20, 16, 0, 0), (1, 4096, 0, 0), (1, 65536, 0, 0),
+    (1, 16, 1_000, 64), (1, 16, 100_000, 64), (1, 16, 1_000_000, 64),
+    (1, 16, 100_000, 1_000), (1, 16, 500_000, 1_000), (1, 16, 5_000, 100_000),
+    (1, 4096, 100_000, 64), (1, 65536, 100_000, 64), (1, 65536, 100_000, 1_000),
+    (20, 4096, 50_000, 1_000),
+]
+
+
+def settings(port, users, journal, budget):
+    rows = "".join(f'[[user]]\nname = "u{n}"\ntoken = "t{n}"\nbudget = {budget}\n' for n in range(users))
+    return f'listen = "127.0.0.1:{port}"\nworkers = 4\njournal = {journal}\n{rows}'
+
+
+def connect(port, user):
+    for _ in range(100):
+        try:
+            link = socket.create_connection(("127.0.0.1", port))
+            break
+        except ConnectionRefusedError:
+            time.sleep(0.05)
+    login = f"u{user} t{user}".encode()
+    link.sendall(b"set login 0 0 %d\r\n%s\r\n" % (len(login), login))
+    assert link.recv(100) == b"STORED\r\n"
+    return link
+
+
+def fill(link, items, size):
+    data = b"x" * size
+    step = max(1, min(2_000, 4 * MIB // (size + 50)))
+    for first in range(0, items, step):
+        link.sendall(b"".join(b"set key%09d 0 0 %d noreply\r\n%s\r\n" % (n, size, data)
+                              for n in range(first, min(items, first + step))))
+
+
+def stats(link):
+    link.sendall(b"stats\r\n")
+    text = b""
+    while not text.endswith(b"END\r\n"):
+        text += link.recv(65536)
+    return {row.split()[1].decode(): row.split()[2].decode() for row in text.splitlines() if row.startswith(b"STAT")}
+
+
+def resident(process):
+    lines = Path(f"/proc/{process.pid}/status").read_text().splitlines()
+    return next(int(line.split()[1]) * KIB for line in lines if line.startswith("VmRSS"))
+
+
+def measure(program, port, users, journal, items, size):
+    budget = min(max(65_536, 2 * items * (12 + size + 64)), 1 << 30)
+    with tempfile.NamedTemporaryFile("w", suffix=".toml") as file:
+        file.write(settings(port, users, journal, budget))
+        file.flush()
+        process = subprocess.Popen([program, "serve", "--config", file.name])
+        try:
+            links = [connect(port, user) for user in range(users)]
+            empty = resident(process)
+            held = 0
+            for link in links:
+                fill(link, items, size)
+                held += int(stats(link)["curr_items"])
+            return empty, resident(process), held
+        finally:
+            process.kill()
+            process.wait()
+
+
+def main():
+    words = argparse.ArgumentParser(description=__doc__.splitlines()[0])
+    words.add_argument("program")
+    words.add_argument("--port", type=int, default=21300)
+    words.add_argument("--most", type=int, default=1 << 30, help="leave out rows of more items")
+    asked = words.parse_args()
+    print("| Users | Journal | Items a user | Data bytes | Empty server, MiB | Full, MiB | Bytes an item beside key and data |")
+    print("|---|---|---|---|---|---|---|")
+    for users, journal, items, size in ROWS:
+        if items > asked.most:
+            continue
+        empty, full, held = measure(asked.program, asked.port, users, journal, items, size)
+        beside = f"{(full - empty) / held - 12 - size:.0f}" if held else "-"
+        print(f"| {users} | {journal:,} | {items:,} | {size:,} | {empty / MIB:.1f} | {full / MIB:.1f} | {beside} |", flush=True)
+        if held != users * items:
+            print(f"held {held} of {users * items}", file=sys.stderr)
+
+
+if __name__ == "__main__":
+    main()
