@@ -15,7 +15,7 @@ use Rattle.tc_plain.specs.Soundness.{AreSound, IsSound}
 use Rattle.tc_plain.proofs.Advances.{limits-at_moment}
 use Rattle.tc_plain.proofs.Stays.{sound_with}
 use Rattle.tc_partition.specs.Deferred.{Waiting, Lazy, IsLazy, replay_one, replay, settled, AreInOrder}
-use Rattle.tc_partition.specs.Lazies.{waiting_of, lazy_over}
+use Rattle.tc_partition.specs.WaitingSlots.{waiting_of, lazy_over}
 use Rattle.tc_partition.proofs.Deferral.{replayed, ends_at, settled_at, at_same}
 use Rattle.tc_partition.proofs.Draining.{sound_come, sound_light, note_limits}
 use Rattle.tc_partition.proofs.Tally.{length_map}
