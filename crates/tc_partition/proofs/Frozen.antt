@@ -1,6 +1,6 @@
 -- What waits is done to a copy, one record after another.
 use Rattle.std.specs.Prelude.{max, map, slice_get}
-use Rattle.std.proofs.Common.{◌≡◌, ℕ, zero, suc, ◌+◌, ◌≤◌, ◌<◌, ◌^◌, List, [], ◌∷◌, length, take, Option, Some, None, refl, sym, ◌∙◌, ap, subst, arith}
+use Rattle.std.proofs.Common.{◌≡◌, ℕ, zero, suc, ◌+◌, ◌≤◌, ◌<◌, ◌^◌, List, [], ◌∷◌, length, take, Option, Some, refl, sym, ◌∙◌, ap, subst, arith}
 use Rattle.std.proofs.lemmas.List.{take_all}
 use Rattle.tc_model.specs.Areas.{Limits, total}
 use Rattle.tc_readbuf.specs.declared.noted.Noted.{Noted}
@@ -8,7 +8,7 @@ use Rattle.tc_plain.specs.declared.entry.Entry.{Entry}
 use Rattle.tc_plain.specs.declared.areas.Areas.{Areas as AreaLists}
 use Rattle.tc_plain.specs.AreaLists.{HasRoom}
 use Rattle.tc_plain.specs.Entries.{weight}
-use Rattle.tc_plain.specs.Live.{Live, at_moment, advanced}
+use Rattle.tc_plain.specs.Live.{Live, advanced}
 use Rattle.tc_plain.specs.UserCache.{UserCache}
 use Rattle.tc_plain.specs.Doing.{with_live}
 use Rattle.tc_plain.specs.Soundness.{AreSound, IsSound}

@@ -1,5 +1,5 @@
 -- One user's cache with look-ups that wait, by what the code keeps. Source: this project's own.
-use Rattle.std.specs.Prelude.{◌≡◌, ℕ, zero, suc, ◌+◌, nat_lt, cond, List, length, map}
+use Rattle.std.specs.Prelude.{ℕ, zero, suc, ◌+◌, nat_lt, cond, List, length, map}
 use Rattle.tc_grammar.specs.declared.command.Command.{Command}
 use Rattle.tc_grammar.specs.declared.command.Command.TheVariants.{Get}
 use Rattle.tc_plain.specs.UserCache.{UserCache}

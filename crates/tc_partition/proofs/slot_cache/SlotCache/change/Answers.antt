@@ -1,14 +1,12 @@
-use Rattle.std.proofs.Common.{◌≡◌, refl, sym, ◌∙◌, ap, subst, arith}
+use Rattle.std.proofs.Common.{◌≡◌, sym, ◌∙◌, ap, subst, arith}
 use Rattle.tc_model.specs.Areas.{Limits, total}
 use Rattle.tc_plain.specs.Entries.{weight}
 use Rattle.tc_plain.specs.Live.{Live, advanced}
-use Rattle.tc_plain.specs.UserCache.{UserCache, advance}
-use Rattle.tc_plain.specs.Doing.{with_live}
+use Rattle.tc_plain.specs.UserCache.{advance}
 use Rattle.tc_plain.specs.Plans.{IsLightPlan}
-use Rattle.tc_plain.specs.Soundness.{IsSound}
 use Rattle.tc_plain.proofs.Advances.{limits-at_moment}
 use Rattle.tc_plain.proofs.Stays.{sound_advance}
-use Rattle.tc_plain.proofs.Planning.{sound_planned, weighs_little}
+use Rattle.tc_plain.proofs.Planning.{weighs_little}
 use Rattle.tc_partition.specs.LiveSlots.{plan_of}
 use Rattle.tc_partition.specs.SlotCaches.{cache_of}
 use Rattle.tc_partition.proofs.Limited.{main_small}

@@ -1,13 +1,9 @@
-use Rattle.std.proofs.Common.{◌≡◌, refl, sym, ◌∙◌, ap, subst}
-use Rattle.tc_plain.specs.Live.{Live, advanced, held}
+use Rattle.std.proofs.Common.{sym, ◌∙◌, ap}
+use Rattle.tc_plain.specs.Live.{Live}
 use Rattle.tc_plain.specs.Placing.{without_key}
-use Rattle.tc_plain.specs.UserCache.{UserCache, advance}
-use Rattle.tc_plain.specs.Doing.{with_live, deleted}
-use Rattle.tc_plain.specs.Soundness.{IsSound}
-use Rattle.tc_plain.proofs.Sound.{sound_kept}
-use Rattle.tc_plain.proofs.Stays.{sound_advance, sound_with}
+use Rattle.tc_plain.specs.UserCache.{advance}
+use Rattle.tc_plain.specs.Doing.{with_live}
 use Rattle.tc_plain.proofs.Planning.{deleted_leaves}
-use Rattle.tc_partition.specs.LiveSlots.{live_of}
 use Rattle.tc_partition.specs.SlotCaches.{cache_of}
 use Rattle.tc_partition.proofs.slot_cache.SlotCache.delete.Goals as goal
 

@@ -1,11 +1,8 @@
 use Rattle.std.proofs.Common.{sym, subst}
 use Rattle.tc_plain.specs.Live.{Live}
-use Rattle.tc_plain.specs.UserCache.{UserCache}
-use Rattle.tc_plain.specs.Doing.{with_live, all_looked_up}
-use Rattle.tc_plain.specs.AreaLists.{change_of}
+use Rattle.tc_plain.specs.Doing.{with_live}
 use Rattle.tc_plain.specs.Soundness.{IsSound}
-use Rattle.tc_plain.proofs.Asked.{change_light}
-use Rattle.tc_plain.proofs.Stays.{sound_advance, sound_looked, sound_with}
+use Rattle.tc_plain.proofs.Stays.{sound_advance}
 use Rattle.tc_partition.specs.LiveSlots.{live_of}
 use Rattle.tc_partition.specs.SlotCaches.{cache_of}
 use Rattle.tc_partition.proofs.Limited.{both_small}

@@ -1,9 +1,8 @@
-use Rattle.std.proofs.Common.{◌≡◌, ◌≤◌, ap, subst, length, arith}
+use Rattle.std.proofs.Common.{◌≡◌, ◌≤◌, ap, length, arith}
 use Rattle.std.proofs.lemmas.Result.{IfOk-weaker}
 use Rattle.tc_model.specs.Areas.{Limits}
 use Rattle.tc_item.specs.Weight.{weight_of}
 use Rattle.tc_plain.specs.Live.{limits_of, at_moment}
-use Rattle.tc_plain.specs.UserCache.{UserCache}
 use Rattle.tc_plain.proofs.Used.{held_key}
 use Rattle.tc_partition.specs.LiveSlots.{live_of}
 use Rattle.tc_partition.specs.SlotCaches.{cache_of}

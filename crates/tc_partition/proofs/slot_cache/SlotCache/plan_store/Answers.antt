@@ -1,9 +1,9 @@
-use Rattle.std.proofs.Common.{◌≡◌, ◌+◌, refl, sym, ◌∙◌, ap, subst}
+use Rattle.std.proofs.Common.{◌+◌, refl, sym, ◌∙◌, ap}
 use Rattle.std.proofs.lemmas.Result.{IfOk-weaker}
 use Rattle.tc_model.specs.Areas.{Limits}
-use Rattle.tc_plain.specs.UserCache.{UserCache, advance}
-use Rattle.tc_plain.specs.Storing.{accepted, stored}
-use Rattle.tc_plain.specs.Plans.{outcome_of, offer_of, planned}
+use Rattle.tc_plain.specs.UserCache.{advance}
+use Rattle.tc_plain.specs.Storing.{accepted}
+use Rattle.tc_plain.specs.Plans.{offer_of}
 use Rattle.tc_plain.proofs.Advances.{limits-at_moment}
 use Rattle.tc_plain.proofs.Planning.{stored_by}
 use Rattle.tc_partition.specs.SlotCaches.{cache_of}

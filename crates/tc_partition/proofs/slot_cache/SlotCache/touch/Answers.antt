@@ -1,12 +1,12 @@
-use Rattle.std.proofs.Common.{◌≡◌, sym, ◌∙◌, ap, subst, arith}
+use Rattle.std.proofs.Common.{◌≡◌, sym, ap, subst, arith}
 use Rattle.tc_model.specs.Areas.{total}
 use Rattle.tc_plain.specs.Entries.{weight}
-use Rattle.tc_plain.specs.Live.{Live, held}
-use Rattle.tc_plain.specs.UserCache.{UserCache, advance}
+use Rattle.tc_plain.specs.Live.{Live}
+use Rattle.tc_plain.specs.UserCache.{advance}
 use Rattle.tc_plain.specs.Doing.{with_live}
 use Rattle.tc_plain.specs.Soundness.{IsSound}
-use Rattle.tc_plain.proofs.Stays.{sound_advance, sound_touched}
-use Rattle.tc_plain.proofs.Planning.{weighs_little, touched_leaves}
+use Rattle.tc_plain.proofs.Stays.{sound_advance}
+use Rattle.tc_plain.proofs.Planning.{weighs_little}
 use Rattle.tc_partition.specs.LiveSlots.{live_of}
 use Rattle.tc_partition.specs.SlotCaches.{cache_of}
 use Rattle.tc_partition.proofs.slot_cache.SlotCache.touch.Goals as goal

@@ -1,7 +1,5 @@
-use Rattle.std.specs.Prelude.{sum_by}
-use Rattle.std.proofs.Common.{◌≡◌, ◌+◌, ◌∙◌, ap, arith}
+use Rattle.std.proofs.Common.{◌∙◌, ap, arith}
 use Rattle.slab.specs.Slab.{get as slab_get}
-use Rattle.tc_partition.specs.Agreement.{stray}
 use Rattle.tc_partition.specs.Held.{Held}
 use Rattle.tc_partition.specs.Copied.{entries_at}
 use Rattle.tc_partition.proofs.Away.{three_same}
