@@ -21,3 +21,5 @@ pub mod Steps
 pub mod Overtaking
 pub mod FirstPlace
 mod WorkedRun
+pub mod Conserved
+pub mod Maps

@@ -36,7 +36,7 @@ sum-shortest {A} weigh need (x ∷ xs) h = go (need == 0) refl (sum-shortest wei
     go false e g = omega (arith, sum_by-cons weigh x (shortest weigh (need - weigh x) xs))
 
 -- a shortest front is a front
-shortest-take : {A : Type 0} (weigh : A → ℕ) (need : ℕ) (xs : List A) → shortest weigh need xs ≡ take (length (shortest weigh need xs)) xs
+pub shortest-take : {A : Type 0} (weigh : A → ℕ) (need : ℕ) (xs : List A) → shortest weigh need xs ≡ take (length (shortest weigh need xs)) xs
 shortest-take weigh need [] = refl
 shortest-take {A} weigh need (x ∷ xs) = go (need == 0) (shortest-take weigh (need - weigh x) xs)
   where
@@ -76,7 +76,7 @@ take-two (suc n) (x ∷ xs) ys =
     ap (λ zs. x ∷ zs) (take-two n xs ys ∙ sym (ap (λ m. take n xs ++ take m ys) less))
 
 -- what goes from main's tail, and what is left of main
-sum-without_last : {A : Type 0} (weigh : A → ℕ) (n : ℕ) (a : Areas A) → sum_by weigh (take n (from_tail a)) + main_weight weigh (without_last n a) ≡ main_weight weigh a
+pub sum-without_last : {A : Type 0} (weigh : A → ℕ) (n : ℕ) (a : Areas A) → sum_by weigh (take n (from_tail a)) + main_weight weigh (without_last n a) ≡ main_weight weigh a
 sum-without_last weigh n a =
     rw (take-two n (reverse a.probation) (reverse a.protected), length-reverse a.probation)
     (omega (arith, sum_by-append weigh (take n (reverse a.probation)) (take (n - length a.probation) (reverse a.protected)), sum-ends weigh n a.probation, sum-ends weigh (n - length a.probation) a.protected))

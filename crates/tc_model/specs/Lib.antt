@@ -7,3 +7,4 @@ pub mod Laws
 pub mod Areas
 pub mod Within
 pub mod Place
+pub mod Mapped

@@ -1,6 +1,6 @@
 -- What waits is done to a copy, one record after another.
 use Rattle.std.specs.Prelude.{max, map, slice_get}
-use Rattle.std.proofs.Common.{◌≡◌, ℕ, zero, suc, ◌+◌, ◌≤◌, ◌<◌, ◌^◌, List, [], ◌∷◌, length, take, Option, Some, None, refl, sym, ◌∙◌, ap, subst, arith}
+use Rattle.std.proofs.Common.{◌≡◌, ℕ, zero, suc, ◌+◌, ◌≤◌, ◌<◌, ◌^◌, List, [], ◌∷◌, length, take, Option, Some, refl, sym, ◌∙◌, ap, subst, arith}
 use Rattle.std.proofs.lemmas.List.{take_all}
 use Rattle.tc_model.specs.Areas.{Limits, total}
 use Rattle.tc_readbuf.specs.declared.noted.Noted.{Noted}
@@ -8,14 +8,14 @@ use Rattle.tc_plain.specs.declared.entry.Entry.{Entry}
 use Rattle.tc_plain.specs.declared.areas.Areas.{Areas as AreaLists}
 use Rattle.tc_plain.specs.AreaLists.{HasRoom}
 use Rattle.tc_plain.specs.Entries.{weight}
-use Rattle.tc_plain.specs.Live.{Live, at_moment, advanced}
+use Rattle.tc_plain.specs.Live.{Live, advanced}
 use Rattle.tc_plain.specs.UserCache.{UserCache}
 use Rattle.tc_plain.specs.Doing.{with_live}
 use Rattle.tc_plain.specs.Soundness.{AreSound, IsSound}
 use Rattle.tc_plain.proofs.Advances.{limits-at_moment}
 use Rattle.tc_plain.proofs.Stays.{sound_with}
 use Rattle.tc_partition.specs.Deferred.{Waiting, Lazy, IsLazy, replay_one, replay, settled, AreInOrder}
-use Rattle.tc_partition.specs.Lazies.{waiting_of, lazy_over}
+use Rattle.tc_partition.specs.WaitingSlots.{waiting_of, lazy_over}
 use Rattle.tc_partition.proofs.Deferral.{replayed, ends_at, settled_at, at_same}
 use Rattle.tc_partition.proofs.Draining.{sound_come, sound_light, note_limits}
 use Rattle.tc_partition.proofs.Tally.{length_map}

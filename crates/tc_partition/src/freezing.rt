@@ -5,52 +5,54 @@ ghost use Rattle.tc_plain.specs.Entries.{weight};
 ghost use Rattle.tc_plain.specs.Soundness.{AreSound};
 ghost use Rattle.tc_plain.specs.AreaLists.{areas_of, live_of, HasRoom};
 ghost use Rattle.tc_partition.specs.Deferred.{do_note, replay_one, settled, IsLazy};
-ghost use Rattle.tc_partition.specs.Lazies.{note_at, waiting_of, lazy_over};
+ghost use Rattle.tc_partition.specs.WaitingSlots.{note_at, waiting_of, lazy_over};
 
-use crate::Store;
+use crate::slots::Slots;
 use tc_item::Moment;
 use tc_plain::Live;
 use tc_readbuf::{Noted, ReadBuf};
 
 /// Does what was noted: a hit by the key of what its slot holds.
-fn do_noted(live: &mut Live, store: &Store, noted: Noted)
+fn do_noted(live: &mut Live, slots: &Slots, noted: Noted)
     requires weight { total weight (areas_of live.old.areas) < 2 ^ 32 }
     requires room { HasRoom 0 live.old.areas }
-    ensures live { live_of live.new ≡ do_note (note_at store.now.slots noted) (live_of live.old) }
+    ensures live { live_of live.new ≡ do_note (note_at slots.now.slots noted) (live_of live.old) }
     ensures room { HasRoom 0 live.new.areas }
 {
     match noted {
         Noted::Hit(slot) => {
-            let _held = live.look(store.key_at(slot), None);
+            let _held = live.look(slots.key_at(slot), None);
         }
         Noted::Miss(hash) => live.sketch.record(hash),
     }
 }
 
 /// Does the record at a place, at its own moment.
-fn replay_at(live: &mut Live, store: &Store, waiting: &ReadBuf, place: usize)
+fn replay_at(live: &mut Live, slots: &Slots, waiting: &ReadBuf, place: usize)
     requires sound { AreSound live.old.limits (areas_of live.old.areas) }
     requires light { live.old.limits.window + live.old.limits.main < 2 ^ 32 }
     requires room { HasRoom 0 live.old.areas }
-    ensures live { (r : Noted × ℕ) → slice_get waiting.now place ≡ Some r → live_of live.new ≡ replay_one (live_of live.old) (waiting_of store.now.slots r) }
+    ensures live { (r : Noted × ℕ) → slice_get waiting.now place ≡ Some r
+        → live_of live.new ≡ replay_one (live_of live.old) (waiting_of slots.now.slots r) }
     ensures room { HasRoom 0 live.new.areas }
 {
     if let Some(record) = waiting.get(place) {
         let (noted, moment) = record;
         live.advance(moment);
-        do_noted(live, store, noted);
+        do_noted(live, slots, noted);
     }
 }
 
 /// Does all that waits, each record at its own moment, and comes to the moment.
-pub fn replay(live: &mut Live, store: &Store, waiting: &ReadBuf, moment: Moment)
-    requires lazy { IsLazy (lazy_over (live_of live.old) store.now.slots waiting.now moment) }
+pub fn replay(live: &mut Live, slots: &Slots, waiting: &ReadBuf, moment: Moment)
+    requires lazy { IsLazy (lazy_over (live_of live.old) slots.now.slots waiting.now moment) }
     requires light { live.old.limits.window + live.old.limits.main < 2 ^ 32 }
     requires room { HasRoom 0 live.old.areas }
-    ensures { live_of live.new ≡ settled (lazy_over (live_of live.old) store.now.slots waiting.now moment) }
+    ensures { live_of live.new ≡ settled (lazy_over
+        (live_of live.old) slots.now.slots waiting.now moment) }
 {
     for place in 0..waiting.len() {
-        replay_at(live, store, waiting, place);
+        replay_at(live, slots, waiting, place);
     }
     live.advance(moment);
 }

@@ -1,0 +1,22 @@
+-- What look-ups touch, by what the code keeps. Source: this project's own.
+use Rattle.std.specs.Prelude.{◌≡◌}
+use Rattle.tc_plain.specs.Live.{Live}
+use Rattle.tc_plain.specs.declared.plans.Plan.{Plan}
+use Rattle.tc_plain.specs.declared.plans.Plan.TheVariants.{Ends, Changes}
+use Rattle.tc_partition.specs.declared.live_slots.LiveSlots.{LiveSlots}
+use Rattle.tc_partition.specs.declared.work.Work.{Work}
+use Rattle.tc_partition.specs.declared.work.Work.TheVariants.{Ends as EndsWork, Changes as ChangesWork}
+
+-- what look-ups touch
+abbrev pub live_of : LiveSlots → Live
+live_of s = record { limits = s.held.limits; areas = s.held.areas; sketch = s.sketch; flush = s.flush; moment = s.moment }
+
+-- the plan of some work
+abbrev pub plan_of : Work → Plan
+plan_of (EndsWork end) = Ends end
+plan_of (ChangesWork end key entry) = Changes end entry
+
+-- the key of some work is that of its entry
+abbrev pub IsKeyed : Work → Type 0
+IsKeyed (EndsWork end) = Unit {0}
+IsKeyed (ChangesWork end key entry) = key ≡ entry.key

@@ -1,0 +1,44 @@
+-- What waits, as the code keeps it: by slot. Source: this project's own.
+use Rattle.std.specs.Prelude.{◌≡◌, ℕ, List, [], ◌∷◌, Option, Some, None, IsSome, map, slice_index_or}
+use Rattle.tc_item.specs.declared.slot.Slot.{Slot}
+use Rattle.tc_readbuf.specs.declared.noted.Noted.{Noted}
+use Rattle.tc_readbuf.specs.declared.noted.Noted.TheVariants.{Hit as HitNoted, Miss as MissNoted}
+use Rattle.tc_plain.specs.declared.entry.Entry.{Entry}
+use Rattle.tc_plain.specs.Live.{Live}
+use Rattle.tc_partition.specs.Agreement.{entry_or}
+use Rattle.tc_partition.specs.Deferred.{Note, Hit, Miss, Waiting, Lazy, peeked}
+use Rattle.tc_partition.specs.LiveSlots.{live_of}
+use Rattle.tc_partition.specs.declared.live_slots.LiveSlots.{LiveSlots}
+
+-- a noted hit by the key of what its slot holds
+abbrev pub note_at : List (Option Entry) → Noted → Note
+note_at slots (HitNoted slot) = Hit (entry_or (slice_index_or slots slot.0 None)).key
+note_at slots (MissNoted h) = Miss h
+
+-- what waits, by key
+abbrev pub waiting_of : List (Option Entry) → Noted × ℕ → Waiting
+waiting_of slots r = record { note = note_at slots r.0; moment = r.1 }
+
+-- what was done last, what waits by these slots, and the moment
+abbrev pub lazy_over : Live → List (Option Entry) → List (Noted × ℕ) → ℕ → Lazy
+lazy_over l slots rs moment = record { base = l; waiting = map (waiting_of slots) rs; moment = moment }
+
+-- a live, what waits and the moment
+abbrev pub lazy_by : LiveSlots → List (Noted × ℕ) → ℕ → Lazy
+lazy_by s rs moment = lazy_over (live_of s) s.held.slots rs moment
+
+-- a noted hit's slot holds something
+abbrev pub IsPlaced : List (Option Entry) → Noted → Type 0
+IsPlaced slots (HitNoted slot) = IsSome (slice_index_or slots slot.0 None)
+IsPlaced slots (MissNoted h) = Unit {0}
+
+-- and so does that of each
+abbrev pub ArePlaced : List (Option Entry) → List (Noted × ℕ) → Type 0
+ArePlaced slots [] = Unit {0}
+ArePlaced slots (r ∷ rs) = IsPlaced slots r.0 × ArePlaced slots rs
+
+-- where what a key will hold at a moment is, or nowhere
+abbrev pub SeeksSlot : Option Slot → ℕ → List ℕ → LiveSlots → Type 0
+SeeksSlot None t key s = peeked t key (live_of s) ≡ None
+SeeksSlot (Some slot) t key s =
+    (e : Entry) × (slice_index_or s.held.slots slot.0 None ≡ Some e) × (e.key ≡ key) × (peeked t key (live_of s) ≡ Some e)

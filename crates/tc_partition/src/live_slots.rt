@@ -1,0 +1,283 @@
+//! What look-ups touch of one user's cache.
+ghost use Rattle.std.specs.Prelude.{◌≡◌, ℕ, max, false, None, IsSome, slice_index_or, ◌<◌, ◌≤◌, ◌+◌, ◌^◌, true, is_some, length, Some, IfOk, OnOk, MatchOption};
+ghost use Rattle.tc_model.specs.Areas.{total, settle};
+ghost use Rattle.tc_stats.specs.Counting.{more};
+ghost use Rattle.tc_plain.specs.declared.entry.Entry.{Entry};
+ghost use Rattle.tc_plain.specs.Entries.{weight, lives, with_item};
+ghost use Rattle.tc_plain.specs.Live.{is_flush_due, at_moment, advanced, held};
+ghost use Rattle.tc_plain.specs.Placing.{frequency, used, without_key};
+ghost use Rattle.tc_plain.specs.Doing.{looked_up, flushed};
+ghost use Rattle.tc_plain.specs.AreaLists.{change_of, live_of as lists_live};
+ghost use Rattle.tc_plain.specs.Soundness.{AreSound};
+ghost use Rattle.tc_plain.specs.UserCache.{UserCache};
+ghost use Rattle.tc_plain.specs.Plans.{outcome_of, planned, IsLightPlan};
+ghost use Rattle.tc_partition.specs.Held.{IsFound};
+ghost use Rattle.tc_partition.specs.Deferred.{Miss, hit, do_note};
+ghost use Rattle.tc_partition.specs.WaitingSlots.{SeeksSlot};
+ghost use Rattle.tc_partition.specs.LiveSlots.{live_of, plan_of, IsKeyed};
+
+use crate::slots::Slots;
+use crate::work::Work;
+use std::alloc::Global;
+use tc_item::{Due, Key, Moment, NoMemory, Slot, alive};
+use tc_plain::{End, Entry, Limits, Live};
+use tc_sketch::{Sketch, hash};
+use tc_stats::Counters;
+
+/// What look-ups touch: the entries, how often each key was seen, and when the entries go.
+#[derive(Drop)]
+pub struct LiveSlots {
+    /// The entries held.
+    pub held: Slots,
+    /// How often each key was seen of late.
+    pub sketch: Sketch,
+    /// The second at which all entries go, if that was asked for.
+    pub flush: Option<u64>,
+    /// The moment that the cache was last advanced to.
+    pub moment: Moment,
+}
+
+/// Whether a pending flush stands at or before the moment.
+fn is_flush_due(flush: Option<u64>, moment: Moment) -> bool
+    ensures { result ≡ is_flush_due flush moment }
+{
+    match flush {
+        None => false,
+        Some(second) => second <= moment.seconds(),
+    }
+}
+
+/// Whether what a key holds in this slot is alive at the moment, with this due if one is given.
+fn lives_on(slots: &Slots, key: &Key, slot: Slot, due: Option<Due>, moment: Moment) -> bool
+    requires { IsFound key.now slot.0 slots.now }
+    ensures { (e : Entry) → held key.now slots.now.areas ≡ Some e
+        → result ≡ lives moment (with_item e (change_of due e.item)) }
+{
+    match due {
+        Some(due) => due.is_after(moment),
+        None => match slots.entry(slot) {
+            Some(entry) => alive(&entry.item, moment),
+            None => false,
+        },
+    }
+}
+
+impl LiveSlots {
+    /// Brings it to the moment, if that is later than its own.
+    pub(crate) fn advance(&mut self, now: Moment)
+        ensures live { live_of self.new ≡ advanced (live_of self.old) now }
+        ensures alive { (n : ℕ) (e : Entry) → slice_index_or self.old.held.slots n None ≡ Some e
+            → is_flush_due self.old.flush (max self.old.moment now) ≡ false
+            → lives (max self.old.moment now) e ≡ true
+            → slice_index_or self.new.held.slots n None ≡ Some e }
+        ensures room { self.old.held.has_room ≡ true → self.new.held.has_room ≡ true }
+    {
+        self.moment = self.moment.later(now);
+        if is_flush_due(self.flush, self.moment) {
+            self.flush = None;
+            self.held.clear();
+        } else {
+            self.held.expire(self.moment);
+        }
+    }
+
+    /// Where what a key will hold at the moment is.
+    pub(crate) fn seek(&self, key: &Key, moment: Moment) -> Option<Slot>
+        requires { AreSound self.now.held.limits self.now.held.areas }
+        ensures { SeeksSlot result moment key.now self.now }
+    {
+        if is_flush_due(self.flush, moment) {
+            return None;
+        }
+        let slot = self.held.find(key)?;
+        match self.held.entry(slot) {
+            Some(entry) => {
+                if alive(&entry.item, moment) {
+                    Some(slot)
+                } else {
+                    None
+                }
+            }
+            None => None,
+        }
+    }
+
+    /// What a key will hold at the moment.
+    pub(crate) fn peek(&self, key: &Key, moment: Moment) -> Option<&Entry>
+        requires { AreSound self.now.held.limits self.now.held.areas }
+        ensures { MatchOption result (held key.now (at_moment moment (live_of self.now)).areas
+            ≡ None) (λ e. held key.now (at_moment moment (live_of self.now)).areas ≡ Some e.now) }
+    {
+        match self.seek(key, moment) {
+            Some(slot) => self.held.entry(slot),
+            None => None,
+        }
+    }
+
+    /// One look-up of the key of what a slot holds.
+    pub(crate) fn hit_at(&mut self, slot: Slot)
+        requires held { IsSome (slice_index_or self.old.held.slots slot.0 None) }
+        requires sound { AreSound self.old.held.limits self.old.held.areas }
+        requires weight { total weight self.old.held.areas < 2 ^ 32 }
+        requires alive { (e : Entry) → slice_index_or self.old.held.slots slot.0 None ≡ Some e
+            → lives self.old.moment e ≡ true }
+        ensures live { (e : Entry) → slice_index_or self.old.held.slots slot.0 None ≡ Some e
+            → live_of self.new ≡ hit e.key (live_of self.old) }
+        ensures slots { self.new.held.slots ≡ self.old.held.slots }
+    {
+        self.held.owning();
+        self.sketch.record(self.held.hash_at(slot));
+        self.held.access_at(slot);
+    }
+
+    /// One look-up of a key of this hash that holds nothing.
+    pub(crate) fn miss(&mut self, hash: u64)
+        ensures live { live_of self.new ≡ do_note (Miss hash) (live_of self.old) }
+        ensures slots { self.new.held.slots ≡ self.old.held.slots }
+    {
+        self.sketch.record(hash);
+    }
+
+    /// One look-up of a key: whether it is held. What it holds has this due from now on, if one is
+    /// given.
+    pub(crate) fn look(&mut self, key: &Key, due: Option<Due>) -> bool
+        requires sound { AreSound self.old.held.limits self.old.held.areas }
+        requires weight { total weight self.old.held.areas < 2 ^ 32 }
+        ensures live { live_of self.new ≡ (looked_up (change_of due) key.now
+            (held key.now self.old.held.areas) (live_of self.old)).1 }
+        ensures found { result ≡ is_some (held key.now self.old.held.areas) }
+        ensures room { self.old.held.has_room ≡ true → self.new.held.has_room ≡ true }
+    {
+        self.sketch.record(hash(key.as_bytes()));
+        let Some(slot) = self.held.find(key) else {
+            return false;
+        };
+        if !lives_on(&self.held, key, slot, due, self.moment) {
+            self.held.empty(slot);
+            return true;
+        }
+        match due {
+            Some(due) => self.held.touch(key, slot, due),
+            None => self.held.access(key, slot),
+        }
+        true
+    }
+
+    /// Puts an entry in the place of what its key holds.
+    fn use_new(&mut self, key: Key, entry: Entry)
+        requires key { key ≡ entry.key }
+        requires light { weight entry ≤ self.old.held.limits.main }
+        requires weight { total weight self.old.held.areas + weight entry < 2 ^ 64 }
+        requires room { self.old.held.has_room ≡ true }
+        ensures live { live_of self.new ≡ used entry (live_of self.old) }
+    {
+        self.sketch.record(hash(key.as_bytes()));
+        let alive = alive(&entry.item, self.moment);
+        match self.held.find(&key) {
+            Some(slot) => {
+                if alive {
+                    self.held.replace(slot, entry);
+                } else {
+                    self.held.empty(slot);
+                }
+            }
+            None => {
+                if alive {
+                    self.held.fill(key, entry);
+                }
+            }
+        }
+    }
+
+    /// Puts an entry in the place of what its key holds, and brings each area within its limit;
+    /// each entry
+    /// that is dropped is counted.
+    fn change(&mut self, key: Key, entry: Entry, evictions: u64) -> u64
+        requires key { key ≡ entry.key }
+        requires light { weight entry ≤ self.old.held.limits.main }
+        requires weight { total weight self.old.held.areas + weight entry < 2 ^ 64 }
+        requires room { self.old.held.has_room ≡ true }
+        ensures live { live_of self.new ≡ record (used entry (live_of self.old)) {
+          areas =
+              (settle weight (frequency (used entry (live_of self.old))) self.old.held.limits
+              (used entry (live_of self.old)).areas).areas;
+        } }
+        ensures counted { result ≡ more evictions (length (settle weight (frequency (used entry
+            (live_of self.old))) self.old.held.limits (used entry
+            (live_of self.old)).areas).dropped) }
+    {
+        self.use_new(key, entry);
+        self.held.settle(&self.sketch, evictions)
+    }
+
+    /// Room for one more entry. A refusal changes nothing.
+    pub(crate) fn make_room(&mut self) -> Result<(), NoMemory>
+        ensures live { live_of self.new ≡ live_of self.old }
+        ensures room { OnOk result (self.new.held.has_room ≡ true) }
+    {
+        self.held.make_room()
+    }
+
+    /// Takes all entries out, at once or so many seconds from its moment.
+    pub(crate) fn flush(&mut self, delay: u32)
+        ensures { live_of self.new ≡ flushed delay (live_of self.old) }
+    {
+        if delay == 0 {
+            self.held.clear();
+            self.flush = None;
+        } else {
+            self.flush = Some(self.moment.seconds() + u64::from(delay));
+        }
+    }
+
+    /// Takes out what a key holds, and says whether it held anything.
+    pub(crate) fn remove(&mut self, key: &Key) -> bool
+        ensures held { result ≡ is_some (held key.now self.old.held.areas) }
+        ensures live { live_of self.new ≡ record (live_of self.old)
+            { areas = without_key key.now self.old.held.areas } }
+    {
+        self.held.remove(key)
+    }
+
+    /// The same as lists, of their own. The limits are those that it has.
+    pub(crate) fn copy(&self, alloc: Global, limits: Limits) -> Result<Live, NoMemory>
+        requires { limits ≡ self.now.held.limits }
+        ensures { IfOk result (λ live. lists_live live ≡ live_of self.now) }
+    {
+        Ok(Live {
+            limits,
+            areas: self.held.copy(alloc)?,
+            sketch: self.sketch.copy()?,
+            flush: self.flush,
+            moment: self.moment,
+        })
+    }
+
+    /// Carries work out, for which there is room: an entry gets the next cas number after `last`,
+    /// and
+    /// each entry that is dropped for it is counted.
+    pub(crate) fn carry_out(&mut self, work: Work, last: &mut u64, counters: &mut Counters) -> End
+        requires weight { total weight self.old.held.areas < 2 ^ 63 }
+        requires light { IsLightPlan self.old.held.limits (plan_of work) }
+        requires main { self.old.held.limits.main < 2 ^ 63 }
+        requires room { self.old.held.has_room ≡ true }
+        requires keyed { IsKeyed work }
+        ensures outcome { (k : UserCache) → k.live ≡ live_of self.old → k.last ≡ last.old
+            → outcome_of result ≡ (planned k (plan_of work)).0 }
+        ensures state { (k : UserCache) → k.live ≡ live_of self.old → k.last ≡ last.old
+            → k.counters ≡ counters.old
+            → (planned k (plan_of work)).1 ≡ record k { live = live_of self.new; last = last.new; counters = counters.new } }
+    {
+        let (end, key, mut entry) = match work {
+            Work::Ends(end) => return end,
+            Work::Changes(end, key, entry) => (end, key, entry),
+        };
+        let Some(cas) = last.checked_add(1) else {
+            return End::CasWorn;
+        };
+        entry.item.cas = cas;
+        *last = cas;
+        counters.evictions = self.change(key, entry, counters.evictions);
+        end
+    }
+}

@@ -1,0 +1,407 @@
+//! The entries of one user's cache, by slot: an index by key, the entries, the lists and the wheel.
+//!
+//! Terms: a slot is a number. It is filled with an entry and emptied again. The index gives a key's slot, the
+//! lists hold slots with what they weigh, front to back, and the wheel holds slots with a due.
+//!
+//! What is always true (`AreSlots` in `specs/Held.antt`):
+//! 1. `agree`: the four agree (`Agree` in `specs/Agreement.antt`), which is to say:
+//!    1. `indexed`: the slot that the index gives for a key holds an entry of that key.
+//!    2. `found`: the index gives the slot of each entry for its key.
+//!    3. `listed`: a slot that holds an entry stands once in the lists, and every other nowhere.
+//!    4. `weighed`: each place in the lists has the weight of its entry.
+//!    5. `timed`: the wheel holds the slots whose entries have a due that a moment can reach, until that due.
+//! 2. `within`: each slot that holds an entry has a place in the wheel.
+//!
+//! So no key is held twice, and what the lists stand for under a key is what the index finds.
+ghost use Rattle.std.specs.Prelude.{◌≡◌, ℕ, true, false, IfOk, length, ◌+◌, ◌<◌, ◌≤◌, ◌^◌, Some, None, is_some, IsSome, OnOk, slice_index_or, slice_set};
+ghost use Rattle.tc_model.specs.Areas.{Limits as AreaLimits, total, settle, accessed};
+ghost use Rattle.std.specs.Option.{option_copied};
+ghost use Rattle.tc_stats.specs.Counting.{more};
+ghost use Rattle.tc_plain.specs.AreaLists.{frequency_in, areas_of};
+ghost use Rattle.tc_plain.specs.Soundness.{AreSound};
+ghost use Rattle.tc_plain.specs.Entries.{weight, has_key, lives, with_item, with_due};
+ghost use Rattle.tc_plain.specs.Live.{held, kept, no_entries, entries_of};
+ghost use Rattle.tc_plain.specs.Placing.{without_key, at_front};
+ghost use Rattle.tc_plain.specs.declared.entry.Entry.{Entry};
+ghost use Rattle.tc_sketch.specs.Sketch.{hash};
+ghost use Rattle.tc_partition.specs.Agreement.{entry_or};
+ghost use Rattle.tc_partition.specs.Held.{filled, IsFound, FindsSlot, DropsEntry};
+
+use crate::parts::{
+    copy_at, drop_next, grow, put, put_due, reached, take_in, time, vacate, weight_at,
+};
+use indexmap::IndexMap;
+use slab::Slab;
+use std::alloc::Global;
+use std::hash::RandomState;
+use std::marker::Model;
+use tc_item::{Due, Key, Moment, NoMemory, Slot};
+use tc_plain::{Areas, Entry, Limits};
+use tc_sketch::{Sketch, hash};
+use tc_slru::{Area, Lists};
+use tc_wheel::Wheel;
+
+/// The entries of one partition.
+#[derive(Drop)]
+pub struct Slots {
+    index: IndexMap<Key, Slot, RandomState>,
+    entries: Slab<Entry>,
+    lists: Lists,
+    wheel: Wheel,
+}
+
+impl Model for Slots {
+    ghost use Rattle.tc_partition.specs.Held.{Held};
+
+    ghost Value = { Held };
+
+    ghost use Rattle.tc_partition.specs.Held.{held_of, AreSlots};
+
+    ghost view = { held_of };
+
+    ghost invariant = { AreSlots };
+}
+
+impl Slots {
+    /// No entries, with room for none: the window may weigh `window`, probation and protected
+    /// together
+    /// `main`, and protected alone `protected`.
+    pub fn new(alloc: Global, hasher: RandomState, limits: Limits) -> Result<Slots, NoMemory>
+        ensures limits { IfOk result (λ s. s.limits ≡ limits) }
+        ensures areas { IfOk result (λ s. s.areas ≡ no_entries) }
+    {
+        let wheel = Wheel::new(alloc)?;
+        Ok(Slots {
+            index: IndexMap::with_hasher(alloc, hasher),
+            entries: Slab::new(alloc),
+            lists: Lists::new(alloc, limits.window, limits.main, limits.protected),
+            wheel,
+        })
+    }
+
+    /// Room for one more entry. A refusal changes nothing.
+    pub fn make_room(&mut self) -> Result<(), NoMemory>
+        ensures room { OnOk result (self.new.has_room ≡ true) }
+        ensures areas { self.new.areas ≡ self.old.areas }
+        ensures limits { self.new.limits ≡ self.old.limits }
+        ensures slots { self.new.slots ≡ self.old.slots }
+    {
+        grow(
+            &mut self.index,
+            &mut self.entries,
+            &mut self.lists,
+            &mut self.wheel,
+        )
+    }
+
+    /// The slot of what a key holds.
+    pub fn find(&self, key: &Key) -> Option<Slot>
+        ensures { FindsSlot result key.now self.now }
+    {
+        match self.index.get(key) {
+            Some(slot) => Some(*slot),
+            None => None,
+        }
+    }
+
+    /// What a slot holds.
+    pub fn entry(&self, slot: Slot) -> Option<&Entry>
+        ensures { option_copied result ≡ slice_index_or self.now.slots slot.0 None }
+    {
+        self.entries.get(slot.0)
+    }
+
+    /// The key of what a slot holds; no bytes where it holds nothing.
+    pub fn key_at(&self, slot: Slot) -> &[u8]
+        ensures { result.now ≡ (entry_or (slice_index_or self.now.slots slot.0 None)).key }
+    {
+        match self.entries.get(slot.0) {
+            Some(entry) => entry.key.as_bytes(),
+            None => &[],
+        }
+    }
+
+    /// The hash of the key of what a slot holds.
+    pub fn hash_at(&self, slot: Slot) -> u64
+        ensures { (e : Entry) → slice_index_or self.now.slots slot.0 None ≡ Some e
+            → result ≡ hash e.key }
+    {
+        match self.entries.get(slot.0) {
+            Some(entry) => hash(entry.key.as_bytes()),
+            None => 0,
+        }
+    }
+
+    /// What a slot holds is what its key holds.
+    pub fn owning(&self)
+        ensures { (n : ℕ) (e : Entry) → slice_index_or self.now.slots n None ≡ Some e
+            → held e.key self.now.areas ≡ Some e }
+    {
+        let _ = &self.index;
+    }
+
+    /// How many entries there are.
+    pub fn count(&self) -> usize
+        ensures { result ≡ length (entries_of self.now.areas) }
+    {
+        let _ = &self.index;
+        self.entries.len()
+    }
+
+    /// What all entries weigh together.
+    pub fn weigh(&self) -> u64
+        requires { total weight self.now.areas < 2 ^ 64 }
+        ensures { result ≡ total weight self.now.areas }
+    {
+        let weights = self.lists.weights();
+        weights.window + weights.probation + weights.protected
+    }
+
+    /// The most that one entry may weigh: what main may.
+    pub fn heaviest(&self) -> u64
+        ensures { result ≡ self.now.limits.main }
+    {
+        let _ = &self.index;
+        self.lists.heaviest()
+    }
+
+    /// Puts an entry at the front of the window, whose key holds nothing; `key` is a copy of that
+    /// key.
+    pub fn fill(&mut self, key: Key, entry: Entry)
+        requires room { self.old.has_room ≡ true }
+        requires key { key ≡ entry.key }
+        requires free { held entry.key self.old.areas ≡ None }
+        requires light { weight entry ≤ self.old.limits.main }
+        requires fits { total weight self.old.areas + weight entry < 2 ^ 64 }
+        ensures limits { self.new.limits ≡ self.old.limits }
+        ensures areas { self.new.areas ≡ at_front entry self.old.areas }
+    {
+        let weight = entry.weight();
+        let due = reached(entry.item.due);
+        let slot = take_in(&mut self.index, &mut self.entries, key, entry);
+        self.lists.push_window(slot, weight);
+        time(&mut self.wheel, slot, due);
+    }
+
+    /// Puts an entry in the place of what its key holds in this slot: an access.
+    pub fn replace(&mut self, slot: Slot, entry: Entry)
+        requires found { IsFound entry.key slot.0 self.old }
+        requires light { weight entry ≤ self.old.limits.main }
+        requires fits { total weight self.old.areas + weight entry < 2 ^ 64 }
+        ensures limits { self.new.limits ≡ self.old.limits }
+        ensures areas { self.new.areas ≡ accessed weight self.old.limits
+            (has_key entry.key) entry self.old.areas }
+        ensures room { self.old.has_room ≡ true → self.new.has_room ≡ true }
+    {
+        let weight = entry.weight();
+        let due = reached(entry.item.due);
+        put(&mut self.entries, slot, entry);
+        self.lists.access(slot, weight);
+        self.wheel.remove(slot);
+        time(&mut self.wheel, slot, due);
+    }
+
+    /// An access of what a key holds in this slot, which has this due from now on.
+    pub fn touch(&mut self, key: &Key, slot: Slot, due: Due)
+        requires found { IsFound key.now slot.0 self.old }
+        requires light { (e : Entry) → held key.now self.old.areas ≡ Some e
+            → weight e ≤ self.old.limits.main }
+        requires fits { (e : Entry) → held key.now self.old.areas ≡ Some e
+            → total weight self.old.areas + weight e < 2 ^ 64 }
+        ensures limits { self.new.limits ≡ self.old.limits }
+        ensures areas { (e : Entry) → held key.now self.old.areas ≡ Some e
+            → self.new.areas ≡ accessed weight self.old.limits (has_key key.now) (with_item e
+            (with_due due e.item)) self.old.areas }
+        ensures room { self.old.has_room ≡ true → self.new.has_room ≡ true }
+    {
+        let weight = weight_at(&self.entries, slot);
+        put_due(&mut self.entries, slot, due);
+        self.lists.access(slot, weight);
+        self.wheel.remove(slot);
+        time(&mut self.wheel, slot, reached(due));
+    }
+
+    /// An access of what a key holds in this slot.
+    pub fn access(&mut self, key: &Key, slot: Slot)
+        requires found { IsFound key.now slot.0 self.old }
+        requires light { (e : Entry) → held key.now self.old.areas ≡ Some e
+            → weight e ≤ self.old.limits.main }
+        requires fits { (e : Entry) → held key.now self.old.areas ≡ Some e
+            → total weight self.old.areas + weight e < 2 ^ 64 }
+        ensures limits { self.new.limits ≡ self.old.limits }
+        ensures areas { (e : Entry) → held key.now self.old.areas ≡ Some e
+            → self.new.areas ≡ accessed weight self.old.limits (has_key key.now) e self.old.areas }
+        ensures slots { self.new.slots ≡ self.old.slots }
+        ensures room { self.old.has_room ≡ true → self.new.has_room ≡ true }
+    {
+        let weight = weight_at(&self.entries, slot);
+        self.lists.access(slot, weight);
+    }
+
+    /// An access of what a slot holds.
+    pub fn access_at(&mut self, slot: Slot)
+        requires held { IsSome (slice_index_or self.old.slots slot.0 None) }
+        requires light { (e : Entry) → slice_index_or self.old.slots slot.0 None ≡ Some e
+            → weight e ≤ self.old.limits.main }
+        requires fits { (e : Entry) → slice_index_or self.old.slots slot.0 None ≡ Some e
+            → total weight self.old.areas + weight e < 2 ^ 64 }
+        ensures limits { self.new.limits ≡ self.old.limits }
+        ensures areas { (e : Entry) → slice_index_or self.old.slots slot.0 None ≡ Some e
+            → self.new.areas ≡ accessed weight self.old.limits (has_key e.key) e self.old.areas }
+        ensures slots { self.new.slots ≡ self.old.slots }
+    {
+        let weight = weight_at(&self.entries, slot);
+        self.lists.access(slot, weight);
+    }
+
+    /// Takes a slot's entry out.
+    pub fn empty(&mut self, slot: Slot)
+        requires { IsSome (slice_index_or self.old.slots slot.0 None) }
+        ensures limits { self.new.limits ≡ self.old.limits }
+        ensures areas { (e : Entry) → slice_index_or self.old.slots slot.0 None ≡ Some e
+            → self.new.areas ≡ without_key e.key self.old.areas }
+        ensures slots { self.new.slots ≡ slice_set self.old.slots slot.0 None }
+        ensures room { self.old.has_room ≡ true → self.new.has_room ≡ true }
+    {
+        vacate(&mut self.index, &mut self.entries, slot);
+        self.lists.remove(slot);
+        self.wheel.remove(slot);
+    }
+
+    /// Takes out what a key holds, and says whether it held anything.
+    pub fn remove(&mut self, key: &Key) -> bool
+        ensures held { result ≡ is_some (held key.now self.old.areas) }
+        ensures areas { self.new.areas ≡ without_key key.now self.old.areas }
+        ensures limits { self.new.limits ≡ self.old.limits }
+        ensures room { self.old.has_room ≡ true → self.new.has_room ≡ true }
+    {
+        match self.find(key) {
+            Some(slot) => {
+                self.empty(slot);
+                true
+            }
+            None => false,
+        }
+    }
+
+    /// How many slots there are: those that hold something are below this number.
+    fn slots(&self) -> usize
+        ensures { (n : ℕ) → IsSome (slice_index_or self.now.slots n None) → n < result }
+    {
+        let _ = &self.index;
+        self.wheel.slots()
+    }
+
+    /// Whether a slot holds an entry.
+    fn is_held(&self, slot: Slot) -> bool
+        ensures { result ≡ is_some (slice_index_or self.now.slots slot.0 None) }
+    {
+        self.entries.get(slot.0).is_some()
+    }
+
+    /// Where no slot holds anything, no entry is there.
+    fn is_cleared(&self)
+        requires { (n : ℕ) → slice_index_or self.now.slots n None ≡ None }
+        ensures { self.now.areas ≡ no_entries }
+    {
+        let _ = &self.index;
+    }
+
+    /// Takes all entries out.
+    pub fn clear(&mut self)
+        ensures limits { self.new.limits ≡ self.old.limits }
+        ensures areas { self.new.areas ≡ no_entries }
+        ensures room { self.old.has_room ≡ true → self.new.has_room ≡ true }
+    {
+        for n in 0..self.slots() {
+            if self.is_held(Slot(n)) {
+                self.empty(Slot(n));
+            }
+        }
+        self.is_cleared();
+    }
+
+    /// Drops the next entry that settle drops, and says whether there was one.
+    pub fn settle_next(&mut self, sketch: &Sketch) -> bool
+        ensures limits { self.new.limits ≡ self.old.limits }
+        ensures next { DropsEntry result sketch.now self.old self.new }
+        ensures fewer { result ≡ true → filled self.new.slots + 1 ≡ filled self.old.slots }
+        ensures room { self.old.has_room ≡ true → self.new.has_room ≡ true }
+    {
+        match drop_next(&mut self.lists, &self.entries, sketch) {
+            Some(victim) => {
+                vacate(&mut self.index, &mut self.entries, victim);
+                self.wheel.remove(victim);
+                true
+            }
+            None => false,
+        }
+    }
+
+    /// Brings each area within its limit, and counts each entry that is dropped.
+    pub fn settle(&mut self, sketch: &Sketch, mut evictions: u64) -> u64
+        ensures areas { self.new.areas ≡ (settle weight
+            (frequency_in sketch.now) self.old.limits self.old.areas).areas }
+        ensures counted { result ≡ more evictions (length (settle weight
+            (frequency_in sketch.now) self.old.limits self.old.areas).dropped) }
+        ensures limits { self.new.limits ≡ self.old.limits }
+        ensures room { self.old.has_room ≡ true → self.new.has_room ≡ true }
+    {
+        while self.settle_next(sketch) {
+            evictions = evictions.saturating_add(1);
+        }
+        evictions
+    }
+
+    /// Takes out one entry that is not alive at the moment, and says whether there was one.
+    pub fn expire_next(&mut self, moment: Moment) -> bool
+        ensures limits { self.new.limits ≡ self.old.limits }
+        ensures kept { kept (lives moment) self.new.areas ≡ kept (lives moment) self.old.areas }
+        ensures none { result ≡ false → kept (lives moment) self.new.areas ≡ self.new.areas }
+        ensures alive { (n : ℕ) (e : Entry) → slice_index_or self.old.slots n None ≡ Some e
+            → lives moment e ≡ true → slice_index_or self.new.slots n None ≡ Some e }
+        ensures fewer { result ≡ true → filled self.new.slots + 1 ≡ filled self.old.slots }
+        ensures sound { (limits : AreaLimits) → AreSound limits self.old.areas
+            → AreSound limits self.new.areas }
+        ensures room { self.old.has_room ≡ true → self.new.has_room ≡ true }
+    {
+        let _seconds = moment.seconds();
+        match self.wheel.advance(moment) {
+            Some(due) => {
+                vacate(&mut self.index, &mut self.entries, due);
+                self.lists.remove(due);
+                true
+            }
+            None => false,
+        }
+    }
+
+    /// Takes out what is not alive at the moment.
+    pub fn expire(&mut self, moment: Moment)
+        ensures limits { self.new.limits ≡ self.old.limits }
+        ensures areas { self.new.areas ≡ kept (lives moment) self.old.areas }
+        ensures alive { (n : ℕ) (e : Entry) → slice_index_or self.old.slots n None ≡ Some e
+            → lives moment e ≡ true → slice_index_or self.new.slots n None ≡ Some e }
+        ensures room { self.old.has_room ≡ true → self.new.has_room ≡ true }
+    {
+        while self.expire_next(moment) {}
+    }
+
+    /// Equal entries in the same order, over the same data.
+    pub fn copy(&self, alloc: Global) -> Result<Areas, NoMemory>
+        ensures { IfOk result (λ areas. areas_of areas ≡ self.now.areas) }
+    {
+        let _ = &self.index;
+        let first = self.lists.slots_in(alloc, Area::Window)?;
+        let window = copy_at(alloc, &self.entries, &first)?;
+        let second = self.lists.slots_in(alloc, Area::Probation)?;
+        let probation = copy_at(alloc, &self.entries, &second)?;
+        let third = self.lists.slots_in(alloc, Area::Protected)?;
+        let protected = copy_at(alloc, &self.entries, &third)?;
+        Ok(Areas {
+            window,
+            probation,
+            protected,
+        })
+    }
+}
