@@ -5,7 +5,7 @@ use Rattle.std.proofs.lemmas.Option.{slice_get-map, slice_get-get_or}
 use Rattle.std.proofs.lemmas.List.{map-set}
 use Rattle.std.proofs.Math.Seq.{map-set_same}
 use Rattle.tc_model.specs.Connection.{Endpoint, user_at}
-use Rattle.tc_model.specs.Server.{Connection, Effect, call_effect, answer_effect, maintained}
+use Rattle.tc_model.specs.Server.{Connection, Effect, call_effect, answer_effect, called, maintained}
 use Rattle.tc_grammar.specs.declared.command.Command.{Command}
 use Rattle.tc_plain.specs.UserCache.{UserCache, advance}
 use Rattle.tc_plain.specs.Doing.{act}
@@ -21,7 +21,7 @@ same_connection : (e f : Endpoint talking) (xs ys : List ℕ) → e ≡ f → xs
 same_connection e f xs ys p q = cc
 
 module _ {C : Type 0} (settled : C → UserCache) (xs : List C) (user : ℕ) (held : C) (clock : ℕ) (command : Command) (e : Endpoint talking) (out : List ℕ) (at : held ≡ get_or xs (user - 1) held) (positive : 0 < user) (within : user ≤ length xs) where
-  effect_at : call_effect serving clock (map settled xs) user command e out (user_at (map settled xs) user) ≡ answer_effect serving (map settled xs) (suc (user - 1)) command e out (act (settled held) clock command)
+  effect_at : call_effect serving clock (map settled xs) user command e out (user_at (map settled xs) user) ≡ answer_effect serving (map settled xs) (suc (user - 1)) (called serving clock command (act (settled held) clock command).0) e out (act (settled held) clock command).1
   effect_at =
       let number : user ≡ suc (user - 1) = omega arith in
       let lt : user - 1 < length xs = omega arith in

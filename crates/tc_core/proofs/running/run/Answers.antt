@@ -33,4 +33,6 @@ returns-clause-indifferent g c =
 
 pub returns-clause-fresh : goal.returns-clause-fresh
 returns-clause-fresh g c =
-    IfOk-weaker c.outputs.result (λ out. out ≡ map output_of c.loop-step.server.world.connections) (λ out. IsFreshRun c.args.users (map step_of c.args.steps.now)) (λ out h. is_fresh_run c.freshness.ensures c.args.users (map step_of c.args.steps.now)) c.outputs.ensures
+    let steps = map step_of c.args.steps.now in
+    let world = run-ended c.args.users c.args.steps.now c.loop-step.server.world c.loop-step.step-index (omega arith) c.loop-step.invariant.rest in
+    IfOk-weaker c.outputs.result (λ out. out ≡ map output_of c.loop-step.server.world.connections) (λ out. IsFreshRun c.args.users steps out) (λ out h. subst (λ (o : List Output). IsFreshRun c.args.users steps o) (sym h) (is_fresh_run c.args.users steps c.loop-step.server.world world c.freshness.ensures c.advancing.ensures.twice c.advancing.ensures.first)) c.outputs.ensures
