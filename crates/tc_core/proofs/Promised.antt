@@ -18,6 +18,7 @@ use Rattle.tc_session.specs.Talking.{talking}
 use Rattle.tc_core.specs.declared.step.Step.{Step as StepCode}
 use Rattle.tc_core.specs.Serving.{serving}
 use Rattle.tc_core.specs.Steps.{step_of}
+use Rattle.tc_core.specs.declared.outputs.Output.{Output}
 use Rattle.tc_core.specs.Sending.{output_of, sent_by, IsRun, IsIsolatedRun, IsUntouchedRun, IsIndifferentRun, IsFreshRun, IsPromised}
 
 -- the cache of the server is lawful
@@ -38,7 +39,7 @@ numbers-outputs [] = refl
 numbers-outputs (e ∷ es) = ap (λ ns. e.0 ∷ ns) (numbers-outputs es)
 
 -- past the last step the server has come to where all steps lead
-pub run-ended : (users : List UserSpec) (steps : List StepCode) (w : World serving) (i : ℕ) → length steps ≤ i
+run-ended : (users : List UserSpec) (steps : List StepCode) (w : World serving) (i : ℕ) → length steps ≤ i
     → steps_from serving users w (map step_of (drop i steps)) ≡ (run serving users (map step_of steps)).world
     → w ≡ (run serving users (map step_of steps)).world
 run-ended users steps w i past rest =
@@ -93,3 +94,12 @@ module _ (users : List UserSpec) (steps : List Step) (w : World serving) (e : w 
     indifferent = is_indifferent_run twice first;
     fresh = is_fresh_run fresh_hits twice first;
   }
+
+-- what a walk over all steps gives out, once it has come to its end
+pub promised-ended : (users : List UserSpec) (steps : List StepCode) (w : World serving) (i : ℕ) → length steps ≤ i
+    → steps_from serving users w (map step_of (drop i steps)) ≡ (run serving users (map step_of steps)).world
+    → IsFresh → AdvancesOnce → ActsAdvanced
+    → (outputs : List Output) → outputs ≡ map output_of w.connections → IsPromised users (map step_of steps) outputs
+promised-ended users steps w i past rest fresh_hits twice first outputs same =
+    subst (λ (o : List Output). IsPromised users (map step_of steps) o) (sym same)
+    (is_promised users (map step_of steps) w (run-ended users steps w i past rest) fresh_hits twice first)
