@@ -1,17 +1,21 @@
 -- What a call of one user's cache, or its maintenance, does to all caches.
-use Rattle.std.specs.Prelude.{map, slice_set, option_map}
-use Rattle.std.proofs.Common.{◌≡◌, ℕ, suc, ◌-◌, ◌<◌, ◌≤◌, List, ◌++◌, length, get_or, Some, sym, ◌∙◌, ap, arith}
+use Rattle.std.specs.Prelude.{map, slice_set, option_map, OnErr}
+use Rattle.std.proofs.Common.{◌≡◌, ℕ, suc, ◌-◌, ◌<◌, ◌≤◌, List, ◌++◌, length, get_or, Some, Result, Ok, Err, sym, ◌∙◌, ap, arith}
 use Rattle.std.proofs.lemmas.Option.{slice_get-map, slice_get-get_or}
 use Rattle.std.proofs.lemmas.List.{map-set}
-use Rattle.std.proofs.Math.Seq.{map-set_same}
-use Rattle.tc_model.specs.Connection.{Endpoint, user_at}
-use Rattle.tc_model.specs.Server.{Connection, Effect, call_effect, answer_effect, maintained}
+use Rattle.tc_model.specs.Connection.{Endpoint, Turn, user_at, with_user}
+use Rattle.tc_model.specs.Server.{Connection, Effect, call_effect, answer_effect, called, maintained}
 use Rattle.tc_grammar.specs.declared.command.Command.{Command}
 use Rattle.tc_plain.specs.UserCache.{UserCache, advance}
 use Rattle.tc_plain.specs.Doing.{act}
 use Rattle.tc_session.specs.Replies.{render}
 use Rattle.tc_session.specs.Talking.{talking}
+use Rattle.tc_session.specs.Linked.{Linked, want_of}
+use Rattle.tc_session.specs.declared.want.Want.{Want as WantCode}
+use Rattle.tc_session.specs.declared.want.Want.TheVariants.{Call as IsCall}
 use Rattle.tc_core.specs.Serving.{serving}
+use Rattle.tc_core.specs.Steps.{connection_of}
+use Rattle.tc_core.specs.Refused.{refusal_of, IsLeftOver, IsRefusedCall, IsRefusedAct, Spent}
 
 -- the user's cache is the one at the place before its number
 user_at-map : {C : Type 0} (settled : C → UserCache) (xs : List C) (i : ℕ) (d : C) → i < length xs → user_at (map settled xs) (suc i) ≡ Some (settled (get_or xs i d))
@@ -21,7 +25,7 @@ same_connection : (e f : Endpoint talking) (xs ys : List ℕ) → e ≡ f → xs
 same_connection e f xs ys p q = cc
 
 module _ {C : Type 0} (settled : C → UserCache) (xs : List C) (user : ℕ) (held : C) (clock : ℕ) (command : Command) (e : Endpoint talking) (out : List ℕ) (at : held ≡ get_or xs (user - 1) held) (positive : 0 < user) (within : user ≤ length xs) where
-  effect_at : call_effect serving clock (map settled xs) user command e out (user_at (map settled xs) user) ≡ answer_effect serving (map settled xs) (suc (user - 1)) command e out (act (settled held) clock command)
+  effect_at : call_effect serving clock (map settled xs) user command e out (user_at (map settled xs) user) ≡ answer_effect serving (map settled xs) (suc (user - 1)) (called serving clock command (act (settled held) clock command).0) e out (act (settled held) clock command).1
   effect_at =
       let number : user ≡ suc (user - 1) = omega arith in
       let lt : user - 1 < length xs = omega arith in
@@ -36,9 +40,27 @@ module _ {C : Type 0} (settled : C → UserCache) (xs : List C) (user : ℕ) (he
       let whole : q ≡ record { endpoint = e; out = out ++ render command (act (settled held) clock command).0 } = same_connection q.endpoint e q.out (out ++ render command (act (settled held) clock command).0) same said in
       ap Some whole ∙ sym (ap (λ (d : Effect serving). d.connection) effect_at)
 
--- writing back what stands for the same leaves all
-pub caches-same : {C : Type 0} (settled : C → UserCache) (xs : List C) (i : ℕ) (d x : C) → d ≡ get_or xs i d → settled x ≡ settled d → map settled (slice_set xs i x) ≡ map settled xs
-caches-same settled xs i d x at e = map-set_same settled xs i x d (e ∙ ap settled at)
+  -- a call that was refused
+  pub call-refused : (x : C) → IsLeftOver clock (settled held) command (settled x) → IsRefusedCall clock (map settled xs) user command (map settled (slice_set xs (user - 1) x))
+  call-refused x left =
+      let number : user ≡ suc (user - 1) = omega arith in
+      let lt : user - 1 < length xs = omega arith in
+      record {
+        before = settled held;
+        after = settled x;
+        held = ap (user_at (map settled xs)) number ∙ (user_at-map settled xs (user - 1) held lt ∙ ap (λ q. Some (settled q)) (sym at));
+        left = left;
+        only = map-set settled xs (user - 1) x ∙ sym (ap (λ n. with_user (map settled xs) n (settled x)) number);
+      }
+
+-- an act whose call was refused
+module _ (clock : ℕ) (caches caches' : List UserCache) (was read now : Linked) (t : Turn talking) (want : WantCode) (user : ℕ) (command : Command) (wanted : want_of want ≡ t.want) (is : want ≡ IsCall user command) (endpoint : read.endpoint ≡ t.endpoint) (said : read.out ≡ was.out ++ t.said) (same : now.endpoint ≡ read.endpoint) where
+  pub act-refused : {T E : Type 0} (r : Result T E) → OnErr r (now.out ≡ read.out ++ refusal_of command) → OnErr r (IsRefusedCall clock caches user command caches')
+      → OnErr r (IsRefusedAct clock caches (connection_of was) t caches' (connection_of now))
+  act-refused (Ok x) told refused = tt
+  act-refused (Err x) told refused =
+      Spent user command (sym wanted ∙ ap want_of is) refused
+      (same_connection now.endpoint t.endpoint now.out ((was.out ++ t.said) ++ refusal_of command) (same ∙ endpoint) (told ∙ ap (λ xs. xs ++ refusal_of command) said))
 
 -- maintenance of one user's cache
 pub maintained-caches : {C : Type 0} (settled : C → UserCache) (xs : List C) (user : ℕ) (held x : C) (clock : ℕ) → held ≡ get_or xs (user - 1) held → 0 < user → user ≤ length xs

@@ -18,7 +18,8 @@ use Rattle.tc_session.specs.Talking.{talking}
 use Rattle.tc_core.specs.declared.step.Step.{Step as StepCode}
 use Rattle.tc_core.specs.Serving.{serving}
 use Rattle.tc_core.specs.Steps.{step_of}
-use Rattle.tc_core.specs.Sending.{output_of, sent_by, IsRun, IsIsolatedRun, IsUntouchedRun, IsIndifferentRun, IsFreshRun}
+use Rattle.tc_core.specs.declared.outputs.Output.{Output}
+use Rattle.tc_core.specs.Sending.{output_of, sent_by, IsRun, IsIsolatedRun, IsUntouchedRun, IsIndifferentRun, IsFreshRun, IsPromised}
 
 -- the cache of the server is lawful
 lawful : AdvancesOnce → ActsAdvanced → IsLawful user_caching
@@ -38,15 +39,26 @@ numbers-outputs [] = refl
 numbers-outputs (e ∷ es) = ap (λ ns. e.0 ∷ ns) (numbers-outputs es)
 
 -- past the last step the server has come to where all steps lead
-pub run-ended : (users : List UserSpec) (steps : List StepCode) (w : World serving) (i : ℕ) → length steps ≤ i
-    → steps_from serving users w (map step_of (drop i steps)) ≡ run serving users (map step_of steps)
-    → w ≡ run serving users (map step_of steps)
+run-ended : (users : List UserSpec) (steps : List StepCode) (w : World serving) (i : ℕ) → length steps ≤ i
+    → steps_from serving users w (map step_of (drop i steps)) ≡ (run serving users (map step_of steps)).world
+    → w ≡ (run serving users (map step_of steps)).world
 run-ended users steps w i past rest =
-    subst (λ (xs : List StepCode). steps_from serving users w (map step_of xs) ≡ run serving users (map step_of steps)) (drop_of_length-le steps past) rest
+    subst (λ (xs : List StepCode). steps_from serving users w (map step_of xs) ≡ (run serving users (map step_of steps)).world) (drop_of_length-le steps past) rest
 
-module _ (users : List UserSpec) (steps : List Step) (w : World serving) (e : w ≡ run serving users steps) where
+-- no step of those that concern a user is maintenance
+unmaintained : (mine : ℕ → Bool) (xs : List Step) → IsUnmaintained (filter (is_kept mine) xs)
+unmaintained mine [] = tt
+unmaintained mine (On c x ∷ xs) = go (mine c) (unmaintained mine xs)
+  where
+    go : (b : Bool) → IsUnmaintained (filter (is_kept mine) xs) → IsUnmaintained (cond b (On c x ∷ filter (is_kept mine) xs) (filter (is_kept mine) xs))
+    go true h = h
+    go false h = h
+unmaintained mine (Tick m ∷ xs) = unmaintained mine xs
+unmaintained mine (Maintain user limit ∷ xs) = unmaintained mine xs
+
+module _ (users : List UserSpec) (steps : List Step) (w : World serving) (e : w ≡ (run serving users steps).world) where
   sent_here : (c : ℕ) → sent_by (map output_of w.connections) c ≡ sent serving (run serving users steps) c
-  sent_here c = sent_by-outputs w.connections c ∙ ap (λ (v : World serving). sent serving v c) e
+  sent_here c = sent_by-outputs w.connections c ∙ ap (λ (v : World serving). sent serving (record { world = v; history = [] }) c) e
 
   pub is_run : IsRun users steps (map output_of w.connections)
   is_run = record {
@@ -64,18 +76,30 @@ module _ (users : List UserSpec) (steps : List Step) (w : World serving) (e : w 
   is_indifferent_run twice first others ys user other row at there same c mine theirs =
       sent_here c ∙ indifferent serving (lawful twice first) users others steps ys user other row at there same c mine theirs
 
--- no step of those that concern a user is maintenance
-unmaintained : (mine : ℕ → Bool) (xs : List Step) → IsUnmaintained (filter (is_kept mine) xs)
-unmaintained mine [] = tt
-unmaintained mine (On c x ∷ xs) = go (mine c) (unmaintained mine xs)
-  where
-    go : (b : Bool) → IsUnmaintained (filter (is_kept mine) xs) → IsUnmaintained (cond b (On c x ∷ filter (is_kept mine) xs) (filter (is_kept mine) xs))
-    go true h = h
-    go false h = h
-unmaintained mine (Tick m ∷ xs) = unmaintained mine xs
-unmaintained mine (Maintain user limit ∷ xs) = unmaintained mine xs
+  pub is_fresh_run : IsFresh → AdvancesOnce → ActsAdvanced → IsFreshRun users steps (map output_of w.connections)
+  is_fresh_run fresh_hits twice first user row at =
+      let kept = kept_steps talking users steps user in
+      let plain = unmaintained (binds talking users steps user) steps in
+      record {
+        shown = is_isolated_run twice first user row at;
+        hits = λ before after call same. fresh_hits row.budget row.largest before after call
+            (subst (Replays user_caching 0 (fresh row.budget row.largest)) same (replayed serving row kept plain));
+      }
 
-pub is_fresh_run : IsFresh → (users : List UserSpec) (steps : List Step) → IsFreshRun users steps
-is_fresh_run fresh_hits users steps user row at before after e same =
-    fresh_hits row.budget row.largest before after e
-    (subst (Replays user_caching 0 (fresh row.budget row.largest)) same (replayed serving row (kept_steps talking users steps user) (unmaintained (binds talking users steps user) steps)))
+  pub is_promised : IsFresh → AdvancesOnce → ActsAdvanced → IsPromised users steps (map output_of w.connections)
+  is_promised fresh_hits twice first = record {
+    sent = is_run;
+    isolated = is_isolated_run twice first;
+    untouched = is_untouched_run;
+    indifferent = is_indifferent_run twice first;
+    fresh = is_fresh_run fresh_hits twice first;
+  }
+
+-- what a walk over all steps gives out, once it has come to its end
+pub promised-ended : (users : List UserSpec) (steps : List StepCode) (w : World serving) (i : ℕ) → length steps ≤ i
+    → steps_from serving users w (map step_of (drop i steps)) ≡ (run serving users (map step_of steps)).world
+    → IsFresh → AdvancesOnce → ActsAdvanced
+    → (outputs : List Output) → outputs ≡ map output_of w.connections → IsPromised users (map step_of steps) outputs
+promised-ended users steps w i past rest fresh_hits twice first outputs same =
+    subst (λ (o : List Output). IsPromised users (map step_of steps) o) (sym same)
+    (is_promised users (map step_of steps) w (run-ended users steps w i past rest) fresh_hits twice first)

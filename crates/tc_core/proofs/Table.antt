@@ -6,7 +6,7 @@ use Rattle.std.specs.BTreeMap.{is_at, insert_entry}
 use Rattle.std.specs.List.Sorted.{IsStrictlySortedBy}
 use Rattle.std.proofs.Common.{◌≡◌, ℕ, List, [], Some, None, refl, sym, ◌∙◌, ap}
 use Rattle.tc_model.specs.Connection.{Happening, Open, new_endpoint}
-use Rattle.tc_model.specs.Server.{Effect, effect, numbered, with_numbered, with_some}
+use Rattle.tc_model.specs.Server.{Effect, quiet_effect, effect, numbered, with_numbered, with_some}
 use Rattle.tc_users.specs.declared.users.UserSpec.{UserSpec}
 use Rattle.tc_plain.specs.UserCache.{UserCache}
 use Rattle.tc_session.specs.Linked.{Linked}
@@ -38,7 +38,7 @@ module _ (rows : List UserSpec) (clock c : ℕ) (caches : List UserCache) (es : 
   there-refused s caches' later e h = There (connection_of was) (connection_of s) here h (written s later e)
 
 -- nothing but opening is done where there is no connection
-effect-absent : (rows : List UserSpec) (clock : ℕ) (caches : List UserCache) (x : Event) → (x ≡ OpenEvent → ⊥) → effect serving rows clock caches (happening_of x) None ≡ record { caches = caches; connection = None }
+effect-absent : (rows : List UserSpec) (clock : ℕ) (caches : List UserCache) (x : Event) → (x ≡ OpenEvent → ⊥) → effect serving rows clock caches (happening_of x) None ≡ quiet_effect serving caches None
 effect-absent rows clock caches OpenEvent ne = absurd (ne refl)
 effect-absent rows clock caches (PieceEvent bytes) ne = refl
 effect-absent rows clock caches ActEvent ne = refl

@@ -1,33 +1,44 @@
 -- What a step leaves where memory was refused, by kind. Source: this project's own.
-use Rattle.std.specs.Prelude.{◌≡◌, ℕ, [], List, ◌++◌, Some}
-use Rattle.tc_model.specs.Connection.{Happening, Open, Piece, Act, Shut, Want, Nothing, Said, Call, Close, Turn, turn}
-use Rattle.tc_model.specs.Server.{Connection, Step, On, Tick, Maintain, turn_effect, numbered, with_numbered}
+use Rattle.std.specs.Prelude.{◌≡◌, ℕ, true, List, ◌++◌, Some}
+use Rattle.tc_model.specs.Connection.{Happening, Open, Piece, Act, Shut, user_at, with_user, Call, Turn, turn}
+use Rattle.tc_model.specs.Server.{Connection, Step, On, Tick, Maintain, numbered, with_numbered}
 use Rattle.tc_grammar.specs.declared.command.Command.{Command}
 use Rattle.tc_grammar.specs.declared.fault.Fault.TheVariants.{NoMemory}
 use Rattle.tc_users.specs.declared.users.UserSpec.{UserSpec}
 use Rattle.tc_plain.specs.UserCache.{UserCache}
+use Rattle.tc_plain.specs.Doing.{act}
 use Rattle.tc_session.specs.Texts.{fault_line, unless_quiet}
-use Rattle.tc_session.specs.Replies.{is_quiet}
+use Rattle.tc_session.specs.Replies.{is_quiet, is_long}
 use Rattle.tc_session.specs.Talking.{talking}
 use Rattle.tc_core.specs.Serving.{serving, State}
 
--- what stands in place of the reply to a call: out of memory, unless the line has `noreply`
-abbrev pub refusal_of : Want Command → List ℕ
-refusal_of Nothing = []
-refusal_of Said = []
-refusal_of (Call user command) = unless_quiet (is_quiet command) (fault_line NoMemory)
-refusal_of Close = []
+-- what stands in place of the reply to a command: out of memory, unless the line has `noreply`
+abbrev pub refusal_of : Command → List ℕ
+refusal_of command = unless_quiet (is_quiet command) (fault_line NoMemory)
 
--- a connection that was told of a refusal in place of a reply
-abbrev pub told : Connection serving → Turn talking → Connection serving
-told q t = record { endpoint = t.endpoint; out = q.out ++ t.said ++ refusal_of t.want }
+-- what a refused call leaves of its user's cache: undone, what it was; unsaid, where the reply is that of a look-up or of `stats`, what the command leaves
+pub data IsLeftOver (clock : ℕ) (k : UserCache) (command : Command) (k' : UserCache) : Type 0 where
+  Undone : k' ≡ k → IsLeftOver clock k command k'
+  Unsaid : is_long (act k clock command).0 ≡ true → k' ≡ (act k clock command).1 → IsLeftOver clock k command k'
 
--- an act was refused: before its request was read; or by the cache, and the request is spent; or at its reply, and the command stays done
+-- a call was refused: of all caches its user's alone may be changed
+pub record IsRefusedCall (clock : ℕ) (caches : List UserCache) (user : ℕ) (command : Command) (caches' : List UserCache) : Type 0 where
+  pub before : UserCache
+  pub after : UserCache
+  pub held : user_at caches user ≡ Some before
+  pub left : IsLeftOver clock before command after
+  pub only : caches' ≡ with_user caches user after
+
+-- a connection whose request is spent, and that was told of a refusal in place of the reply to its command
+abbrev pub told : Connection serving → Turn talking → Command → Connection serving
+told q t command = record { endpoint = t.endpoint; out = (q.out ++ t.said) ++ refusal_of command }
+
+-- an act was refused: its request is unread and nothing changed; or its request is spent, and was a call that was refused and told so
 pub data IsRefusedAct (clock : ℕ) (caches : List UserCache) (q : Connection serving) (t : Turn talking)
     (caches' : List UserCache) (q' : Connection serving) : Type 0 where
   Unread : caches' ≡ caches → q' ≡ q → IsRefusedAct clock caches q t caches' q'
-  Undone : caches' ≡ caches → q' ≡ told q t → IsRefusedAct clock caches q t caches' q'
-  Unsaid : caches' ≡ (turn_effect serving clock caches q.out t).caches → q' ≡ told q t → IsRefusedAct clock caches q t caches' q'
+  Spent : (user : ℕ) (command : Command) → t.want ≡ Call user command → IsRefusedCall clock caches user command caches'
+      → q' ≡ told q t command → IsRefusedAct clock caches q t caches' q'
 
 -- a step of a connection that is there was refused: a piece leaves it as it was, and a shut is never refused
 abbrev pub IsRefusedThere : Happening → List UserSpec → ℕ → List UserCache → Connection serving → List UserCache → Connection serving → Type 0

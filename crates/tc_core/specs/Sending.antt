@@ -2,7 +2,7 @@
 use Rattle.std.specs.Prelude.{◌≡◌, ℕ, Bool, true, false, cond, List, [], ◌∷◌, ◌++◌, map, filter, Option, Some, None, ◌==◌, All}
 use Rattle.tc_model.specs.Caching.{Event}
 use Rattle.tc_model.specs.Connection.{is_closed, user_at}
-use Rattle.tc_model.specs.Server.{Connection, Step, run, solo, sent, binds, kept_steps, is_of, history}
+use Rattle.tc_model.specs.Server.{Connection, Step, Course, run, solo, sent, binds, kept_steps, is_of}
 use Rattle.tc_model.specs.Laws.{IsRising}
 use Rattle.tc_grammar.specs.declared.command.Command.{Command}
 use Rattle.tc_stats.specs.declared.outcome.Outcome.{Outcome}
@@ -23,7 +23,7 @@ sent_by (o ∷ os) c = cond (o.connection == c) (Some (o.closed, o.bytes)) (sent
 
 -- what connections were sent is what the machine sends them, by rising number
 pub record IsRun (users : List UserSpec) (steps : List Step) (outputs : List Output) : Type 0 where
-  pub sent : outputs ≡ map output_of (run serving users steps).connections
+  pub sent : outputs ≡ map output_of (run serving users steps).world.connections
   pub rising : IsRising (map (λ o. o.connection) outputs)
 
 -- each user's connections are sent what the machine of that user alone sends on those connections' steps and the clock's
@@ -48,9 +48,29 @@ IsIndifferentRun users steps outputs =
     → (c : ℕ) → binds talking users steps user c ≡ true → binds talking others ys other c ≡ true
     → sent_by outputs c ≡ sent serving (run serving others ys) c
 
--- whatever commands a user's connections gave, each hit that they were shown is what the commands before it last left under its key
-abbrev pub IsFreshRun : List UserSpec → List Step → Type 0
-IsFreshRun users steps =
+-- each hit of these calls shows what the calls before it last left under its key
+abbrev pub IsFreshHistory : List (Event Command Outcome) → Type 0
+IsFreshHistory calls =
+    (before after : List (Event Command Outcome)) (e : Event Command Outcome)
+    → calls ≡ before ++ e ∷ after → All (IsCell before e.moment) (hits_in e.outcome)
+
+-- these connections were sent what a course sends, which is the replies to the calls of its history and what needs no call;
+-- and that history is fresh
+pub record IsFreshCourse (course : Course serving) (is_mine : ℕ → Bool) (outputs : List Output) : Type 0 where
+  pub shown : (c : ℕ) → is_mine c ≡ true → sent_by outputs c ≡ sent serving course c
+  pub hits : IsFreshHistory course.history
+
+-- a user's connections were sent what a fresh course of that user's machine alone sends:
+-- so each hit that they were shown is what the user's commands before it last left under its key
+abbrev pub IsFreshRun : List UserSpec → List Step → List Output → Type 0
+IsFreshRun users steps outputs =
     (user : ℕ) (row : UserSpec) → user_at users user ≡ Some row
-    → (before after : List (Event Command Outcome)) (e : Event Command Outcome)
-    → history serving row (kept_steps talking users steps user) ≡ before ++ e ∷ after → All (IsCell before e.moment) (hits_in e.outcome)
+    → IsFreshCourse (solo serving row (kept_steps talking users steps user)) (binds talking users steps user) outputs
+
+-- all that is promised of what connections were sent
+pub record IsPromised (users : List UserSpec) (steps : List Step) (outputs : List Output) : Type 0 where
+  pub sent : IsRun users steps outputs
+  pub isolated : IsIsolatedRun users steps outputs
+  pub untouched : IsUntouchedRun users steps outputs
+  pub indifferent : IsIndifferentRun users steps outputs
+  pub fresh : IsFreshRun users steps outputs

@@ -1,15 +1,13 @@
 //! What one connection's step does: small functions over the server's parts.
-ghost use Rattle.std.specs.Prelude.{◌≡◌, ◌⊎◌, ◌≤◌, ◌++◌, map, Some, OnOk, OnErr, ⊤};
+ghost use Rattle.std.specs.Prelude.{◌≡◌, ◌≤◌, ◌++◌, map, Some, OnOk, OnErr};
 ghost use Rattle.tc_model.specs.Connection.{turn, user_at};
 ghost use Rattle.tc_model.specs.Server.{call_effect, turn_effect, effect, numbered, with_some};
-ghost use Rattle.tc_grammar.specs.declared.fault.Fault.TheVariants.{NoMemory as OutOfMemory};
 ghost use Rattle.tc_plain.specs.Doing.{act};
-ghost use Rattle.tc_session.specs.Texts.{fault_line, unless_quiet};
-ghost use Rattle.tc_session.specs.Replies.{is_quiet, render};
+ghost use Rattle.tc_session.specs.Replies.{render};
 ghost use Rattle.tc_session.specs.Talking.{talking};
 ghost use Rattle.tc_core.specs.Serving.{serving};
 ghost use Rattle.tc_core.specs.Steps.{connection_of, numbered_of, happening_of};
-ghost use Rattle.tc_core.specs.Refused.{IsRefusedAct, IsRefusedThere, IsRefusedOn};
+ghost use Rattle.tc_core.specs.Refused.{refusal_of, IsLeftOver, IsRefusedCall, IsRefusedAct, IsRefusedThere, IsRefusedOn};
 
 use crate::step::Event;
 use std::alloc::Global;
@@ -32,8 +30,8 @@ fn call_one<C: Cache>(
     ensures cache { OnOk result (C.settled cache.new ≡ (act (C.settled cache.old) clock command.now).1) }
     ensures endpoint { session.new.endpoint ≡ session.old.endpoint }
     ensures said { OnOk result (session.new.out ≡ session.old.out ++ render command.now (act (C.settled cache.old) clock command.now).0) }
-    ensures refused { OnErr result (session.new.out ≡ session.old.out ++ unless_quiet (is_quiet command.now) (fault_line OutOfMemory)) }
-    ensures cache_on_err { OnErr result ((C.settled cache.new ≡ C.settled cache.old) ⊎ (C.settled cache.new ≡ (act (C.settled cache.old) clock command.now).1)) }
+    ensures told { OnErr result (session.new.out ≡ session.old.out ++ refusal_of command.now) }
+    ensures left { OnErr result (IsLeftOver clock (C.settled cache.old) command.now (C.settled cache.new)) }
 {
     match cache.act(alloc, clock, command) {
         Ok((outcome, _kept)) => session.answer(command, &outcome),
@@ -57,9 +55,9 @@ fn call<C: Cache>(
     ensures caches { OnOk result (map C.settled caches.new.items ≡ (call_effect serving clock (map C.settled caches.old.items) user command.now session.old.endpoint session.old.out (user_at (map C.settled caches.old.items) user)).caches) }
     ensures connection { OnOk result (Some (connection_of session.new) ≡ (call_effect serving clock (map C.settled caches.old.items) user command.now session.old.endpoint session.old.out (user_at (map C.settled caches.old.items) user)).connection) }
     ensures endpoint { session.new.endpoint ≡ session.old.endpoint }
-    ensures refused { OnErr result (session.new.out ≡ session.old.out ++ unless_quiet (is_quiet command.now) (fault_line OutOfMemory)) }
-    ensures caches_on_err { OnErr result ((map C.settled caches.new.items ≡ map C.settled caches.old.items)
-        ⊎ (map C.settled caches.new.items ≡ (call_effect serving clock (map C.settled caches.old.items) user command.now session.old.endpoint session.old.out (user_at (map C.settled caches.old.items) user)).caches)) }
+    ensures told { OnErr result (session.new.out ≡ session.old.out ++ refusal_of command.now) }
+    ensures refused { OnErr result
+        (IsRefusedCall clock (map C.settled caches.old.items) user command.now (map C.settled caches.new.items)) }
 {
     let number = user.number() as usize;
     if number == 0 || number > caches.len() {

@@ -20,8 +20,8 @@ use tc_users::Users;
 /// machine of that user alone sends on those connections' steps and the clock's (`isolated`); a
 /// connection that is bound to nobody is sent what its own steps alone have it sent (`untouched`);
 /// and a user with the same row in another table, and the same steps there, is sent the same
-/// (`indifferent`); and each hit that a user's connections are shown is what the commands before it last
-/// left under its key (`fresh`): never an item expired, deleted or flushed.
+/// (`indifferent`); and each hit that a user's connections are shown is what that user's commands before
+/// it last left under its key (`fresh`): never an item expired, deleted or flushed.
 pub fn run<C: Cache>(
     alloc: Global,
     users: Users,
@@ -33,7 +33,7 @@ pub fn run<C: Cache>(
     ensures isolated { IfOk result (λ outputs. IsIsolatedRun users (map step_of steps.now) outputs) }
     ensures untouched { IfOk result (λ outputs. IsUntouchedRun users (map step_of steps.now) outputs) }
     ensures indifferent { IfOk result (λ outputs. IsIndifferentRun users (map step_of steps.now) outputs) }
-    ensures fresh { IfOk result (λ outputs. IsFreshRun users (map step_of steps.now)) }
+    ensures fresh { IfOk result (λ outputs. IsFreshRun users (map step_of steps.now) outputs) }
 {
     advancing();
     freshness();

@@ -63,8 +63,10 @@ impl<C: Cache> Server<C> {
     }
 
     /// One step of the machine. Memory is refused to steps of connections alone, and what a refusal
-    /// leaves is said by kind: a piece or an opening changes nothing; an act leaves its request
-    /// unread, or writes out-of-memory in place of its reply.
+    /// leaves is said by kind. A piece or an opening changes nothing. An act leaves its request unread
+    /// and changes nothing; or its request is spent, was a call, and out-of-memory stands in place of
+    /// the reply: the cache refused the command, and is unchanged, or the reply to a look-up or to
+    /// `stats` was refused, and the command is done.
     pub fn step(&mut self, alloc: Global, step: &Step) -> Result<(), NoMemory>
         ensures users { self.new.users ≡ self.old.users }
         ensures world { OnOk result (self.new.world ≡ machine_step serving self.old.users self.old.world (step_of step.now)) }

@@ -4,7 +4,7 @@ use Rattle.std.proofs.Common.{◌≡◌, ℕ, Bool, true, false, ◌⊎◌, inl,
 use Rattle.std.proofs.lemmas.Bool.{false≢true}
 use Rattle.tc_model.specs.Caching.{IsLawful}
 use Rattle.tc_model.specs.Connection.{Asks, Idle, Tell, Login, Leave, Wants, Rest, Reply, Run, Quit, Protocol, Phase, Unbound, Bound, Closed, Endpoint, Happening, Open, Piece, Act, Shut, user_at, login, login_turn, unbound_turn, bound_turn, turn_at, pushed_at, is_closed}
-use Rattle.tc_model.specs.Server.{Machine, Connection, Step, On, Effect, answer_effect, call_effect, turn_effect, effect, binds_from}
+use Rattle.tc_model.specs.Server.{Machine, Connection, Step, On, Effect, answer_effect, called, call_effect, turn_effect, effect, binds_from}
 use Rattle.tc_model.proofs.Numbered.{user_at-same}
 use Rattle.tc_model.proofs.Logins.{login-same_row, login-no_row}
 use Rattle.tc_model.proofs.Binding.{stays_bound-only, bound}
@@ -46,7 +46,9 @@ bound_turn-alike M law u clock caches alone h out r (Run command) =
     let f : Endpoint M.protocol = record { phase = Bound u; reader = r } in
     let g : Endpoint M.protocol = record { phase = Bound 1; reader = r } in
     let e : M.cache.act h.cache clock command ≡ M.cache.act h.other clock command = act-same M law h.cache h.other clock command h.same in
-    let p : AreAlike M u clock (answer_effect M caches u command f (out ++ []) (M.cache.act h.cache clock command)) (answer_effect M (h.other ∷ []) 1 command g (out ++ []) (M.cache.act h.other clock command)) = subst (λ q. AreAlike M u clock (answer_effect M caches u command f (out ++ []) (M.cache.act h.cache clock command)) (answer_effect M (h.other ∷ []) 1 command g (out ++ []) q)) e (record {
+    let mine : Effect M = call_effect M clock caches u command f (out ++ []) (Some h.cache) in
+    let p : AreAlike M u clock mine (call_effect M clock (h.other ∷ []) 1 command g (out ++ []) (Some h.other)) =
+    subst (λ q. AreAlike M u clock mine (answer_effect M (h.other ∷ []) 1 (called M clock command q.0) g (out ++ []) q.1)) e (record {
       caches = record { cache = (M.cache.act h.cache clock command).1; other = (M.cache.act h.cache clock command).1; held = user_at-same caches u _ h.cache h.held; only = refl; same = refl };
       connection = refl;
     }) in

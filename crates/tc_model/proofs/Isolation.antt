@@ -147,7 +147,7 @@ told-solo M (Some l) = rw (is_closed-solo l.endpoint.phase)
 pub isolated : (M : Machine) → IsLawful M.cache → IsIsolated M
 unfolding told
 isolated M law rows xs u row at c mine =
-    let h : Beside M rows u (binds M.protocol rows xs u) [] (run M rows xs) (solo M row (kept_steps M.protocol rows xs u)) = beside-steps M law rows u row at (binds M.protocol rows xs u) xs _ _ (beside-first M rows u row at xs) in
+    let h : Beside M rows u (binds M.protocol rows xs u) [] (run M rows xs).world (solo M row (kept_steps M.protocol rows xs u)).world = beside-steps M law rows u row at (binds M.protocol rows xs u) xs _ _ (beside-first M rows u row at xs) in
     sym (ap (option_map (told {M = M})) (h.connections c mine) ∙ told-solo M _)
 
 pub indifferent : (M : Machine) → IsLawful M.cache → IsIndifferent M

@@ -2,7 +2,7 @@
 use Rattle.std.specs.Prelude.{◌≡◌, ℕ, ◌<◌, true, false, List, [], ◌∷◌, map, filter, Some}
 use Rattle.tc_model.specs.Caching.{Replays}
 use Rattle.tc_model.specs.Connection.{user_at}
-use Rattle.tc_model.specs.Server.{Machine, Step, On, Tick, Maintain, run, solo, sent, binds, kept_steps, is_of, history}
+use Rattle.tc_model.specs.Server.{Machine, Step, On, Tick, Maintain, run, solo, sent, binds, kept_steps, is_of}
 
 -- each user's connections are sent what the machine of that user alone sends on those connections' steps and the clock's
 abbrev pub IsIsolated : Machine → Type 0
@@ -35,7 +35,7 @@ IsUnmaintained (Maintain user limit ∷ xs) = ⊥
 
 -- the history of a user's machine is one fold of that user's cache from the fresh one, at moments that never fall
 abbrev pub IsReplayed : Machine → Type 0
-IsReplayed M = (row : M.protocol.Row) (xs : List Step) → IsUnmaintained xs → Replays M.cache 0 (M.fresh row) (history M row xs)
+IsReplayed M = (row : M.protocol.Row) (xs : List Step) → IsUnmaintained xs → Replays M.cache 0 (M.fresh row) (solo M row xs).history
 
 -- the numbers rise, and are above this one
 abbrev pub RisesFrom : ℕ → List ℕ → Type 0
@@ -49,4 +49,4 @@ IsRising (n ∷ ns) = RisesFrom n ns
 
 -- what connections were sent stands by rising number
 abbrev pub IsOrdered : Machine → Type 0
-IsOrdered M = (rows : List M.protocol.Row) (xs : List Step) → IsRising (map (λ e. e.0) (run M rows xs).connections)
+IsOrdered M = (rows : List M.protocol.Row) (xs : List Step) → IsRising (map (λ e. e.0) (run M rows xs).world.connections)

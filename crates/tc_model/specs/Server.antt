@@ -44,25 +44,39 @@ abbrev pub with_some : {A : Type 0} → ℕ → Option A → List (ℕ × A) →
 with_some c None es = es
 with_some c (Some x) es = with_numbered c x es
 
--- what one connection's step leaves: the caches and that connection
+-- what one connection's step leaves: the caches, that connection, and the call that it made, if it made one
 pub record Effect (M : Machine) : Type 0 where
   pub caches : List M.cache.State
   pub connection : Option (Connection M)
+  pub calls : List (Event M.Command M.Outcome)
 
--- a connection with these bytes, and the caches as they are
+-- no call: the caches as they are, and this connection, if there is one
+abbrev pub quiet_effect : (M : Machine) → List M.cache.State → Option (Connection M) → Effect M
+quiet_effect M caches q = record { caches = caches; connection = q; calls = [] }
+
+-- no call, and a connection with these bytes
 abbrev pub said_effect : (M : Machine) → List M.cache.State → Endpoint M.protocol → List ℕ → Effect M
-said_effect M caches e out = record { caches = caches; connection = Some (record { endpoint = e; out = out }) }
+said_effect M caches e out = quiet_effect M caches (Some (record { endpoint = e; out = out }))
 
--- the user's cache after a command, and its outcome written behind these bytes
+-- a call: the user's cache after it, the reply to what it came to, written behind these bytes, and the call itself
 abbrev pub answer_effect :
-    (M : Machine) → List M.cache.State → ℕ → M.Command → Endpoint M.protocol → List ℕ → M.Outcome × M.cache.State → Effect M
-answer_effect M caches user command e out r = said_effect M (with_user caches user r.1) e (out ++ M.protocol.render command r.0)
+    (M : Machine) → List M.cache.State → ℕ → Event M.Command M.Outcome → Endpoint M.protocol → List ℕ → M.cache.State → Effect M
+answer_effect M caches user call e out k = record {
+  caches = with_user caches user k;
+  connection = Some (record { endpoint = e; out = out ++ M.protocol.render call.command call.outcome });
+  calls = call ∷ [];
+}
+
+-- a call at this moment, by what it came to
+abbrev pub called : (M : Machine) → ℕ → M.Command → M.Outcome → Event M.Command M.Outcome
+called M clock command outcome = record { moment = clock; command = command; outcome = outcome }
 
 -- a call of a user's cache at the clock; nothing where there is no such user
 abbrev pub call_effect :
     (M : Machine) → ℕ → List M.cache.State → ℕ → M.Command → Endpoint M.protocol → List ℕ → Option M.cache.State → Effect M
 call_effect M clock caches user command e out None = said_effect M caches e out
-call_effect M clock caches user command e out (Some k) = answer_effect M caches user command e out (M.cache.act k clock command)
+call_effect M clock caches user command e out (Some k) =
+    answer_effect M caches user (called M clock command (M.cache.act k clock command).0) e out (M.cache.act k clock command).1
 
 -- what a request wants, done
 abbrev pub want_effect : (M : Machine) → ℕ → List M.cache.State → List ℕ → Endpoint M.protocol → List ℕ → Want M.Command → Effect M
@@ -79,12 +93,12 @@ turn_effect M clock caches out t = want_effect M clock caches out t.endpoint t.s
 -- a connection's step; nothing where there is no such connection, but for opening it
 abbrev pub effect : (M : Machine) → List M.protocol.Row → ℕ → List M.cache.State → Happening → Option (Connection M) → Effect M
 effect M rows clock caches Open None = said_effect M caches (new_endpoint M.protocol) []
-effect M rows clock caches Open (Some q) = record { caches = caches; connection = Some q }
-effect M rows clock caches (Piece bytes) None = record { caches = caches; connection = None }
+effect M rows clock caches Open (Some q) = quiet_effect M caches (Some q)
+effect M rows clock caches (Piece bytes) None = quiet_effect M caches None
 effect M rows clock caches (Piece bytes) (Some q) = said_effect M caches (with_piece M.protocol q.endpoint bytes) q.out
-effect M rows clock caches Act None = record { caches = caches; connection = None }
+effect M rows clock caches Act None = quiet_effect M caches None
 effect M rows clock caches Act (Some q) = turn_effect M clock caches q.out (turn M.protocol rows q.endpoint)
-effect M rows clock caches Shut None = record { caches = caches; connection = None }
+effect M rows clock caches Shut None = quiet_effect M caches None
 effect M rows clock caches Shut (Some q) = said_effect M caches (shut_endpoint M.protocol q.endpoint) q.out
 
 -- a user's cache advanced to the clock
@@ -102,40 +116,45 @@ step M rows w (On c x) = world_with M w.clock w.connections c (effect M rows w.c
 step M rows w (Tick m) = record w { clock = max w.clock m }
 step M rows w (Maintain user limit) = record w { caches = maintained M w.clock w.caches user (user_at w.caches user) }
 
+-- the calls that a step makes: a connection's makes one at most, and no other makes any
+abbrev pub calls_of : (M : Machine) → List M.protocol.Row → World M → Step → List (Event M.Command M.Outcome)
+calls_of M rows w (On c x) = (effect M rows w.clock w.caches x (numbered c w.connections)).calls
+calls_of M rows w (Tick m) = []
+calls_of M rows w (Maintain user limit) = []
+
+-- what steps come to: the state that they lead to, and the calls that they made on the way, in order
+pub record Course (M : Machine) : Type 0 where
+  pub world : World M
+  pub history : List (Event M.Command M.Outcome)
+
+-- a course with these calls before its own
+abbrev pub behind_calls : {M : Machine} → List (Event M.Command M.Outcome) → Course M → Course M
+behind_calls calls r = record { world = r.world; history = calls ++ r.history }
+
 -- steps, one after another
+abbrev pub course_from : (M : Machine) → List M.protocol.Row → World M → List Step → Course M
+course_from M rows w [] = record { world = w; history = [] }
+course_from M rows w (x ∷ xs) = behind_calls (calls_of M rows w x) (course_from M rows (step M rows w x) xs)
+
+-- the state that steps lead to
 abbrev pub steps_from : (M : Machine) → List M.protocol.Row → World M → List Step → World M
-steps_from M rows w [] = w
-steps_from M rows w (x ∷ xs) = steps_from M rows (step M rows w x) xs
+steps_from M rows w xs = (course_from M rows w xs).world
 
 -- a fresh cache for each row, no connection, and the clock at 0
 abbrev pub first_world : (M : Machine) → List M.protocol.Row → World M
 first_world M rows = record { clock = 0; caches = map M.fresh rows; connections = [] }
 
 -- all steps, from the beginning
-abbrev pub run : (M : Machine) → List M.protocol.Row → List Step → World M
-run M rows xs = steps_from M rows (first_world M rows) xs
+abbrev pub run : (M : Machine) → List M.protocol.Row → List Step → Course M
+run M rows xs = course_from M rows (first_world M rows) xs
 
 -- the machine with the one row alone
-abbrev pub solo : (M : Machine) → M.protocol.Row → List Step → World M
+abbrev pub solo : (M : Machine) → M.protocol.Row → List Step → Course M
 solo M row xs = run M (row ∷ []) xs
 
--- what one connection was sent, and whether it is closed
-pub record Output : Type 0 where
-  pub connection : ℕ
-  pub closed : Bool
-  pub bytes : List ℕ
-
--- a connection's output
-abbrev pub output_of : {M : Machine} → ℕ × Connection M → Output
-output_of e = record { connection = e.0; closed = is_closed e.1.endpoint.phase; bytes = e.1.out }
-
--- what each opened connection was sent, by rising number
-abbrev pub outputs : (M : Machine) → World M → List Output
-outputs M w = map output_of w.connections
-
 -- whether a connection is closed and what it was sent, if it was opened
-abbrev pub sent : (M : Machine) → World M → ℕ → Option (Bool × List ℕ)
-sent M w c = option_map (λ q. (is_closed q.endpoint.phase, q.out)) (numbered c w.connections)
+abbrev pub sent : (M : Machine) → Course M → ℕ → Option (Bool × List ℕ)
+sent M r c = option_map (λ q. (is_closed q.endpoint.phase, q.out)) (numbered c r.world.connections)
 
 -- bound to this user now
 abbrev pub is_bound_to : ℕ → Phase → Bool
@@ -179,39 +198,3 @@ abbrev pub is_of : ℕ → Step → Bool
 is_of c (On d x) = d == c
 is_of c (Tick m) = false
 is_of c (Maintain user limit) = false
-
--- the call that a request makes, at the clock
-abbrev pub call_event : (M : Machine) → ℕ → M.Command → Option M.cache.State → List (Event M.Command M.Outcome)
-call_event M clock command None = []
-call_event M clock command (Some k) = record { moment = clock; command = command; outcome = (M.cache.act k clock command).0 } ∷ []
-
--- by what the request wants
-abbrev pub want_event : (M : Machine) → ℕ → List M.cache.State → Want M.Command → List (Event M.Command M.Outcome)
-want_event M clock caches Nothing = []
-want_event M clock caches Said = []
-want_event M clock caches (Call user command) = call_event M clock command (user_at caches user)
-want_event M clock caches Close = []
-
--- by what comes to the connection
-abbrev pub happening_event :
-    (M : Machine) → List M.protocol.Row → ℕ → List M.cache.State → Happening → Option (Connection M) → List (Event M.Command M.Outcome)
-happening_event M rows clock caches x None = []
-happening_event M rows clock caches Open (Some q) = []
-happening_event M rows clock caches (Piece bytes) (Some q) = []
-happening_event M rows clock caches Act (Some q) = want_event M clock caches (turn M.protocol rows q.endpoint).want
-happening_event M rows clock caches Shut (Some q) = []
-
--- the call that a step makes, if it makes one
-abbrev pub step_event : (M : Machine) → List M.protocol.Row → World M → Step → List (Event M.Command M.Outcome)
-step_event M rows w (On c x) = happening_event M rows w.clock w.caches x (numbered c w.connections)
-step_event M rows w (Tick m) = []
-step_event M rows w (Maintain user limit) = []
-
--- the calls of these steps
-abbrev pub history_from : (M : Machine) → List M.protocol.Row → World M → List Step → List (Event M.Command M.Outcome)
-history_from M rows w [] = []
-history_from M rows w (x ∷ xs) = step_event M rows w x ++ history_from M rows (step M rows w x) xs
-
--- the history of one user's machine
-abbrev pub history : (M : Machine) → M.protocol.Row → List Step → List (Event M.Command M.Outcome)
-history M row xs = history_from M (row ∷ []) (first_world M (row ∷ [])) xs

@@ -26,4 +26,4 @@ plan_steps p = flat_map steps_of p.actions
 
 -- what connections are sent: what the server's machine sends them on the plan's steps, by rising number
 abbrev pub outputs_for : Plan → List Output
-outputs_for p = map output_of (run serving p.users (plan_steps p)).connections
+outputs_for p = map output_of (run serving p.users (plan_steps p)).world.connections

@@ -4,14 +4,15 @@ ghost use Rattle.std.specs.List.{flat_map};
 ghost use Rattle.tc_model.specs.Connection.{Act as ActHappening};
 ghost use Rattle.tc_model.specs.Server.{steps_from, On};
 ghost use Rattle.tc_core.specs.Serving.{serving};
-ghost use Rattle.tc_script.specs.Playing.{steps_of, outputs_for};
+ghost use Rattle.tc_core.specs.Sending.{IsPromised};
+ghost use Rattle.tc_script.specs.Playing.{steps_of, plan_steps, outputs_for};
 
 use crate::action::Action;
 use crate::script::Script;
 use std::alloc::Global;
 use tc_core::{Outputs, Server, Step, fresh_caches};
 use tc_item::NoMemory;
-use tc_plain::Cache;
+use tc_plain::{Cache, advancing, freshness};
 
 /// A byte so many times over.
 fn filled(alloc: Global, count: u32, byte: u8) -> Result<Vec<u8>, NoMemory>
@@ -74,14 +75,26 @@ fn perform_all<C: Cache>(
     Ok(())
 }
 
-/// Does what a script asks for, from the beginning, each user with an empty cache, and gives what
-/// each connection was sent. It stops at the first refusal of memory.
-pub fn play(alloc: Global, script: Script) -> Result<Outputs, NoMemory>
-    ensures outputs { IfOk result (λ outputs. outputs ≡ outputs_for script) }
+/// What connections are sent on all of a script's steps, from the beginning.
+fn play_all(alloc: Global, script: Script) -> Result<Outputs, NoMemory>
+    ensures { IfOk result (λ outputs. outputs ≡ outputs_for script) }
 {
     let (users, actions) = script.into_parts();
     let caches = fresh_caches(alloc, &users)?;
     let mut server = Server::new(alloc, users, caches);
     perform_all(&mut server, alloc, &actions)?;
     server.outputs(alloc)
+}
+
+/// Does what a script asks for, from the beginning, each user with an empty cache, and gives what
+/// each connection was sent. It stops at the first refusal of memory.
+///
+/// Of that all is promised that `tc_core::run` promises of steps: it is what the server's machine sends
+/// (`sent`), each user's connections are sent what that user's machine alone sends (`isolated`), and so on.
+pub fn play(alloc: Global, script: Script) -> Result<Outputs, NoMemory>
+    ensures promised { IfOk result (λ outputs. IsPromised script.users (plan_steps script) outputs) }
+{
+    advancing();
+    freshness();
+    play_all(alloc, script)
 }

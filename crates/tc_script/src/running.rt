@@ -1,9 +1,9 @@
 //! A script from a reader, run, and printed to a writer.
-ghost use Rattle.std.specs.Prelude.{◌≡◌, IfSome, IfOk, IfErr, OnOk};
+ghost use Rattle.std.specs.Prelude.{◌≡◌, IfSome, IfOk, IfErr, OnOk, OnErr};
 ghost use Rattle.std.specs.Io.KnownBytes.{Appends};
 ghost use Rattle.tc_script.specs.Plans.{reading_of};
 ghost use Rattle.tc_script.specs.Refusing.{IsFaultOf};
-ghost use Rattle.tc_script.specs.Answering.{ended_of, IsPrintOf, IsUnread, IsEndOf, IsUnwritten};
+ghost use Rattle.tc_script.specs.Answering.{ended_of, IsPrintOf, IsBegun, IsUnread, IsEndOf, IsUnwritten};
 
 use crate::playing::play;
 use crate::printing::print;
@@ -20,7 +20,7 @@ pub enum Ended {
     BadLine(u64),
     /// Memory was refused. Nothing was written.
     NoMemory,
-    /// Reading or writing failed; part of the output may be written.
+    /// Reading failed, and nothing was written; or writing failed, and a front of the output is written.
     Stream,
 }
 
@@ -57,12 +57,24 @@ fn run_text(alloc: Global, text: &[u8]) -> Result<Vec<u8>, ScriptFault>
     Ok(print(alloc, &outputs)?)
 }
 
-/// Writes all bytes, down to where the writer writes to.
+/// Writes all bytes, down to where the writer writes to. Where that fails a front of them is written.
 fn write_out<W: Write>(out: &mut W, text: &[u8]) -> io::Result<()>
-    ensures { OnOk result (Appends (W.contents out.old) (W.contents out.new) text.now) }
+    ensures written { OnOk result (Appends (W.contents out.old) (W.contents out.new) text.now) }
+    ensures begun { OnErr result (IsBegun text.now (W.contents out.old) (W.contents out.new)) }
 {
-    out.write_all(text)?;
-    out.flush()
+    let mut rest = text;
+    for _ in 0..u64::MAX {
+        if rest.is_empty() {
+            return out.flush();
+        }
+        match out.write(rest) {
+            Ok(0) => return Err(ErrorKind::WriteZero.into()),
+            Ok(n) => rest = &rest[n..],
+            Err(error) if error.kind() == ErrorKind::Interrupted => {}
+            Err(error) => return Err(error),
+        }
+    }
+    Err(ErrorKind::Interrupted.into())
 }
 
 /// Reads a script, runs it on a server of its own from the beginning, and writes a line for each

@@ -1,6 +1,6 @@
-use Rattle.std.proofs.Common.{arith, inl, inr, ⊎_elim}
+use Rattle.std.proofs.Common.{arith}
 use Rattle.std.proofs.lemmas.Result.{on_ok_weaker, on_err_weaker}
-use Rattle.tc_core.proofs.Calls.{call_effect-caches, call_effect-connection, caches-same}
+use Rattle.tc_core.proofs.Calls.{call_effect-caches, call_effect-connection, call-refused}
 use Rattle.tc_core.proofs.doing.call.Goals as goal
 
 pub returns-clause-caches : goal.returns-clause-caches
@@ -17,10 +17,9 @@ returns-clause-connection g c =
     (call_effect-connection g.C.Cache.settled c.args.caches.now.items c.number-number.result c.index_mut-cache.result.now c.args.clock c.args.command.now c.args.session.now.endpoint c.args.session.now.out c.index_mut-cache.ensures.value (omega arith) (omega (arith, c.args.caches.now.ok.0)) (record { endpoint = c.call_one.new.session.endpoint; out = c.call_one.new.session.out }) c.call_one.ensures.endpoint)
     c.call_one.ensures.said)
 
-pub returns-clause-caches_on_err : goal.returns-clause-caches_on_err
-returns-clause-caches_on_err g c =
+pub returns-clause-refused : goal.returns-clause-refused
+returns-clause-refused g c =
     rw (← c.number-number.ensures)
-    (on_err_weaker c.call_one.result (⊎_elim
-    (λ e. inl (caches-same g.C.Cache.settled c.args.caches.now.items _ c.index_mut-cache.result.now c.call_one.new.cache c.index_mut-cache.ensures.value e))
-    (λ e. inr (call_effect-caches g.C.Cache.settled c.args.caches.now.items c.number-number.result c.index_mut-cache.result.now c.args.clock c.args.command.now c.args.session.now.endpoint c.args.session.now.out c.index_mut-cache.ensures.value (omega arith) (omega (arith, c.args.caches.now.ok.0)) c.call_one.new.cache e)))
-    c.call_one.ensures.cache_on_err)
+    (on_err_weaker c.call_one.result
+    (call-refused g.C.Cache.settled c.args.caches.now.items c.number-number.result c.index_mut-cache.result.now c.args.clock c.args.command.now c.args.session.now.endpoint c.args.session.now.out c.index_mut-cache.ensures.value (omega arith) (omega (arith, c.args.caches.now.ok.0)) c.call_one.new.cache)
+    c.call_one.ensures.left)

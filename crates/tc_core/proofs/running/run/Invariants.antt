@@ -9,5 +9,5 @@ use Rattle.tc_core.proofs.running.run.Given as goal
 abbrev pub invariant-loop-step : goal.invariant-loop-step
 invariant-loop-step g l = record {
   users : l.server.users ≡ l.fn.users;
-  rest : steps_from serving l.fn.users l.server.world (map step_of (drop l.step-index l.steps)) ≡ run serving l.fn.users (map step_of l.steps);
+  rest : steps_from serving l.fn.users l.server.world (map step_of (drop l.step-index l.steps)) ≡ (run serving l.fn.users (map step_of l.steps)).world;
 }
