@@ -1,9 +1,8 @@
 -- Settle moves and drops, and makes nothing and loses nothing: what is left and what was dropped is what there was.
-use Rattle.std.specs.Prelude.{sum_by, nat_lt, reverse, take, ◌==◌}
+use Rattle.std.specs.Prelude.{sum_by, nat_lt, reverse}
 use Rattle.std.specs.List.{list_all}
-use Rattle.std.proofs.Common.{◌≡◌, ℕ, zero, suc, ◌+◌, ◌-◌, Bool, true, false, cond, List, [], ◌∷◌, ◌++◌, length, refl, sym, ◌∙◌, ap, arith}
-use Rattle.std.proofs.lemmas.List.{reverse-append, reverse-reverse, length-reverse, take-append-le, take_all}
-use Rattle.std.proofs.lemmas.List.Sums.{sum_by-cons, sum_by-append, sum_by-take-le}
+use Rattle.std.proofs.Common.{◌≡◌, ℕ, ◌+◌, ◌-◌, Bool, true, false, cond, List, [], ◌∷◌, length, refl, ap, arith}
+use Rattle.std.proofs.lemmas.List.Sums.{sum_by-cons, sum_by-append}
 use Rattle.tc_model.specs.Areas.{Areas, Limits, Settled, fitting, beyond, shortest, main_weight, demoted, without_last, from_tail, trimmed, victims, entered, admitted, all_admitted, narrowed, settle, total}
 use Rattle.tc_model.proofs.Within.{sum-reverse, sum-without_last, shortest-take}
 use Rattle.tc_model.proofs.Totals.{parts, total-demoted}

@@ -3,7 +3,7 @@ use Rattle.std.specs.Prelude.{slice_index, map}
 use Rattle.std.proofs.Common.{◌≡◌, ℕ, zero, suc, ◌+◌, ◌-◌, ◌<◌, List, [], ◌∷◌, ◌++◌, length, refl, sym, ◌∙◌, ap, subst, arith, append_assoc}
 use Rattle.std.proofs.lemmas.List.{append-nil}
 use Rattle.tc_model.specs.Areas.{Areas}
-use Rattle.tc_model.specs.Ring.{AreBelow, walk}
+use Rattle.tc_model.specs.Ring.{walk}
 use Rattle.tc_model.proofs.Every.{Every}
 use Rattle.tc_slru.specs.Links.{Links}
 use Rattle.tc_slru.specs.Sizes.{size_in}

@@ -1,4 +1,4 @@
-use Rattle.std.proofs.Common.{◌+◌, ◌-◌, ◌∙◌, sym, ap, subst, arith}
+use Rattle.std.proofs.Common.{◌+◌, ◌-◌, sym, ap, subst, arith}
 use Rattle.tc_slru.specs.InAreas.{list_in}
 use Rattle.tc_slru.specs.declared.area.Size.{Size}
 use Rattle.tc_slru.proofs.Read.{IsRead, read_starts, read_place, read_goes, read_ends}
