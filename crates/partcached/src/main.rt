@@ -9,11 +9,12 @@ mod preparing;
 
 use crate::asking::{Asked, Unasked, parse};
 use crate::preparing::{Unready, prepare};
+use std::hash::RandomState;
 use std::marker::Brand;
 use std::process::ExitCode;
 use std::{env, io};
 use tc_net::{Unserved, serve};
-use tc_plain::Plain;
+use tc_partition::Fast;
 use tc_script::{Ended, run_script};
 
 /// What the command line asks for.
@@ -22,7 +23,7 @@ fn asked(rt: &HostRuntime) -> Result<Asked, Unasked> {
     parse(rt.alloc(), words.as_slice())
 }
 
-/// The exit status of a program that memory or a thread was refused.
+/// The exit status of a program that memory, a thread or random words were refused.
 fn report_no_memory(rt: &HostRuntime) -> io::Result<u8> {
     eprintln!(rt; "partcached: out of memory")?;
     Ok(5)
@@ -42,6 +43,14 @@ fn report_run(rt: &HostRuntime, ended: Ended) -> io::Result<u8> {
             Ok(6)
         }
     }
+}
+
+/// Runs the script on standard input.
+fn run(rt: &HostRuntime) -> Ended {
+    let Ok(hasher) = RandomState::new(rt) else {
+        return Ended::NoMemory;
+    };
+    run_script::<Fast, _, _>(rt.alloc(), hasher, &mut rt.stdin(), &mut rt.stdout())
 }
 
 /// The exit status of a server that could not begin, and its line.
@@ -88,14 +97,11 @@ fn report_unasked(rt: &HostRuntime, unasked: Unasked) -> io::Result<u8> {
 
 fn main(rt: HostRuntime) -> io::Result<ExitCode> {
     let status = match asked(&rt) {
-        Ok(Asked::Run) => {
-            let ended = run_script(rt.alloc(), &mut rt.stdin(), &mut rt.stdout());
-            report_run(&rt, ended)?
-        }
+        Ok(Asked::Run) => report_run(&rt, run(&rt))?,
         Ok(Asked::Serve { config, until }) => match prepare(&rt, config.as_str()) {
             Ok(beginning) => {
                 let until = until.map(u64::from);
-                let ended = serve::<Plain, Brand, HostRuntime>(&rt, rt.alloc(), beginning, until);
+                let ended = serve::<Fast, Brand, HostRuntime>(&rt, rt.alloc(), beginning, until);
                 report_served(&rt, ended)?
             }
             Err(unready) => report_unready(&rt, unready)?,

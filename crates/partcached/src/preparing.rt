@@ -1,11 +1,12 @@
 //! What a server begins with: its settings, an empty cache for each user, and the hall's table.
 use std::alloc::AllocError;
+use std::hash::RandomState;
 use std::{fs, io};
-use tc_fresh::fresh_caches;
 use tc_item::NoMemory;
+use tc_kinds::begin_all;
 use tc_locked::Opened;
 use tc_net::Beginning;
-use tc_plain::Plain;
+use tc_partition::Fast;
 use tc_users::{Settings, SettingsFault};
 
 /// Why there is no server to begin.
@@ -15,6 +16,7 @@ pub enum Unready {
     Unreadable,
     /// The settings are refused, by the number of their fault.
     Refused(u8),
+    /// Memory or random words were refused.
     NoMemory,
 }
 
@@ -46,11 +48,14 @@ impl From<AllocError> for Unready {
 }
 
 /// Makes what the settings in a file ask for.
-pub fn prepare(rt: &HostRuntime, config: &str) -> Result<Beginning<Plain>, Unready> {
+pub fn prepare(rt: &HostRuntime, config: &str) -> Result<Beginning<Fast>, Unready> {
     let alloc = rt.alloc();
     let text = fs::read_to_string(rt, config)?;
     let settings = Settings::from_toml(alloc, text.as_str())?;
-    let caches = fresh_caches(alloc, &settings.users)?;
+    let Ok(hasher) = RandomState::new(rt) else {
+        return Err(Unready::NoMemory);
+    };
+    let caches = begin_all::<Fast>(alloc, &settings.users, hasher)?;
     let opened = Opened::new(alloc)?;
     Ok(Beginning {
         settings,

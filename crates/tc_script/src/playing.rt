@@ -10,8 +10,10 @@ ghost use Rattle.tc_script.specs.Playing.{steps_of, plan_steps, outputs_for};
 use crate::action::Action;
 use crate::script::Script;
 use std::alloc::Global;
-use tc_core::{Outputs, Server, Step, fresh_caches};
+use std::hash::RandomState;
+use tc_core::{Outputs, Server, Step};
 use tc_item::NoMemory;
+use tc_kinds::{Kind, begin_all};
 use tc_plain::{Cache, advancing, freshness};
 
 /// A byte so many times over.
@@ -76,25 +78,33 @@ fn perform_all<C: Cache>(
 }
 
 /// What connections are sent on all of a script's steps, from the beginning.
-fn play_all(alloc: Global, script: Script) -> Result<Outputs, NoMemory>
+fn play_all<C: Kind>(
+    alloc: Global,
+    hasher: RandomState,
+    script: Script,
+) -> Result<Outputs, NoMemory>
     ensures { IfOk result (λ outputs. outputs ≡ outputs_for script) }
 {
     let (users, actions) = script.into_parts();
-    let caches = fresh_caches(alloc, &users)?;
+    let caches = begin_all::<C>(alloc, &users, hasher)?;
     let mut server = Server::new(alloc, users, caches);
     perform_all(&mut server, alloc, &actions)?;
     server.outputs(alloc)
 }
 
-/// Does what a script asks for, from the beginning, each user with an empty cache, and gives what
-/// each connection was sent. It stops at the first refusal of memory.
+/// Does what a script asks for, from the beginning, each user with an empty cache of the kind, and
+/// gives what each connection was sent. It stops at the first refusal of memory.
 ///
 /// Of that all is promised that `tc_core::run` promises of steps: it is what the server's machine sends
 /// (`sent`), each user's connections are sent what that user's machine alone sends (`isolated`), and so on.
-pub fn play(alloc: Global, script: Script) -> Result<Outputs, NoMemory>
+pub fn play<C: Kind>(
+    alloc: Global,
+    hasher: RandomState,
+    script: Script,
+) -> Result<Outputs, NoMemory>
     ensures promised { IfOk result (λ outputs. IsPromised script.users (plan_steps script) outputs) }
 {
     advancing();
     freshness();
-    play_all(alloc, script)
+    play_all::<C>(alloc, hasher, script)
 }

@@ -9,7 +9,9 @@ use crate::playing::play;
 use crate::printing::print;
 use crate::script::{Script, ScriptFault};
 use std::alloc::Global;
+use std::hash::RandomState;
 use std::io::{self, ErrorKind, Read, Write};
+use tc_kinds::Kind;
 
 /// How the run of a script ends.
 #[derive(Clone, Copy, Debug, PartialEq, Eq)]
@@ -48,12 +50,16 @@ fn read_all<R: Read>(alloc: Global, input: &mut R) -> Result<Vec<u8>, Ended>
 }
 
 /// What the run of a script prints.
-fn run_text(alloc: Global, text: &[u8]) -> Result<Vec<u8>, ScriptFault>
+fn run_text<C: Kind>(
+    alloc: Global,
+    hasher: RandomState,
+    text: &[u8],
+) -> Result<Vec<u8>, ScriptFault>
     ensures printed { IfOk result (λ printed. IsPrintOf text.now printed.items) }
     ensures fault { IfErr result (IsFaultOf (reading_of text.now)) }
 {
     let script = Script::read(alloc, text)?;
-    let outputs = play(alloc, script)?;
+    let outputs = play::<C>(alloc, hasher, script)?;
     Ok(print(alloc, &outputs)?)
 }
 
@@ -77,9 +83,16 @@ fn write_out<W: Write>(out: &mut W, text: &[u8]) -> io::Result<()>
     Err(ErrorKind::Interrupted.into())
 }
 
-/// Reads a script, runs it on a server of its own from the beginning, and writes a line for each
-/// opened connection, by rising number: `conn <c> <open|closed> =<all bytes sent, escaped>`.
-pub fn run_script<R: Read, W: Write>(alloc: Global, input: &mut R, out: &mut W) -> Ended
+/// Reads a script, runs it on a server of its own from the beginning, each user with a cache of the
+/// kind, and writes a line for each opened connection, by rising number:
+/// `conn <c> <open|closed> =<all bytes sent, escaped>`. What is written is the same for each kind and
+/// each hasher.
+pub fn run_script<C: Kind, R: Read, W: Write>(
+    alloc: Global,
+    hasher: RandomState,
+    input: &mut R,
+    out: &mut W,
+) -> Ended
     ensures ended { IfSome (R.remaining input.old) (λ text. IsEndOf text (W.contents out.old) (W.contents out.new) result) }
     ensures unwritten { IsUnwritten (W.contents out.old) (W.contents out.new) result }
 {
@@ -87,7 +100,7 @@ pub fn run_script<R: Read, W: Write>(alloc: Global, input: &mut R, out: &mut W) 
         Ok(text) => text,
         Err(ended) => return ended,
     };
-    match run_text(alloc, &text) {
+    match run_text::<C>(alloc, hasher, &text) {
         Err(fault) => ended_by(fault),
         Ok(printed) => match write_out(out, &printed) {
             Ok(()) => Ended::Done,

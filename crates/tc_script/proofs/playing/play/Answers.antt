@@ -9,7 +9,7 @@ use Rattle.tc_script.specs.Playing.{plan_steps, outputs_for}
 use Rattle.tc_script.proofs.playing.play.Goals as goal
 
 pub returns : goal.returns
-returns c =
+returns g c =
     let script = c.args.script in
     let steps = plan_steps script in
     let kept = is_promised script.users steps (run serving script.users steps).world refl c.freshness.ensures c.advancing.ensures.twice c.advancing.ensures.first in
