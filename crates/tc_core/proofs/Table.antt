@@ -11,8 +11,8 @@ use Rattle.tc_users.specs.declared.users.UserSpec.{UserSpec}
 use Rattle.tc_plain.specs.UserCache.{UserCache}
 use Rattle.tc_session.specs.Linked.{Linked}
 use Rattle.tc_session.specs.Talking.{talking}
-use Rattle.tc_core.specs.declared.step.Event.{Event}
-use Rattle.tc_core.specs.declared.step.Event.TheVariants.{Open as OpenEvent, Piece as PieceEvent, Act as ActEvent, Shut as ShutEvent}
+use Rattle.tc_core.specs.declared.step.Happening.{Happening as HappeningCode}
+use Rattle.tc_core.specs.declared.step.Happening.TheVariants.{Open as IsOpen, Piece as IsPiece, Act as IsAct, Shut as IsShut}
 use Rattle.tc_core.specs.Serving.{serving}
 use Rattle.tc_core.specs.Steps.{connection_of, numbered_of, happening_of}
 use Rattle.tc_core.specs.Refused.{IsRefusedThere, IsRefusedOn, There}
@@ -38,11 +38,11 @@ module _ (rows : List UserSpec) (clock c : ℕ) (caches : List UserCache) (es : 
   there-refused s caches' later e h = There (connection_of was) (connection_of s) here h (written s later e)
 
 -- nothing but opening is done where there is no connection
-effect-absent : (rows : List UserSpec) (clock : ℕ) (caches : List UserCache) (x : Event) → (x ≡ OpenEvent → ⊥) → effect serving rows clock caches (happening_of x) None ≡ quiet_effect serving caches None
-effect-absent rows clock caches OpenEvent ne = absurd (ne refl)
-effect-absent rows clock caches (PieceEvent bytes) ne = refl
-effect-absent rows clock caches ActEvent ne = refl
-effect-absent rows clock caches ShutEvent ne = refl
+effect-absent : (rows : List UserSpec) (clock : ℕ) (caches : List UserCache) (x : HappeningCode) → (x ≡ IsOpen → ⊥) → effect serving rows clock caches (happening_of x) None ≡ quiet_effect serving caches None
+effect-absent rows clock caches IsOpen ne = absurd (ne refl)
+effect-absent rows clock caches (IsPiece bytes) ne = refl
+effect-absent rows clock caches IsAct ne = refl
+effect-absent rows clock caches IsShut ne = refl
 
 -- a step where there is no connection
 module _ (rows : List UserSpec) (clock c : ℕ) (caches : List UserCache) (es : List (ℕ × Linked)) (none : lookup (is_at (nat_cmp c)) es ≡ None) where
@@ -59,10 +59,10 @@ module _ (rows : List UserSpec) (clock c : ℕ) (caches : List UserCache) (es : 
       ap (map numbered_of) e ∙ with_numbered-insert c s es ∙ ap (λ q. with_numbered c q (map numbered_of es)) fresh
       ∙ sym (ap (λ o. with_some c (effect serving rows clock caches Open o).connection (map numbered_of es)) nothing)
 
-  pub absent-caches : (x : Event) → (x ≡ OpenEvent → ⊥) → caches ≡ (effect serving rows clock caches (happening_of x) (numbered c (map numbered_of es))).caches
+  pub absent-caches : (x : HappeningCode) → (x ≡ IsOpen → ⊥) → caches ≡ (effect serving rows clock caches (happening_of x) (numbered c (map numbered_of es))).caches
   absent-caches x ne = sym (ap (λ o. (effect serving rows clock caches (happening_of x) o).caches) nothing ∙ ap (λ (d : Effect serving). d.caches) (effect-absent rows clock caches x ne))
 
-  pub absent-connections : (x : Event) (later : List (ℕ × Linked)) → later ≡ es → (x ≡ OpenEvent → ⊥) → map numbered_of later ≡ with_some c (effect serving rows clock caches (happening_of x) (numbered c (map numbered_of es))).connection (map numbered_of es)
+  pub absent-connections : (x : HappeningCode) (later : List (ℕ × Linked)) → later ≡ es → (x ≡ IsOpen → ⊥) → map numbered_of later ≡ with_some c (effect serving rows clock caches (happening_of x) (numbered c (map numbered_of es))).connection (map numbered_of es)
   absent-connections x later e ne =
       ap (map numbered_of) e
       ∙ sym (ap (λ o. with_some c (effect serving rows clock caches (happening_of x) o).connection (map numbered_of es)) nothing ∙ ap (λ (d : Effect serving). with_some c d.connection (map numbered_of es)) (effect-absent rows clock caches x ne))

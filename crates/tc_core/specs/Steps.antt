@@ -4,24 +4,21 @@ use Rattle.tc_model.specs.Connection.{Happening, Open, Piece, Act, Shut}
 use Rattle.tc_model.specs.Server.{Connection, Step, On, Tick, Maintain}
 use Rattle.tc_session.specs.Linked.{Linked}
 use Rattle.tc_core.specs.declared.step.Step.{Step as StepCode}
-use Rattle.tc_core.specs.declared.step.Step.TheVariants.{Open as OpenStep, Piece as PieceStep, Act as ActStep, Shut as ShutStep, Tick as TickStep, Maintain as MaintainStep}
-use Rattle.tc_core.specs.declared.step.Event.{Event}
-use Rattle.tc_core.specs.declared.step.Event.TheVariants.{Open as OpenEvent, Piece as PieceEvent, Act as ActEvent, Shut as ShutEvent}
+use Rattle.tc_core.specs.declared.step.Step.TheVariants.{On as OnStep, Tick as TickStep, Maintain as MaintainStep}
+use Rattle.tc_core.specs.declared.step.Happening.{Happening as HappeningCode}
+use Rattle.tc_core.specs.declared.step.Happening.TheVariants.{Open as IsOpen, Piece as IsPiece, Act as IsAct, Shut as IsShut}
 use Rattle.tc_core.specs.Serving.{serving}
 
 -- what comes to a connection
-abbrev pub happening_of : Event → Happening
-happening_of OpenEvent = Open
-happening_of (PieceEvent bytes) = Piece bytes.now
-happening_of ActEvent = Act
-happening_of ShutEvent = Shut
+abbrev pub happening_of : HappeningCode → Happening
+happening_of IsOpen = Open
+happening_of (IsPiece bytes) = Piece bytes.now
+happening_of IsAct = Act
+happening_of IsShut = Shut
 
 -- a step of the machine
 abbrev pub step_of : StepCode → Step
-step_of (OpenStep c) = On c Open
-step_of (PieceStep c bytes) = On c (Piece bytes.now)
-step_of (ActStep c) = On c Act
-step_of (ShutStep c) = On c Shut
+step_of (OnStep c x) = On c (happening_of x)
 step_of (TickStep moment) = Tick moment
 step_of (MaintainStep user limit) = Maintain user limit
 

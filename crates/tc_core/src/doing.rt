@@ -9,7 +9,7 @@ ghost use Rattle.tc_core.specs.Serving.{serving};
 ghost use Rattle.tc_core.specs.Steps.{connection_of, numbered_of, happening_of};
 ghost use Rattle.tc_core.specs.Refused.{refusal_of, IsLeftOver, IsRefusedCall, IsRefusedAct, IsRefusedThere, IsRefusedOn};
 
-use crate::step::Event;
+use crate::step::{ConnectionNo, Happening};
 use std::alloc::Global;
 use std::collections::BTreeMap;
 use tc_grammar::Command;
@@ -19,7 +19,7 @@ use tc_session::{Session, Want};
 use tc_users::{UserNo, Users};
 
 /// Does a command in one cache, and says its reply.
-fn call_one<C: Cache>(
+fn cache_step<C: Cache>(
     alloc: Global,
     cache: &mut C,
     clock: Moment,
@@ -43,7 +43,7 @@ fn call_one<C: Cache>(
 }
 
 /// Does a user's command, and says its reply.
-fn call<C: Cache>(
+fn call_step<C: Cache>(
     alloc: Global,
     caches: &mut Vec<C>,
     clock: Moment,
@@ -64,11 +64,11 @@ fn call<C: Cache>(
         return Ok(());
     }
     let cache = &mut caches[number - 1];
-    call_one(alloc, cache, clock, session, command)
+    cache_step(alloc, cache, clock, session, command)
 }
 
 /// Does the next request of a connection.
-fn act_on<C: Cache>(
+fn act_step<C: Cache>(
     alloc: Global,
     users: &Users,
     caches: &mut Vec<C>,
@@ -81,28 +81,28 @@ fn act_on<C: Cache>(
 {
     match session.next(alloc, users)? {
         Want::Nothing | Want::Said | Want::Close => Ok(()),
-        Want::Call(user, command) => call(alloc, caches, clock, session, user, &command),
+        Want::Call(user, command) => call_step(alloc, caches, clock, session, user, &command),
     }
 }
 
 /// Does a step of an opened connection.
-fn do_on<C: Cache>(
+fn opened_step<C: Cache>(
     alloc: Global,
     users: &Users,
     caches: &mut Vec<C>,
     clock: Moment,
     session: &mut Session,
-    event: Event,
+    happening: Happening,
 ) -> Result<(), NoMemory>
-    ensures caches { OnOk result (map C.settled caches.new.items ≡ (effect serving users.now clock (map C.settled caches.old.items) (happening_of event.entry) (Some (connection_of session.old))).caches) }
-    ensures connection { OnOk result (Some (connection_of session.new) ≡ (effect serving users.now clock (map C.settled caches.old.items) (happening_of event.entry) (Some (connection_of session.old))).connection) }
-    ensures refused { OnErr result (IsRefusedThere (happening_of event.entry) users.now clock (map C.settled caches.old.items) (connection_of session.old) (map C.settled caches.new.items) (connection_of session.new)) }
+    ensures caches { OnOk result (map C.settled caches.new.items ≡ (effect serving users.now clock (map C.settled caches.old.items) (happening_of happening.entry) (Some (connection_of session.old))).caches) }
+    ensures connection { OnOk result (Some (connection_of session.new) ≡ (effect serving users.now clock (map C.settled caches.old.items) (happening_of happening.entry) (Some (connection_of session.old))).connection) }
+    ensures refused { OnErr result (IsRefusedThere (happening_of happening.entry) users.now clock (map C.settled caches.old.items) (connection_of session.old) (map C.settled caches.new.items) (connection_of session.new)) }
 {
-    match event {
-        Event::Open => Ok(()),
-        Event::Piece(bytes) => session.push(bytes),
-        Event::Act => act_on(alloc, users, caches, clock, session),
-        Event::Shut => {
+    match happening {
+        Happening::Open => Ok(()),
+        Happening::Piece(bytes) => session.push(bytes),
+        Happening::Act => act_step(alloc, users, caches, clock, session),
+        Happening::Shut => {
             session.shut();
             Ok(())
         }
@@ -110,23 +110,23 @@ fn do_on<C: Cache>(
 }
 
 /// Does a step of a connection.
-pub(crate) fn do_for<C: Cache>(
+pub(crate) fn numbered_step<C: Cache>(
     alloc: Global,
     users: &Users,
     caches: &mut Vec<C>,
     clock: Moment,
     sessions: &mut BTreeMap<u32, Session>,
-    number: u32,
-    event: Event,
+    number: ConnectionNo,
+    happening: Happening,
 ) -> Result<(), NoMemory>
-    ensures caches { OnOk result (map C.settled caches.new.items ≡ (effect serving users.now clock (map C.settled caches.old.items) (happening_of event.entry) (numbered number (map numbered_of sessions.old.entries))).caches) }
-    ensures connections { OnOk result (map numbered_of sessions.new.entries ≡ with_some number (effect serving users.now clock (map C.settled caches.old.items) (happening_of event.entry) (numbered number (map numbered_of sessions.old.entries))).connection (map numbered_of sessions.old.entries)) }
-    ensures refused { OnErr result (IsRefusedOn (happening_of event.entry) users.now clock number (map C.settled caches.old.items) (map numbered_of sessions.old.entries) (map C.settled caches.new.items) (map numbered_of sessions.new.entries)) }
+    ensures caches { OnOk result (map C.settled caches.new.items ≡ (effect serving users.now clock (map C.settled caches.old.items) (happening_of happening.entry) (numbered number (map numbered_of sessions.old.entries))).caches) }
+    ensures connections { OnOk result (map numbered_of sessions.new.entries ≡ with_some number (effect serving users.now clock (map C.settled caches.old.items) (happening_of happening.entry) (numbered number (map numbered_of sessions.old.entries))).connection (map numbered_of sessions.old.entries)) }
+    ensures refused { OnErr result (IsRefusedOn (happening_of happening.entry) users.now clock number (map C.settled caches.old.items) (map numbered_of sessions.old.entries) (map C.settled caches.new.items) (map numbered_of sessions.new.entries)) }
 {
     match sessions.get_mut(&number) {
-        Some(session) => do_on(alloc, users, caches, clock, session, event),
+        Some(session) => opened_step(alloc, users, caches, clock, session, happening),
         None => {
-            if let Event::Open = event {
+            if let Happening::Open = happening {
                 sessions.insert(number, Session::new(alloc))?;
             }
             Ok(())

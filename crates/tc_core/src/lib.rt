@@ -16,5 +16,5 @@ mod step;
 pub use outputs::{Output, Outputs, Sent};
 pub use running::run;
 pub use server::Server;
-pub use step::Step;
+pub use step::{ConnectionNo, Happening, Step};
 pub use tc_fresh::fresh_caches;

@@ -3,6 +3,7 @@ ghost use Rattle.std.specs.Prelude.{◌≡◌, map, IfOk};
 ghost use Rattle.tc_core.specs.Steps.{numbered_of};
 ghost use Rattle.tc_core.specs.Sending.{output_of};
 
+use crate::step::ConnectionNo;
 use std::alloc::Global;
 use std::collections::BTreeMap;
 use std::marker::Model;
@@ -43,7 +44,7 @@ impl Sent {
 /// What one connection was sent, and whether it is closed.
 #[derive(Debug, Drop)]
 pub struct Output {
-    pub connection: u32,
+    pub connection: ConnectionNo,
     pub closed: bool,
     pub bytes: Sent,
 }

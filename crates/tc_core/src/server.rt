@@ -7,9 +7,9 @@ ghost use Rattle.tc_core.specs.Steps.{step_of, numbered_of, happening_of};
 ghost use Rattle.tc_core.specs.Refused.{IsRefusedStep};
 ghost use Rattle.tc_core.specs.Sending.{output_of};
 
-use crate::doing::do_for;
+use crate::doing::numbered_step;
 use crate::outputs::{Outputs, outputs_of};
-use crate::step::{Event, Step};
+use crate::step::{ConnectionNo, Happening, Step};
 use std::alloc::Global;
 use std::collections::BTreeMap;
 use std::marker::Model;
@@ -73,10 +73,7 @@ impl<C: Cache> Server<C> {
         ensures refused { OnErr result (IsRefusedStep self.old self.new (step_of step.now)) }
     {
         match step {
-            Step::Open(number) => self.on(alloc, *number, Event::Open),
-            Step::Piece(number, bytes) => self.on(alloc, *number, Event::Piece(bytes)),
-            Step::Act(number) => self.on(alloc, *number, Event::Act),
-            Step::Shut(number) => self.on(alloc, *number, Event::Shut),
+            Step::On(number, happening) => self.connection_step(alloc, *number, *happening),
             Step::Tick(moment) => {
                 self.clock = self.clock.later(*moment);
                 Ok(())
@@ -89,19 +86,24 @@ impl<C: Cache> Server<C> {
     }
 
     /// A step of a connection.
-    fn on(&mut self, alloc: Global, number: u32, event: Event) -> Result<(), NoMemory>
+    fn connection_step(
+        &mut self,
+        alloc: Global,
+        number: ConnectionNo,
+        happening: Happening,
+    ) -> Result<(), NoMemory>
         ensures users { self.new.users ≡ self.old.users }
-        ensures world { OnOk result (self.new.world ≡ machine_step serving self.old.users self.old.world (On number (happening_of event.entry))) }
-        ensures refused { OnErr result (IsRefusedStep self.old self.new (On number (happening_of event.entry))) }
+        ensures world { OnOk result (self.new.world ≡ machine_step serving self.old.users self.old.world (On number (happening_of happening.entry))) }
+        ensures refused { OnErr result (IsRefusedStep self.old self.new (On number (happening_of happening.entry))) }
     {
-        do_for(
+        numbered_step(
             alloc,
             &self.users,
             &mut self.caches,
             self.clock,
             &mut self.sessions,
             number,
-            event,
+            happening,
         )
     }
 

@@ -11,7 +11,7 @@ use crate::action::Action;
 use crate::script::Script;
 use std::alloc::Global;
 use std::hash::RandomState;
-use tc_core::{Outputs, Server, Step};
+use tc_core::{Happening, Outputs, Server, Step};
 use tc_item::NoMemory;
 use tc_kinds::{Kind, begin_all};
 use tc_plain::{Cache, advancing, freshness};
@@ -36,7 +36,7 @@ fn act_often<C: Cache>(
     ensures world { OnOk result (server.new.world ≡ steps_from serving server.old.users server.old.world (replicate count (On connection ActHappening))) }
 {
     for _ in 0..count {
-        server.step(alloc, &Step::Act(connection))?;
+        server.step(alloc, &Step::On(connection, Happening::Act))?;
     }
     Ok(())
 }
@@ -47,16 +47,19 @@ fn perform<C: Cache>(server: &mut Server<C>, alloc: Global, action: &Action) -> 
     ensures world { OnOk result (server.new.world ≡ steps_from serving server.old.users server.old.world (steps_of action.now)) }
 {
     match action {
-        Action::Open(connection) => server.step(alloc, &Step::Open(*connection)),
+        Action::Open(connection) => server.step(alloc, &Step::On(*connection, Happening::Open)),
         Action::Piece(connection, bytes) => {
-            server.step(alloc, &Step::Piece(*connection, bytes.as_bytes()))
+            server.step(
+                alloc,
+                &Step::On(*connection, Happening::Piece(bytes.as_bytes())),
+            )
         }
         Action::Fill(connection, count, byte) => {
             let bytes = filled(alloc, *count, *byte)?;
-            server.step(alloc, &Step::Piece(*connection, &bytes))
+            server.step(alloc, &Step::On(*connection, Happening::Piece(&bytes)))
         }
         Action::Act(connection, count) => act_often(server, alloc, *connection, *count),
-        Action::Shut(connection) => server.step(alloc, &Step::Shut(*connection)),
+        Action::Shut(connection) => server.step(alloc, &Step::On(*connection, Happening::Shut)),
         Action::Tick(moment) => server.step(alloc, &Step::Tick(*moment)),
         Action::Keep(user, limit) => server.step(alloc, &Step::Maintain(*user, *limit)),
     }

@@ -2,7 +2,7 @@
 
 use std::alloc::Global;
 use std::test::Fail;
-use tc_core::{Step, fresh_caches, run};
+use tc_core::{Happening, Step, fresh_caches, run};
 use tc_script::{Script, ScriptFault, print};
 use tc_users::Users;
 
@@ -35,16 +35,16 @@ fn is_isolated(alloc: Global) -> Result<bool, Fail> {
     let text = printed(
         alloc,
         &[
-            Step::Open(7),
-            Step::Open(3),
-            Step::Piece(7, ALICE),
-            Step::Piece(3, BOB),
-            Step::Act(7),
-            Step::Act(7),
-            Step::Act(3),
-            Step::Act(3),
-            Step::Act(3),
-            Step::Act(3),
+            Step::On(7, Happening::Open),
+            Step::On(3, Happening::Open),
+            Step::On(7, Happening::Piece(ALICE)),
+            Step::On(3, Happening::Piece(BOB)),
+            Step::On(7, Happening::Act),
+            Step::On(7, Happening::Act),
+            Step::On(3, Happening::Act),
+            Step::On(3, Happening::Act),
+            Step::On(3, Happening::Act),
+            Step::On(3, Happening::Act),
         ],
     )?;
     Ok(text.as_slice() == PRINTED.as_bytes())

@@ -7,22 +7,22 @@ use Rattle.std.proofs.lemmas.Result.{on_ok_weaker, on_err_weaker}
 use Rattle.tc_session.specs.Linked.{Linked}
 use Rattle.tc_core.proofs.Table.{there-caches, there-connections, there-refused, opened-connections, absent-caches, absent-connections}
 use Rattle.tc_core.specs.Steps.{happening_of}
-use Rattle.tc_core.proofs.doing.do_for.Goals as goal
+use Rattle.tc_core.proofs.doing.numbered_step.Goals as goal
 
 pub returns-in-Some-clause-caches : goal.returns-in-Some-clause-caches
 returns-in-Some-clause-caches g c =
     let at : lookup (is_at (nat_cmp c.args.number)) c.args.sessions.now.entries ≡ Some c.in-Some.session.now = sym (sym (ap option_copied_mut c.in-Some.is) ∙ c.get_mut.ensures.value) in
-    on_ok_weaker c.do_on.result (there-caches c.args.users.now c.args.clock c.args.number _ c.args.sessions.now.entries c.in-Some.session.now (happening_of c.args.event) c.get_mut.ensures.ordered at _) c.do_on.ensures.caches
+    on_ok_weaker c.opened_step.result (there-caches c.args.users.now c.args.clock c.args.number _ c.args.sessions.now.entries c.in-Some.session.now (happening_of c.args.happening) c.get_mut.ensures.ordered at _) c.opened_step.ensures.caches
 
 pub returns-in-Some-clause-connections : goal.returns-in-Some-clause-connections
 returns-in-Some-clause-connections g c =
     let at : lookup (is_at (nat_cmp c.args.number)) c.args.sessions.now.entries ≡ Some c.in-Some.session.now = sym (sym (ap option_copied_mut c.in-Some.is) ∙ c.get_mut.ensures.value) in
-    on_ok_weaker c.do_on.result (there-connections c.args.users.now c.args.clock c.args.number _ c.args.sessions.now.entries c.in-Some.session.now (happening_of c.args.event) c.get_mut.ensures.ordered at c.do_on.new.session _ (c.get_mut.follows.holds c.do_on.new.session).0) c.do_on.ensures.connection
+    on_ok_weaker c.opened_step.result (there-connections c.args.users.now c.args.clock c.args.number _ c.args.sessions.now.entries c.in-Some.session.now (happening_of c.args.happening) c.get_mut.ensures.ordered at c.opened_step.new.session _ (c.get_mut.follows.holds c.opened_step.new.session).0) c.opened_step.ensures.connection
 
 pub returns-in-Some-clause-refused : goal.returns-in-Some-clause-refused
 returns-in-Some-clause-refused g c =
     let at : lookup (is_at (nat_cmp c.args.number)) c.args.sessions.now.entries ≡ Some c.in-Some.session.now = sym (sym (ap option_copied_mut c.in-Some.is) ∙ c.get_mut.ensures.value) in
-    on_err_weaker c.do_on.result (there-refused c.args.users.now c.args.clock c.args.number _ c.args.sessions.now.entries c.in-Some.session.now (happening_of c.args.event) c.get_mut.ensures.ordered at c.do_on.new.session _ _ (c.get_mut.follows.holds c.do_on.new.session).0) c.do_on.ensures.refused
+    on_err_weaker c.opened_step.result (there-refused c.args.users.now c.args.clock c.args.number _ c.args.sessions.now.entries c.in-Some.session.now (happening_of c.args.happening) c.get_mut.ensures.ordered at c.opened_step.new.session _ _ (c.get_mut.follows.holds c.opened_step.new.session).0) c.opened_step.ensures.refused
 
 pub returns-in_ok-insert-in-None-clause-connections : goal.returns-in_ok-insert-in-None-clause-connections
 returns-in_ok-insert-in-None-clause-connections g c =
@@ -37,7 +37,7 @@ returns-in_default g c =
     let none : lookup (is_at (nat_cmp c.args.number)) c.args.sessions.now.entries ≡ None = sym (sym (ap option_copied_mut c.in-None.is) ∙ c.get_mut.ensures.value) in
     let same : c.get_mut.follows.lender-at-none.entries ≡ c.args.sessions.now.entries = ap (λ (m : BTreeMap ℕ Linked). m.entries) c.get_mut.follows.holds-at-none in
     record {
-      caches = absent-caches c.args.users.now c.args.clock c.args.number _ c.args.sessions.now.entries none c.args.event c.in_default.not-Open;
-      connections = absent-connections c.args.users.now c.args.clock c.args.number _ c.args.sessions.now.entries none c.args.event c.get_mut.follows.lender-at-none.entries same c.in_default.not-Open;
+      caches = absent-caches c.args.users.now c.args.clock c.args.number _ c.args.sessions.now.entries none c.args.happening c.in_default.not-Open;
+      connections = absent-connections c.args.users.now c.args.clock c.args.number _ c.args.sessions.now.entries none c.args.happening c.get_mut.follows.lender-at-none.entries same c.in_default.not-Open;
       refused = tt;
     }
