@@ -12,8 +12,11 @@ use std::time::Duration;
 /// The most events of one wait.
 const EVENTS: usize = 16;
 
-/// How many milliseconds the listener waits for a connection before it looks whether it is done.
+/// How many milliseconds the listener waits for a connection before it looks whether enough were closed.
 const WAIT: u64 = 20;
+
+/// The same where it ends by no count: then it ends only where the crew could not start.
+const LONG_WAIT: u64 = 500;
 
 /// The most connections that are taken before it looks whether it is done.
 const BURST: u32 = 1_024;
@@ -105,17 +108,32 @@ impl Listening {
         true
     }
 
+    /// How long it waits for a connection before it looks whether it is done.
+    fn patience(&self) -> Duration {
+        match self.until {
+            Some(_) => Duration::from_millis(WAIT),
+            None => Duration::from_millis(LONG_WAIT),
+        }
+    }
+
+    /// Wakes all workers, so that they learn that no further connection comes.
+    fn wake_workers(&self) {
+        for post in &self.posts {
+            let _ = post.waker.wake();
+        }
+    }
+
     /// Takes connections until enough were closed; then no further one comes.
     pub(crate) fn run<R: Wait>(mut self, rt: &R) {
+        let patience = self.patience();
         for _ in rt.forever() {
             if self.is_done() {
                 break;
             }
-            let _ = self
-                .poll
-                .poll(&mut self.events, Some(Duration::from_millis(WAIT)));
+            let _ = self.poll.poll(&mut self.events, Some(patience));
             self.take_all(rt);
         }
         self.door.end();
+        self.wake_workers();
     }
 }

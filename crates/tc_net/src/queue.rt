@@ -11,7 +11,7 @@ use std::io::ErrorKind;
 use std::net::Net;
 use std::sync::{Arc, Wait};
 use std::time::Duration;
-use tc_workers::{Inlet, Taken};
+use tc_workers::{Inlet, Patience, Taken};
 
 /// The most events of one wait.
 const EVENTS: usize = 256;
@@ -19,8 +19,12 @@ const EVENTS: usize = 256;
 /// The most connections of one worker.
 const PLACES: usize = 1_024;
 
-/// How many milliseconds a worker waits where no connection may have more.
-const WAIT: u64 = 10;
+/// How many milliseconds a worker waits before it tries a connection again, or ends.
+const BRIEF: u64 = 10;
+
+/// How many milliseconds a worker waits where nothing is to be done before it is woken. What wakes it
+/// is an event of its poll; were one lost, it would look by itself after so long.
+const LONG: u64 = 1_000;
 
 /// A worker's inlet.
 #[derive(Drop)]
@@ -95,9 +99,19 @@ impl<R: Wait + Drop> Queue<R> {
         }
     }
 
+    /// How many milliseconds the poll waits.
+    fn wait(&self, patience: Patience) -> u64 {
+        match patience {
+            _ if self.brought => 0,
+            Patience::Hurried => 0,
+            Patience::Long if !self.is_ending => LONG,
+            Patience::Brief | Patience::Long => BRIEF,
+        }
+    }
+
     /// Waits, and puts what the poll said on the board.
-    fn listen(&mut self, may_wait: bool) {
-        let wait = if may_wait && !self.brought { WAIT } else { 0 };
+    fn listen(&mut self, patience: Patience) {
+        let wait = self.wait(patience);
         let _ = self
             .poll
             .poll(&mut self.events, Some(Duration::from_millis(wait)));
@@ -139,8 +153,8 @@ impl<R: Wait + Drop> Queue<R> {
 impl<R: Wait + Drop> Inlet for Queue<R> {
     type Wire = Socket;
 
-    fn take(&mut self, may_wait: bool) -> Taken<Socket> {
-        self.listen(may_wait);
+    fn take(&mut self, patience: Patience) -> Taken<Socket> {
+        self.listen(patience);
         // Asked before the channel, so that no connection is left in it.
         let has_ended = self.door.has_ended();
         let arrival = self.intake.take(&self.rt);

@@ -5,7 +5,7 @@ ghost use Rattle.tc_workers.specs.Crews.{number_of};
 use crate::gate::Gate;
 use crate::keeper::{Keeper, Source};
 use crate::start::{Phase, Start};
-use crate::wire::{Inlet, Taken, Wire};
+use crate::wire::{Inlet, Patience, Taken, Wire};
 use crate::worker::Worker;
 use std::alloc::Global;
 use std::sync::Wait;
@@ -66,9 +66,9 @@ fn work<R: Wait, C: Cache, N: Naming, G: Gate, W: Wire + Drop, I: Inlet<Wire = W
 ) -> Seat<N> {
     if post.start.goes(post.rt) {
         worker.prepare();
-        let mut may_wait = false;
+        let mut patience = Patience::Hurried;
         for _ in post.rt.forever() {
-            match inlet.take(may_wait) {
+            match inlet.take(patience) {
                 Taken::Given(conn, wire) => {
                     // A connection that finds no memory is dropped.
                     let _ = worker.add(conn, wire);
@@ -81,7 +81,7 @@ fn work<R: Wait, C: Cache, N: Naming, G: Gate, W: Wire + Drop, I: Inlet<Wire = W
                 }
             }
             worker.wake_named(&mut inlet);
-            may_wait = !worker.turn(post.rt, post.hall, post.users, post.clock, post.gate);
+            patience = worker.turn(post.rt, post.hall, post.users, post.clock, post.gate);
         }
     }
     post.running.fetch_sub(1, SeqCst);

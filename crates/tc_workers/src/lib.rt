@@ -26,5 +26,5 @@ mod worker;
 pub use crew::{CrewFault, Why, run_crew};
 pub use gate::{Gate, Open, Place};
 pub use keeper::{Keeper, Source};
-pub use wire::{Got, Inlet, Put, Taken, Wire};
+pub use wire::{Got, Inlet, Patience, Put, Taken, Wire};
 pub use worker::Worker;

@@ -2,7 +2,7 @@
 ghost use Rattle.std.specs.Prelude.{◌≡◌, ◌≤◌, true, false, length};
 ghost use Rattle.tc_model.specs.Connection.{is_closed};
 ghost use Rattle.tc_session.specs.Linked.{most_resting};
-ghost use Rattle.tc_workers.specs.Turns.{most_kept};
+ghost use Rattle.tc_workers.specs.Turns.{most_kept, WritesAtMost};
 
 use crate::gate::{Gate, Place};
 use crate::pace::{Onward, Pace};
@@ -83,13 +83,15 @@ impl<W: Wire + Drop> Link<W> {
         self.session.kept()
     }
 
-    /// Reads, does requests and writes.
+    /// Reads, does requests and writes. Each command is one call of the hall, and there are 16 at most.
     pub(crate) fn turn<R: Wait, C: Cache, N: Naming, G: Gate>(
         &mut self,
         service: &Service<'_, R, C, N, G>,
         seat: &mut Seat<N>,
         buffer: &mut [u8],
-    ) -> Onward {
+    ) -> Onward
+        ensures wrote { WritesAtMost 16 seat.old seat.new }
+    {
         let Some(came) = self.read(buffer) else {
             return Onward::Done;
         };
@@ -157,7 +159,9 @@ impl<W: Wire + Drop> Link<W> {
         &mut self,
         service: &Service<'_, R, C, N, G>,
         seat: &mut Seat<N>,
-    ) -> Pace {
+    ) -> Pace
+        ensures wrote { WritesAtMost 16 seat.old seat.new }
+    {
         let mut pace = Pace::Rests;
         for _ in 0..REQUESTS {
             if self.rests || self.session.is_closed() || self.is_full() {
@@ -178,6 +182,7 @@ impl<W: Wire + Drop> Link<W> {
         seat: &mut Seat<N>,
     ) -> bool
         requires { is_closed self.old.session.endpoint.phase ≡ false }
+        ensures wrote { WritesAtMost 1 seat.old seat.new }
     {
         let Ok(want) = self.session.next(service.alloc, service.users) else {
             if self.refused.is_none() {
@@ -195,6 +200,7 @@ impl<W: Wire + Drop> Link<W> {
     }
 
     /// Does one command, and answers it.
+    #[tactic(auto, using(crate::proofs::Writing::wrote_one))]
     fn call<R: Wait, C: Cache, N: Naming, G: Gate>(
         &mut self,
         service: &Service<'_, R, C, N, G>,
@@ -203,6 +209,7 @@ impl<W: Wire + Drop> Link<W> {
         command: &Command,
     )
         requires { 64 ≤ self.old.session.room }
+        ensures wrote { WritesAtMost 1 seat.old seat.new }
     {
         let gate = service.gate;
         gate.pass(user, Place::Before);

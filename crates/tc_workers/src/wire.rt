@@ -55,12 +55,23 @@ pub enum Taken<W> {
     Ended,
 }
 
+/// How long an inlet may wait for something new.
+#[derive(Clone, Copy, Debug, PartialEq, Eq)]
+pub enum Patience {
+    /// Not at all: a connection has more to do.
+    Hurried,
+    /// A moment: a connection is to be tried again.
+    Brief,
+    /// Until something new is there.
+    Long,
+}
+
 /// Where a worker gets its connections, and learns which of them have something to do.
 pub trait Inlet: Drop {
     type Wire: Wire + Drop;
 
-    /// The next connection. It is asked once before each turn, and may wait where it is told so.
-    fn take(&mut self, may_wait: bool) -> Taken<Self::Wire>;
+    /// The next connection. It is asked once before each turn, and waits no longer than it is told.
+    fn take(&mut self, patience: Patience) -> Taken<Self::Wire>;
 
     /// The key of a wire that may be read or written again; each is named once.
     fn woken(&mut self) -> Option<usize>;

@@ -1,14 +1,15 @@
 //! A worker: its connections, and one turn over those that may have something to do.
-ghost use Rattle.std.specs.Prelude.{◌≡◌, ◌≤◌, IfSome, vec_len};
-ghost use Rattle.tc_workers.specs.Turns.{most_kept};
+ghost use Rattle.std.specs.Prelude.{◌≡◌, ◌*◌, ◌≤◌, IfOk, IfErr, IfSome, vec_len};
+ghost use Rattle.tc_workers.specs.Turns.{most_kept, WritesAtMost};
 
 use crate::gate::Gate;
 use crate::link::{Link, PIECE};
 use crate::pace::{Onward, Pace};
 use crate::service::Service;
-use crate::wire::{Inlet, Wire};
+use crate::wire::{Inlet, Patience, Wire};
 use slab::Slab;
 use std::alloc::Global;
+use std::marker::Model;
 use std::sync::Wait;
 use tc_item::NoMemory;
 use tc_locked::{Clock, Hall, Naming, Seat};
@@ -21,7 +22,8 @@ const FIRST_ROOM: usize = 16;
 /// The most keys that are taken from the inlet before a turn.
 const MOST_WOKEN: u32 = 1_024;
 
-/// Connections, and the seat by which their commands are done.
+/// Connections, and the seat by which their commands are done, seen as that seat and how many
+/// connections the next turn goes over.
 #[derive(Drop)]
 pub struct Worker<W: Wire + Drop, N: Naming> {
     alloc: Global,
@@ -33,9 +35,21 @@ pub struct Worker<W: Wire + Drop, N: Naming> {
     buffer: Vec<u8>,
 }
 
+impl<W: Wire + Drop, N: Naming> Model for Worker<W, N> {
+    ghost use Rattle.std.specs.Prelude.{vec_len};
+    ghost use Rattle.tc_workers.specs.Turns.{WorkerState};
+
+    ghost Value = { WorkerState };
+
+    ghost view = { λ w. record { seat = w.seat; due = vec_len w.listed } };
+}
+
 impl<W: Wire + Drop, N: Naming> Worker<W, N> {
     /// A worker with no connection. Where memory is refused, the seat comes back.
-    pub fn new(alloc: Global, seat: Seat<N>) -> Result<Worker<W, N>, (Seat<N>, NoMemory)> {
+    pub fn new(alloc: Global, seat: Seat<N>) -> Result<Worker<W, N>, (Seat<N>, NoMemory)>
+        ensures ok { IfOk result (λ worker. worker ≡ record { seat = seat; due = 0 }) }
+        ensures err { IfErr result (λ back. back.0 ≡ seat) }
+    {
         let Ok(buffer) = Vec::from_elem(alloc, 0u8, PIECE) else {
             return Err((seat, NoMemory));
         };
@@ -50,14 +64,18 @@ impl<W: Wire + Drop, N: Naming> Worker<W, N> {
 
     /// Takes room for the first connections. It is called in the worker's own thread, so that the
     /// allocator has made what it keeps for that thread before memory is scarce.
-    pub(crate) fn prepare(&mut self) {
+    pub(crate) fn prepare(&mut self)
+        ensures { self.new ≡ self.old }
+    {
         // Where memory is refused, `add` asks for it again.
         let _ = self.links.reserve(FIRST_ROOM);
         let _ = self.listed.reserve(FIRST_ROOM);
     }
 
     /// Takes a connection. Where memory is refused, its wire comes back.
-    pub fn add(&mut self, conn: u32, wire: W) -> Result<(), (W, NoMemory)> {
+    pub fn add(&mut self, conn: u32, wire: W) -> Result<(), (W, NoMemory)>
+        ensures { self.new.seat ≡ self.old.seat }
+    {
         // With room for all connections, none is lost when it is to be listed again.
         let room = self.links.len().saturating_add(1);
         if self.listed.reserve(room).is_err() {
@@ -73,7 +91,9 @@ impl<W: Wire + Drop, N: Naming> Worker<W, N> {
     }
 
     /// Puts a new connection on the list, and tells it its key.
-    fn introduce(&mut self, key: usize) {
+    fn introduce(&mut self, key: usize)
+        ensures { self.new.seat ≡ self.old.seat }
+    {
         if let Some(link) = self.links.get_mut(key) {
             link.set_key(key);
         }
@@ -81,14 +101,18 @@ impl<W: Wire + Drop, N: Naming> Worker<W, N> {
     }
 
     /// Puts a connection on the list. Where memory is refused, it is dropped.
-    fn list(&mut self, key: usize) {
+    fn list(&mut self, key: usize)
+        ensures { self.new.seat ≡ self.old.seat }
+    {
         if self.listed.push(key).is_err() {
             let _ = self.links.try_remove(key);
         }
     }
 
     /// Has a connection served in the next turn. An unknown key is passed over.
-    pub fn wake(&mut self, key: usize) {
+    pub fn wake(&mut self, key: usize)
+        ensures { self.new.seat ≡ self.old.seat }
+    {
         let is_new = match self.links.get_mut(key) {
             Some(link) => {
                 let was_listed = link.is_listed;
@@ -127,8 +151,9 @@ impl<W: Wire + Drop, N: Naming> Worker<W, N> {
         }
     }
 
-    /// Goes over the listed connections once, and drops those that are done. Whether one got on; else
-    /// nothing is to be done before the inlet has something new.
+    /// Goes over the listed connections once, and drops those that are done. How long the inlet may then
+    /// wait: not at all where one got on, and a moment where one is to be tried again. Each command of a
+    /// connection is one call of the hall, and a connection has 16 at most.
     pub fn turn<R: Wait, C: Cache, G: Gate>(
         &mut self,
         rt: &R,
@@ -136,7 +161,9 @@ impl<W: Wire + Drop, N: Naming> Worker<W, N> {
         users: &Users,
         clock: &Clock,
         gate: &G,
-    ) -> bool {
+    ) -> Patience
+        ensures wrote { WritesAtMost (16 * self.old.due) self.old.seat self.new.seat }
+    {
         let service = Service {
             rt,
             alloc: self.alloc,
@@ -163,7 +190,11 @@ impl<W: Wire + Drop, N: Naming> Worker<W, N> {
                 }
             }
         }
-        one_got_on
+        match (one_got_on, self.listed.is_empty()) {
+            (true, _) => Patience::Hurried,
+            (false, false) => Patience::Brief,
+            (false, true) => Patience::Long,
+        }
     }
 
     /// One connection's turn. Where it is done it is dropped, and where it rests it is told so.
@@ -172,7 +203,8 @@ impl<W: Wire + Drop, N: Naming> Worker<W, N> {
         service: &Service<'_, R, C, N, G>,
         key: usize,
     ) -> Onward
-        ensures { vec_len self.new.listed ≡ vec_len self.old.listed }
+        ensures due { self.new.due ≡ self.old.due }
+        ensures wrote { WritesAtMost 16 self.old.seat self.new.seat }
     {
         let Some(link) = self.links.get_mut(key) else {
             return Onward::Done;
@@ -189,7 +221,9 @@ impl<W: Wire + Drop, N: Naming> Worker<W, N> {
     }
 
     /// Drops the connections, and gives the seat back.
-    pub fn end(self) -> Seat<N> {
+    pub fn end(self) -> Seat<N>
+        ensures { result ≡ self.seat }
+    {
         let Worker {
             alloc: _,
             seat,

@@ -19,7 +19,7 @@ use tc_item::Moment;
 use tc_locked::{Clock, Hall, Naming, Seat};
 use tc_plain::Plain;
 use tc_users::UserNo;
-use tc_workers::{Gate, Inlet, Keeper, Open, Place, Source, Taken, Worker, run_crew};
+use tc_workers::{Gate, Inlet, Keeper, Open, Patience, Place, Source, Taken, Worker, run_crew};
 
 /// So often one thread looks for what another does, a millisecond apart.
 const LOOKS: u32 = 10_000;
@@ -127,7 +127,7 @@ impl<R: Time + Drop> One<R> {
 impl<R: Time + Drop> Inlet for One<R> {
     type Wire = Memory;
 
-    fn take(&mut self, _may_wait: bool) -> Taken<Memory> {
+    fn take(&mut self, _patience: Patience) -> Taken<Memory> {
         let Some(wire) = self.wire.take() else {
             return Taken::Ended;
         };
