@@ -25,8 +25,8 @@ fn block_of(alloc: Global, front: &str, length: usize) -> Result<Vec<u8>, AllocE
 }
 
 /// A command by its line and the front of its block.
-fn command(alloc: Global, line: &str, front: &str) -> Result<Command, Fail> {
-    match parse_line(alloc, line.as_bytes(), 1_048_576)? {
+pub(crate) fn command(alloc: Global, line: &[u8], front: &str) -> Result<Command, Fail> {
+    match parse_line(alloc, line, 1_048_576)? {
         Line::Ready(command) => Ok(command),
         Line::NeedsBlock(head, length) => {
             let block = block_of(alloc, front, length as usize)?;
@@ -37,7 +37,7 @@ fn command(alloc: Global, line: &str, front: &str) -> Result<Command, Fail> {
 }
 
 /// Does a command, and once more where memory was refused, which leaves the cache as it was.
-fn done<C: Cache>(
+pub(crate) fn done<C: Cache>(
     alloc: Global,
     cache: &mut C,
     now: Moment,
@@ -120,7 +120,7 @@ fn comes_to<C: Cache>(
 
 /// Does a row's command, and says whether it comes to what it should.
 fn does<C: Cache>(alloc: Global, cache: &mut C, row: &Row) -> Result<bool, Fail> {
-    let command = command(alloc, row.1, row.2)?;
+    let command = command(alloc, row.1.as_bytes(), row.2)?;
     Ok(comes_to(alloc, cache, row.0, &command, row.3)?)
 }
 

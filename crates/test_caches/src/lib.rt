@@ -2,8 +2,14 @@
 #![tactic(auto)]
 
 #[cfg(test)]
+mod alike;
+#[cfg(test)]
+mod draws;
+#[cfg(test)]
 mod fixtures;
 #[cfg(test)]
-mod plain;
+mod rows;
 #[cfg(test)]
 mod table;
+#[cfg(test)]
+mod waiting;

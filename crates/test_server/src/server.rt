@@ -1,8 +1,12 @@
 //! Two users' streams and what they are answered, by hand from the protocol's text.
 
 use std::alloc::Global;
+use std::hash::RandomState;
 use std::test::Fail;
-use tc_core::{Happening, Step, fresh_caches, run};
+use tc_core::{Happening, Step, run};
+use tc_kinds::{Kind, begin_all};
+use tc_partition::Fast;
+use tc_plain::Plain;
 use tc_script::{Script, ScriptFault, print};
 use tc_users::Users;
 
@@ -13,10 +17,10 @@ fn both(alloc: Global) -> Result<Users, ScriptFault> {
     Ok(users)
 }
 
-/// What connections are sent where steps are run, as a script prints it.
-fn printed(alloc: Global, steps: &[Step]) -> Result<Vec<u8>, Fail> {
+/// What connections are sent where steps are run over a kind of cache, as a script prints it.
+fn printed<C: Kind>(alloc: Global, hasher: RandomState, steps: &[Step]) -> Result<Vec<u8>, Fail> {
     let users = both(alloc)?;
-    let caches = fresh_caches(alloc, &users)?;
+    let caches = begin_all::<C>(alloc, &users, hasher)?;
     let outputs = run(alloc, users, caches, steps)?;
     Ok(print(alloc, &outputs)?)
 }
@@ -31,9 +35,10 @@ const PRINTED: &str = "\
     conn 7 open =STORED\\r\\nSTORED\\r\\n\n";
 
 /// Whether what alice stores does not show to bob.
-fn is_isolated(alloc: Global) -> Result<bool, Fail> {
-    let text = printed(
+fn is_isolated<C: Kind>(alloc: Global, hasher: RandomState) -> Result<bool, Fail> {
+    let text = printed::<C>(
         alloc,
+        hasher,
         &[
             Step::On(7, Happening::Open),
             Step::On(3, Happening::Open),
@@ -52,6 +57,8 @@ fn is_isolated(alloc: Global) -> Result<bool, Fail> {
 
 #[test]
 fn users_do_not_see_each_other(rt: HostRuntime) -> Result<(), Fail> {
-    assert!(rt; is_isolated(rt.alloc())?);
+    let hasher = RandomState::new(&rt)?;
+    assert!(rt; is_isolated::<Plain>(rt.alloc(), hasher)?);
+    assert!(rt; is_isolated::<Fast>(rt.alloc(), hasher)?);
     Ok(())
 }

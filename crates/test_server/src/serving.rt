@@ -1,15 +1,16 @@
 //! A client and a server in one process, over loopback.
 use std::alloc::Global;
+use std::hash::RandomState;
 use std::io::{Read, Write};
 use std::marker::Brand;
 use std::net::{Net, TcpStream};
 use std::test::*;
 use std::thread;
 use std::time::{Clock, Duration};
-use tc_fresh::fresh_caches;
+use tc_kinds::begin_all;
 use tc_locked::Opened;
 use tc_net::{Beginning, serve};
-use tc_plain::Plain;
+use tc_partition::Fast;
 use tc_users::Settings;
 
 const SETTINGS: &str = "listen = \"127.0.0.1:21211\"\nworkers = 2\njournal = 16\n\
@@ -45,9 +46,9 @@ fn ask<R: Net + Clock>(rt: &R) -> bool {
 }
 
 /// A server of two workers on loopback.
-fn loopback(alloc: Global) -> Result<Beginning<Plain>, Fail> {
+fn loopback(alloc: Global, hasher: RandomState) -> Result<Beginning<Fast>, Fail> {
     let settings = Settings::from_toml(alloc, SETTINGS)?;
-    let caches = fresh_caches(alloc, &settings.users)?;
+    let caches = begin_all::<Fast>(alloc, &settings.users, hasher)?;
     Ok(Beginning {
         settings,
         opened: Opened::new(alloc)?,
@@ -58,12 +59,12 @@ fn loopback(alloc: Global) -> Result<Beginning<Plain>, Fail> {
 #[test]
 fn a_client_is_served_and_the_server_ends_with_it(rt: HostRuntime) -> Result<(), Fail> {
     let alloc = rt.alloc();
-    let beginning = loopback(alloc)?;
+    let beginning = loopback(alloc, RandomState::new(&rt)?)?;
     let own = rt;
     let Ok(client) = thread::spawn(&rt, move || ask(&own)) else {
         panic!(&rt; "no thread")
     };
-    let served = serve::<Plain, Brand, HostRuntime>(&rt, alloc, beginning, Some(1));
+    let served = serve::<Fast, Brand, HostRuntime>(&rt, alloc, beginning, Some(1));
     assert!(&rt; served.is_ok());
     assert!(&rt; client.join(&rt));
     Ok(())

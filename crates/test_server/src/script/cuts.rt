@@ -3,7 +3,9 @@
 use super::table::IN;
 use super::{Part, joined, prints};
 use std::alloc::{AllocError, Global};
+use std::hash::RandomState;
 use std::process::Abort;
+use std::random::RandomSource;
 use std::test::Fail;
 
 /// One user, and a connection that is not logged in.
@@ -177,17 +179,23 @@ fn in_two(alloc: Global, cut: &Cut, front: &[u8], back: &[u8]) -> Result<Vec<u8>
 }
 
 /// Whether a stream that is cut in two prints its output.
-fn prints_cut(alloc: Global, cut: &Cut, front: &[u8], back: &[u8]) -> Result<bool, AllocError> {
+fn prints_cut(
+    alloc: Global,
+    hasher: RandomState,
+    cut: &Cut,
+    front: &[u8],
+    back: &[u8],
+) -> Result<bool, AllocError> {
     let script = in_two(alloc, cut, front, back)?;
-    Ok(prints(alloc, &script, cut.output.as_bytes()))
+    Ok(prints(alloc, hasher, &script, cut.output.as_bytes()))
 }
 
 /// The first place where cutting a stream shows.
-fn first_place(alloc: Global, cut: &Cut) -> Result<Option<usize>, AllocError> {
+fn first_place(alloc: Global, hasher: RandomState, cut: &Cut) -> Result<Option<usize>, AllocError> {
     let stream = joined(alloc, cut.stream)?;
     for place in 1..stream.len() {
         let (front, back) = stream.as_slice().split_at(place);
-        if !prints_cut(alloc, cut, front, back)? {
+        if !prints_cut(alloc, hasher, cut, front, back)? {
             return Ok(Some(place));
         }
     }
@@ -195,9 +203,10 @@ fn first_place(alloc: Global, cut: &Cut) -> Result<Option<usize>, AllocError> {
 }
 
 /// Expects that streams print their outputs wherever they are cut in two.
-fn expect_alike(rt: &impl Abort, alloc: Global, cuts: &[Cut]) -> Result<(), Fail> {
+fn expect_alike<R: Abort + RandomSource>(rt: &R, alloc: Global, cuts: &[Cut]) -> Result<(), Fail> {
+    let hasher = RandomState::new(rt)?;
     for cut in cuts {
-        assert!(rt; first_place(alloc, cut)?.is_none(), "{}", cut.name);
+        assert!(rt; first_place(alloc, hasher, cut)?.is_none(), "{}", cut.name);
     }
     Ok(())
 }
@@ -239,16 +248,17 @@ fn in_bytes(alloc: Global, cut: &Cut, stream: &[u8]) -> Result<Vec<u8>, AllocErr
 }
 
 /// Whether a stream that comes byte by byte prints its output.
-fn prints_in_bytes(alloc: Global, cut: &Cut) -> Result<bool, AllocError> {
+fn prints_in_bytes(alloc: Global, hasher: RandomState, cut: &Cut) -> Result<bool, AllocError> {
     let stream = joined(alloc, cut.stream)?;
     let script = in_bytes(alloc, cut, &stream)?;
-    Ok(prints(alloc, &script, cut.output.as_bytes()))
+    Ok(prints(alloc, hasher, &script, cut.output.as_bytes()))
 }
 
 #[test]
 fn streams_cut_into_bytes_are_answered_alike(rt: HostRuntime) -> Result<(), Fail> {
+    let hasher = RandomState::new(&rt)?;
     for cut in &CUTS {
-        assert!(rt; prints_in_bytes(rt.alloc(), cut)?, "{}", cut.name);
+        assert!(rt; prints_in_bytes(rt.alloc(), hasher, cut)?, "{}", cut.name);
     }
     Ok(())
 }

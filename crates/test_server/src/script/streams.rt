@@ -1,7 +1,10 @@
 //! Readers and writers that fail in mid-stream.
 
 use std::alloc::Global;
+use std::hash::RandomState;
 use std::io::{self, ErrorKind, Read, Write};
+use std::test::Fail;
+use tc_partition::Fast;
 use tc_script::{Ended, run_script};
 
 /// A reader that gives one byte a call, for so many calls, and then fails.
@@ -53,31 +56,41 @@ impl Write for ShortWriter {
 
 /// How the run of a short script ends where reading fails behind so many calls, and whether nothing
 /// is printed.
-fn read_for(alloc: Global, left: usize) -> (Ended, bool) {
+fn read_for(alloc: Global, hasher: RandomState, left: usize) -> (Ended, bool) {
     let rest = b"open 1".as_slice();
     let mut out = Vec::new(alloc);
-    let ended = run_script(alloc, &mut ShortReader { rest, left }, &mut out);
+    let mut input = ShortReader { rest, left };
+    let ended = run_script::<Fast, _, _>(alloc, hasher, &mut input, &mut out);
     (ended, out.is_empty())
 }
 
 #[test]
-fn a_script_that_cannot_be_read_is_not_run(rt: HostRuntime) {
+fn a_script_that_cannot_be_read_is_not_run(rt: HostRuntime) -> Result<(), Fail> {
+    let hasher = RandomState::new(&rt)?;
     for left in 0..7 {
-        assert_eq!(rt; read_for(rt.alloc(), left), (Ended::Stream, true), "{left}");
+        let read = read_for(rt.alloc(), hasher, left);
+        assert_eq!(rt; read, (Ended::Stream, true), "{left}");
     }
-    assert_eq!(rt; read_for(rt.alloc(), 7), (Ended::Done, false));
+    assert_eq!(rt; read_for(rt.alloc(), hasher, 7), (Ended::Done, false));
+    Ok(())
 }
 
 /// How the run of a short script ends, where writing fails behind so many bytes.
-fn written_for(alloc: Global, left: usize) -> Ended {
+fn written_for(alloc: Global, hasher: RandomState, left: usize) -> Ended {
     let mut input = b"open 1".as_slice();
-    run_script(alloc, &mut input, &mut ShortWriter { left })
+    run_script::<Fast, _, _>(alloc, hasher, &mut input, &mut ShortWriter { left })
 }
 
 #[test]
-fn an_output_that_cannot_be_written_ends_the_run(rt: HostRuntime) {
+fn an_output_that_cannot_be_written_ends_the_run(rt: HostRuntime) -> Result<(), Fail> {
+    let hasher = RandomState::new(&rt)?;
     for left in 0..14 {
-        assert_eq!(rt; written_for(rt.alloc(), left), Ended::Stream, "{left}");
+        assert_eq!(rt;
+            written_for(rt.alloc(), hasher, left),
+            Ended::Stream,
+            "{left}"
+        );
     }
-    assert_eq!(rt; written_for(rt.alloc(), 14), Ended::Done);
+    assert_eq!(rt; written_for(rt.alloc(), hasher, 14), Ended::Done);
+    Ok(())
 }

@@ -9,7 +9,30 @@ pub(super) const IN: &str = "\
     piece 1 set a 0 0 9\\r\\nalice one\\r\\n\n\
     act 1\n";
 
-pub(super) static SCRIPTS: [Row; 19] = [
+pub(super) static SCRIPTS: [Row; 20] = [
+    Row {
+        name: "the last second comes at once",
+        script: &[
+            (IN, 1),
+            (
+                "\
+                tick 1000\n\
+                piece 1 set p 0 -1 1\\r\\np\\r\\nset q 0 1 1\\r\\nq\\r\\nset r 0 2592000 1\\r\\n\
+                r\\r\\nset s 0 2592001 1\\r\\ns\\r\\nget p q\\r\\n\n\
+                act 1 5\n\
+                tick 1099511627775\n\
+                piece 1 get q r s\\r\\n\n\
+                act 1\n",
+                1,
+            ),
+        ],
+        output: &[(
+            "\
+            conn 1 open =STORED\\r\\nSTORED\\r\\nSTORED\\r\\nSTORED\\r\\nSTORED\\r\\n\
+            VALUE q 0 1\\r\\nq\\r\\nEND\\r\\nEND\\r\\n\n",
+            1,
+        )],
+    },
     Row {
         name: "a store is found",
         script: &[
