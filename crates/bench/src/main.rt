@@ -6,6 +6,7 @@
 
 mod fault;
 mod grammar;
+mod hall;
 mod item;
 mod measuring;
 mod session;
@@ -17,6 +18,8 @@ use fault::Fault;
 use measuring::Extent;
 use std::env;
 use std::process::ExitCode;
+use std::sync::Wait;
+use std::thread::Threads;
 
 /// What is measured.
 #[derive(Clone, Copy)]
@@ -27,16 +30,18 @@ enum Part {
     Slru,
     Wheel,
     Session,
+    Hall,
 }
 
 /// The parts, under the words that ask for them.
-const PARTS: [(&str, Part); 6] = [
+const PARTS: [(&str, Part); 7] = [
     ("sketch", Part::Sketch),
     ("item", Part::Item),
     ("grammar", Part::Grammar),
     ("slru", Part::Slru),
     ("wheel", Part::Wheel),
     ("session", Part::Session),
+    ("hall", Part::Hall),
 ];
 
 /// What the command line asks for.
@@ -73,7 +78,13 @@ fn read_words(rt: &HostRuntime) -> Result<Asked, Fault> {
     parse(&words)
 }
 
-fn run_part(rt: &HostRuntime, part: Part, extent: Extent) -> Result<(), Fault> {
+/// Runs a part. `threads` is the handle that the parts with threads have.
+fn run_part<R: Threads + Wait + Sync>(
+    rt: &HostRuntime,
+    threads: &R,
+    part: Part,
+    extent: Extent,
+) -> Result<(), Fault> {
     match part {
         Part::Sketch => sketch::run(rt, extent),
         Part::Item => item::run(rt, extent),
@@ -81,15 +92,16 @@ fn run_part(rt: &HostRuntime, part: Part, extent: Extent) -> Result<(), Fault> {
         Part::Slru => slru::run(rt, extent),
         Part::Wheel => wheel::run(rt, extent),
         Part::Session => session::run(rt, extent),
+        Part::Hall => hall::run(rt, threads, extent),
     }
 }
 
-fn run(rt: &HostRuntime) -> Result<(), Fault> {
+fn run<R: Threads + Wait + Sync>(rt: &HostRuntime, threads: &R) -> Result<(), Fault> {
     match read_words(rt)? {
-        Asked::One(part, extent) => run_part(rt, part, extent),
+        Asked::One(part, extent) => run_part(rt, threads, part, extent),
         Asked::Each => {
             for (_, part) in PARTS {
-                run_part(rt, part, Extent::Counted)?;
+                run_part(rt, threads, part, Extent::Counted)?;
             }
             Ok(())
         }
@@ -97,7 +109,7 @@ fn run(rt: &HostRuntime) -> Result<(), Fault> {
 }
 
 fn main(rt: HostRuntime) -> ExitCode {
-    match run(&rt) {
+    match run(&rt, &rt) {
         Ok(()) => ExitCode::from(0),
         Err(fault) => {
             let _ = eprintln!(rt; "{}", fault.text());
