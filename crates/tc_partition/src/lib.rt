@@ -16,7 +16,6 @@
 mod deferred_work;
 mod fast;
 mod freezing;
-mod hits;
 mod live_slots;
 mod looking;
 mod parts;

@@ -16,7 +16,6 @@ ghost use Rattle.tc_partition.specs.LiveSlots.{live_of, plan_of, IsKeyed};
 ghost use Rattle.tc_partition.specs.SlotCaches.{cache_of, IsSlotCache};
 ghost use Rattle.tc_model.specs.Areas.{total};
 
-use crate::hits::{look_all, look_up};
 use crate::live_slots::LiveSlots;
 use crate::slots::Slots;
 use crate::work::{Work, with_key};
@@ -25,7 +24,9 @@ use std::hash::RandomState;
 use tc_grammar::{Command, Head, Way};
 use tc_item::exptime::due;
 use tc_item::{Blob, Due, Key, Keys, Moment, NoMemory};
-use tc_plain::{Bid, End, Limits, Live, Plan, offer, plan_count, plan_item};
+use tc_plain::{
+    Bid, End, Limits, Live, LookUps, Plan, look_all, look_up, offer, plan_count, plan_item,
+};
 use tc_sketch::{Sketch, width_of};
 use tc_stats::{Counters, Hits, Outcome, Statistics};
 
