@@ -153,8 +153,7 @@ impl LiveSlots {
     }
 
     /// Puts an entry in the place of what its key holds, and brings each area within its limit;
-    /// each entry
-    /// that is dropped is counted.
+    /// each entry that is dropped is counted.
     fn change(&mut self, key: Key, entry: Entry, evictions: u64) -> u64
         requires key { key ≡ entry.key }
         requires light { weight entry ≤ self.old.held.limits.main }
@@ -217,8 +216,7 @@ impl LiveSlots {
     }
 
     /// Carries work out, for which there is room: an entry gets the next cas number after `last`,
-    /// and
-    /// each entry that is dropped for it is counted.
+    /// and each entry that is dropped for it is counted.
     pub(crate) fn carry_out(&mut self, work: Work, last: &mut u64, counters: &mut Counters) -> End
         requires weight { total weight self.old.held.areas < 2 ^ 63 }
         requires light { IsLightPlan self.old.held.limits (plan_of work) }

@@ -1,7 +1,8 @@
 //! One user's cache over slots, in which nothing waits: each command is done at once.
 //!
-//! It is plain data: its contracts speak of the cache that it is, `cache_of` (`specs/SlotCaches.antt`), under
-//! the premise that this is sound, and `Fast`, whose base it is, keeps it so.
+//! It is plain data: its contracts speak of the cache that it is, `cache_of`
+//! (`specs/SlotCaches.antt`), under the premise that this is sound, and `Fast`, whose base it is,
+//! keeps it so.
 ghost use Rattle.std.specs.Prelude.{◌≡◌, ◌≤◌, ◌<◌, ◌^◌, IfOk, OnOk, OnErr};
 ghost use Rattle.tc_stats.specs.Counting.{noted};
 ghost use Rattle.tc_plain.specs.Entries.{with_due, weight};
