@@ -1,20 +1,23 @@
 //! One user's cache, with look-ups that wait.
 //!
-//! Terms: the base is the cache as what was done last left it. A `get` answers from the base, as it would be at
-//! the moment of the `get`, and notes each look-up: a hit by its slot, a miss by its key's hash, each with its
-//! moment. Every other command first does all that waits, the first first, each look-up at its own moment. What
-//! the cache stands for is the base once all that is done and it has come to the cache's moment.
+//! Terms: the base is the cache as what was done last left it. A `get` answers from the base, as it
+//! would be at the moment of the `get`, and notes each look-up: a hit by its slot, a miss by its
+//! key's hash, each with its moment. Every other command first does all that waits, the first
+//! first, each look-up at its own moment. What the cache stands for is the base once all that is
+//! done and it has come to the cache's moment.
 //!
 //! What is always true (`IsFast` in `specs/Delayed.antt`):
 //! 1. `sound`: the base keeps its limits and holds no key twice.
-//! 2. `lazy`: the moments of what waits never fall, from the base's to the cache's; each hit that waits names
-//!    what the base holds, alive at that hit's moment and before any flush (`IsLazy` in `specs/Deferred.antt`).
+//! 2. `lazy`: the moments of what waits never fall, from the base's to the cache's; each hit that
+//!    waits names what the base holds, alive at that hit's moment and before any flush (`IsLazy` in
+//!    `specs/Deferred.antt`).
 //! 3. `placed`: the slot of each hit that waits holds an entry.
 //!
-//! A look-up changes neither what a key holds nor when it goes, so a `get` shows the same whether those before
-//! it wait or are done. What they do change, the places in the lists and the sketch, only a settle asks about,
-//! and a command that settles drains first. A pending flush that is due is done by the next command that drains,
-//! behind the look-ups before it; until then a look-up finds nothing under any key.
+//! A look-up changes neither what a key holds nor when it goes, so a `get` shows the same whether
+//! those before it wait or are done. What they do change, the places in the lists and the sketch,
+//! only a settle asks about, and a command that settles drains first. A pending flush that is due
+//! is done by the next command that drains, behind the look-ups before it; until then a look-up
+//! finds nothing under any key.
 ghost use Rattle.std.specs.Prelude.{◌≡◌, ◌≤◌, ◌^◌, [], length, drop, IfOk, OnOk, OnErr};
 ghost use Rattle.tc_stats.specs.Counting.{noted as counted_noted};
 ghost use Rattle.tc_plain.specs.Soundness.{HasShortKey};
@@ -202,9 +205,8 @@ impl Cache for Fast {
     }
 
     /// Comes to the moment, and does at most `limit` pieces of work: look-ups that wait, the first
-    /// first, and once nothing waits
-    /// entries that are not alive are taken out. Nothing of what the cache stands for changes but
-    /// its moment.
+    /// first; once none waits, entries that are not alive are taken out. A pending flush is left to
+    /// the next command that drains. Nothing of what the cache stands for changes but its moment.
     fn maintain(&mut self, now: Moment, limit: u32)
         ensures advanced { settled_in self.new ≡ advance (settled_in self.old) now }
         ensures rest { self.new.waiting ≡ drop limit self.old.waiting }

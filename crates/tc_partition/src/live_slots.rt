@@ -1,12 +1,12 @@
 //! What look-ups touch of one user's cache.
-ghost use Rattle.std.specs.Prelude.{◌≡◌, ℕ, max, false, None, IsSome, slice_index_or, ◌<◌, ◌≤◌, ◌+◌, ◌^◌, true, is_some, length, Some, IfOk, OnOk, MatchOption};
+ghost use Rattle.std.specs.Prelude.{◌≡◌, ℕ, max, false, None, IsSome, slice_index_or, ◌<◌, ◌≤◌, ◌+◌, ◌^◌, true, is_some, length, Some, IfOk, OnOk, ⊤};
 ghost use Rattle.tc_model.specs.Areas.{total, settle};
 ghost use Rattle.tc_stats.specs.Counting.{more};
 ghost use Rattle.tc_plain.specs.declared.entry.Entry.{Entry};
 ghost use Rattle.tc_plain.specs.Entries.{weight, lives, with_item};
-ghost use Rattle.tc_plain.specs.Live.{is_flush_due, at_moment, advanced, held};
+ghost use Rattle.tc_plain.specs.Live.{is_flush_due, advanced, held};
 ghost use Rattle.tc_plain.specs.Placing.{frequency, used, without_key};
-ghost use Rattle.tc_plain.specs.Doing.{looked_up, flushed};
+ghost use Rattle.tc_plain.specs.Doing.{flushed};
 ghost use Rattle.tc_plain.specs.AreaLists.{change_of, live_of as lists_live};
 ghost use Rattle.tc_plain.specs.Soundness.{AreSound};
 ghost use Rattle.tc_plain.specs.UserCache.{UserCache};
@@ -20,7 +20,7 @@ use crate::slots::Slots;
 use crate::work::Work;
 use std::alloc::Global;
 use tc_item::{Due, Key, Moment, NoMemory, Slot, alive};
-use tc_plain::{End, Entry, Limits, Live};
+use tc_plain::{End, Entry, Limits, Live, LookUps};
 use tc_sketch::{Sketch, hash};
 use tc_stats::Counters;
 
@@ -102,18 +102,6 @@ impl LiveSlots {
         }
     }
 
-    /// What a key will hold at the moment.
-    pub(crate) fn peek(&self, key: &Key, moment: Moment) -> Option<&Entry>
-        requires { AreSound self.now.held.limits self.now.held.areas }
-        ensures { MatchOption result (held key.now (at_moment moment (live_of self.now)).areas
-            ≡ None) (λ e. held key.now (at_moment moment (live_of self.now)).areas ≡ Some e.now) }
-    {
-        match self.seek(key, moment) {
-            Some(slot) => self.held.entry(slot),
-            None => None,
-        }
-    }
-
     /// One look-up of the key of what a slot holds.
     pub(crate) fn hit_at(&mut self, slot: Slot)
         requires held { IsSome (slice_index_or self.old.held.slots slot.0 None) }
@@ -136,31 +124,6 @@ impl LiveSlots {
         ensures slots { self.new.held.slots ≡ self.old.held.slots }
     {
         self.sketch.record(hash);
-    }
-
-    /// One look-up of a key: whether it is held. What it holds has this due from now on, if one is
-    /// given.
-    pub(crate) fn look(&mut self, key: &Key, due: Option<Due>) -> bool
-        requires sound { AreSound self.old.held.limits self.old.held.areas }
-        requires weight { total weight self.old.held.areas < 2 ^ 32 }
-        ensures live { live_of self.new ≡ (looked_up (change_of due) key.now
-            (held key.now self.old.held.areas) (live_of self.old)).1 }
-        ensures found { result ≡ is_some (held key.now self.old.held.areas) }
-        ensures room { self.old.held.has_room ≡ true → self.new.held.has_room ≡ true }
-    {
-        self.sketch.record(hash(key.as_bytes()));
-        let Some(slot) = self.held.find(key) else {
-            return false;
-        };
-        if !lives_on(&self.held, key, slot, due, self.moment) {
-            self.held.empty(slot);
-            return true;
-        }
-        match due {
-            Some(due) => self.held.touch(key, slot, due),
-            None => self.held.access(key, slot),
-        }
-        true
     }
 
     /// Puts an entry in the place of what its key holds.
@@ -190,8 +153,7 @@ impl LiveSlots {
     }
 
     /// Puts an entry in the place of what its key holds, and brings each area within its limit;
-    /// each entry
-    /// that is dropped is counted.
+    /// each entry that is dropped is counted.
     fn change(&mut self, key: Key, entry: Entry, evictions: u64) -> u64
         requires key { key ≡ entry.key }
         requires light { weight entry ≤ self.old.held.limits.main }
@@ -254,8 +216,7 @@ impl LiveSlots {
     }
 
     /// Carries work out, for which there is room: an entry gets the next cas number after `last`,
-    /// and
-    /// each entry that is dropped for it is counted.
+    /// and each entry that is dropped for it is counted.
     pub(crate) fn carry_out(&mut self, work: Work, last: &mut u64, counters: &mut Counters) -> End
         requires weight { total weight self.old.held.areas < 2 ^ 63 }
         requires light { IsLightPlan self.old.held.limits (plan_of work) }
@@ -279,5 +240,34 @@ impl LiveSlots {
         *last = cas;
         counters.evictions = self.change(key, entry, counters.evictions);
         end
+    }
+}
+
+impl LookUps for LiveSlots {
+    ghost touched = { live_of };
+
+    ghost has_room = { λ s. ⊤ };
+
+    fn peek(&self, key: &Key, moment: Moment) -> Option<&Entry> {
+        match self.seek(key, moment) {
+            Some(slot) => self.held.entry(slot),
+            None => None,
+        }
+    }
+
+    fn look(&mut self, key: &Key, due: Option<Due>) -> bool {
+        self.sketch.record(hash(key.as_bytes()));
+        let Some(slot) = self.held.find(key) else {
+            return false;
+        };
+        if !lives_on(&self.held, key, slot, due, self.moment) {
+            self.held.empty(slot);
+            return true;
+        }
+        match due {
+            Some(due) => self.held.touch(key, slot, due),
+            None => self.held.access(key, slot),
+        }
+        true
     }
 }

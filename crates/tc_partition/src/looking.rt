@@ -5,9 +5,9 @@ ghost use Rattle.tc_plain.specs.Doing.{with_live, all_looked_up};
 ghost use Rattle.tc_partition.specs.Delayed.{settled_in, noted_in, hit_in, waits_next, waits_after};
 
 use crate::Fast;
-use crate::hits::look_up;
 use std::alloc::Global;
 use tc_item::{Key, Moment, NoMemory};
+use tc_plain::look_up;
 use tc_readbuf::{Noted, PLACES, ReadBuf};
 use tc_sketch::hash;
 use tc_stats::Hits;

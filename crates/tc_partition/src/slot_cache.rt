@@ -1,7 +1,8 @@
 //! One user's cache over slots, in which nothing waits: each command is done at once.
 //!
-//! It is plain data: its contracts speak of the cache that it is, `cache_of` (`specs/SlotCaches.antt`), under
-//! the premise that this is sound, and `Fast`, whose base it is, keeps it so.
+//! It is plain data: its contracts speak of the cache that it is, `cache_of`
+//! (`specs/SlotCaches.antt`), under the premise that this is sound, and `Fast`, whose base it is,
+//! keeps it so.
 ghost use Rattle.std.specs.Prelude.{◌≡◌, ◌≤◌, ◌<◌, ◌^◌, IfOk, OnOk, OnErr};
 ghost use Rattle.tc_stats.specs.Counting.{noted};
 ghost use Rattle.tc_plain.specs.Entries.{with_due, weight};
@@ -16,7 +17,6 @@ ghost use Rattle.tc_partition.specs.LiveSlots.{live_of, plan_of, IsKeyed};
 ghost use Rattle.tc_partition.specs.SlotCaches.{cache_of, IsSlotCache};
 ghost use Rattle.tc_model.specs.Areas.{total};
 
-use crate::hits::{look_all, look_up};
 use crate::live_slots::LiveSlots;
 use crate::slots::Slots;
 use crate::work::{Work, with_key};
@@ -25,7 +25,9 @@ use std::hash::RandomState;
 use tc_grammar::{Command, Head, Way};
 use tc_item::exptime::due;
 use tc_item::{Blob, Due, Key, Keys, Moment, NoMemory};
-use tc_plain::{Bid, End, Limits, Live, Plan, offer, plan_count, plan_item};
+use tc_plain::{
+    Bid, End, Limits, Live, LookUps, Plan, look_all, look_up, offer, plan_count, plan_item,
+};
 use tc_sketch::{Sketch, width_of};
 use tc_stats::{Counters, Hits, Outcome, Statistics};
 

@@ -1,7 +1,8 @@
 //! The entries of one user's cache, by slot: an index by key, the entries, the lists and the wheel.
 //!
-//! Terms: a slot is a number. It is filled with an entry and emptied again. The index gives a key's slot, the
-//! lists hold slots with what they weigh, front to back, and the wheel holds slots with a due.
+//! Terms: a slot is a number. It is filled with an entry and emptied again. The index gives a key's
+//! slot, the lists hold slots with what they weigh, front to back, and the wheel holds slots with a
+//! due.
 //!
 //! What is always true (`AreSlots` in `specs/Held.antt`):
 //! 1. `agree`: the four agree (`Agree` in `specs/Agreement.antt`), which is to say:
@@ -9,7 +10,8 @@
 //!    2. `found`: the index gives the slot of each entry for its key.
 //!    3. `listed`: a slot that holds an entry stands once in the lists, and every other nowhere.
 //!    4. `weighed`: each place in the lists has the weight of its entry.
-//!    5. `timed`: the wheel holds the slots whose entries have a due that a moment can reach, until that due.
+//!    5. `timed`: the wheel holds the slots whose entries have a due that a moment can reach, until
+//!       that due.
 //! 2. `within`: each slot that holds an entry has a place in the wheel.
 //!
 //! So no key is held twice, and what the lists stand for under a key is what the index finds.
@@ -64,8 +66,7 @@ impl Model for Slots {
 
 impl Slots {
     /// No entries, with room for none: the window may weigh `window`, probation and protected
-    /// together
-    /// `main`, and protected alone `protected`.
+    /// together `main`, and protected alone `protected`.
     pub fn new(alloc: Global, hasher: RandomState, limits: Limits) -> Result<Slots, NoMemory>
         ensures limits { IfOk result (λ s. s.limits ≡ limits) }
         ensures areas { IfOk result (λ s. s.areas ≡ no_entries) }

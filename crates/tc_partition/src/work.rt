@@ -7,8 +7,7 @@ use tc_item::{Key, NoMemory};
 use tc_plain::{End, Entry, Plan};
 
 /// What a command will do: end so at once, or use an entry under the next cas number and then end
-/// so. The key is a copy of
-/// the entry's, for the index.
+/// so. The key is a copy of the entry's, for the index.
 #[derive(Drop)]
 pub enum Work {
     Ends(End),

@@ -6,9 +6,9 @@ ghost use Rattle.tc_plain.specs.Entries.{hit_of};
 ghost use Rattle.tc_plain.specs.Live.{at_moment, held};
 ghost use Rattle.tc_plain.specs.Doing.{all_looked_up};
 ghost use Rattle.tc_plain.specs.Soundness.{AreSound};
-ghost use Rattle.tc_plain.specs.AreaLists.{areas_of, live_of, HasRoom, change_of, is_due};
+ghost use Rattle.tc_plain.specs.AreaLists.{change_of, is_due};
 
-use crate::Live;
+use crate::LookUps;
 use std::alloc::Global;
 use tc_item::{Due, Key, Moment, NoMemory};
 use tc_stats::Hits;
@@ -31,32 +31,34 @@ fn is_asked(keys: &[Key], key: &Key) -> bool
 }
 
 /// Adds the hit of a key, if it will hold anything at the moment.
-fn add_hit(
+fn add_hit<L: LookUps>(
     alloc: Global,
-    live: &Live,
+    live: &L,
     key: &Key,
     moment: Moment,
     hits: &mut Hits,
 ) -> Result<(), NoMemory>
-    ensures { OnOk result (hits.new ≡ hits.old ++ option_to_list (option_map hit_of (held key.now (at_moment moment (live_of live.now)).areas))) }
+    requires { AreSound (L.touched live.now).limits (L.touched live.now).areas }
+    ensures { OnOk result (hits.new ≡ hits.old ++ option_to_list (option_map hit_of (held key.now (at_moment moment (L.touched live.now)).areas))) }
 {
-    if let Some(entry) = live.peek(key.as_bytes(), moment) {
+    if let Some(entry) = live.peek(key, moment) {
         hits.push(alloc, entry.show(alloc)?)?;
     }
     Ok(())
 }
 
 /// Adds the hit of a key that was not among those asked before, or is not gone since then.
-fn add_next(
+fn add_next<L: LookUps>(
     alloc: Global,
-    live: &Live,
+    live: &L,
     asked: &[Key],
     key: &Key,
     moment: Moment,
     gone: bool,
     hits: &mut Hits,
 ) -> Result<(), NoMemory>
-    ensures { OnOk result (hits.new ≡ hits.old ++ option_to_list (cond (gone && list_any (λ k. bytes_eq k key.now) asked.now) None (option_map hit_of (held key.now (at_moment moment (live_of live.now)).areas)))) }
+    requires { AreSound (L.touched live.now).limits (L.touched live.now).areas }
+    ensures { OnOk result (hits.new ≡ hits.old ++ option_to_list (cond (gone && list_any (λ k. bytes_eq k key.now) asked.now) None (option_map hit_of (held key.now (at_moment moment (L.touched live.now)).areas)))) }
 {
     if gone && is_asked(asked, key) {
         return Ok(());
@@ -66,15 +68,15 @@ fn add_next(
 
 /// The hits of keys at the moment, in the order asked. What is held has this due after its hit, if one
 /// is given; where that due has come it is gone, so that a key asked again shows nothing.
-pub fn look_up(
+pub fn look_up<L: LookUps>(
     alloc: Global,
-    live: &Live,
+    live: &L,
     keys: &[Key],
     moment: Moment,
     due: Option<Due>,
 ) -> Result<Hits, NoMemory>
-    requires { AreSound live.now.limits (areas_of live.now.areas) }
-    ensures { IfOk result (λ hits. hits ≡ (all_looked_up (change_of due) keys.now (at_moment moment (live_of live.now))).0) }
+    requires { AreSound (L.touched live.now).limits (L.touched live.now).areas }
+    ensures { IfOk result (λ hits. hits ≡ (all_looked_up (change_of due) keys.now (at_moment moment (L.touched live.now))).0) }
 {
     let gone = is_due(due, moment);
     let mut hits = Hits::new();
@@ -85,13 +87,13 @@ pub fn look_up(
 }
 
 /// Looks keys up, one after another.
-pub fn look_all(live: &mut Live, keys: &[Key], due: Option<Due>)
-    requires sound { AreSound live.old.limits (areas_of live.old.areas) }
-    requires light { live.old.limits.window + live.old.limits.main < 2 ^ 32 }
-    requires room { HasRoom 0 live.old.areas }
-    ensures { live_of live.new ≡ (all_looked_up (change_of due) keys.now (live_of live.old)).1 }
+pub fn look_all<L: LookUps>(live: &mut L, keys: &[Key], due: Option<Due>)
+    requires sound { AreSound (L.touched live.old).limits (L.touched live.old).areas }
+    requires light { (L.touched live.old).limits.window + (L.touched live.old).limits.main < 2 ^ 32 }
+    requires room { L.has_room live.old }
+    ensures { L.touched live.new ≡ (all_looked_up (change_of due) keys.now (L.touched live.old)).1 }
 {
     for key in keys {
-        live.look(key.as_bytes(), due);
+        live.look(key, due);
     }
 }

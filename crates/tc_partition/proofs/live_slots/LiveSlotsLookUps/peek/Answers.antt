@@ -5,7 +5,7 @@ use Rattle.std.proofs.Common.{◌≡◌, Option, Some, None, sym, ◌∙◌}
 use Rattle.tc_plain.specs.declared.entry.Entry.{Entry}
 use Rattle.tc_plain.specs.Live.{held, at_moment}
 use Rattle.tc_partition.specs.LiveSlots.{live_of}
-use Rattle.tc_partition.proofs.live_slots.LiveSlots.peek.Goals as goal
+use Rattle.tc_partition.proofs.live_slots.LiveSlotsLookUps.peek.Goals as goal
 
 -- a reference to what is held shows it
 shows : (r : Option (Bor Entry)) (o : Option Entry) (e : Entry) → option_copied r ≡ Some e → o ≡ Some e → MatchOption r (o ≡ None) (λ x. o ≡ Some x.now)

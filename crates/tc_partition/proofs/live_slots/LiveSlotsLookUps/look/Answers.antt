@@ -1,7 +1,7 @@
 use Rattle.std.proofs.Common.{arith}
 use Rattle.tc_plain.proofs.Sound.{held_light}
 use Rattle.tc_plain.proofs.Used.{held_le}
-use Rattle.tc_partition.proofs.live_slots.LiveSlots.look.Goals as goal
+use Rattle.tc_partition.proofs.live_slots.LiveSlotsLookUps.look.Goals as goal
 
 pub touch-requires-clause-light : goal.touch-requires-clause-light
 touch-requires-clause-light c = λ e h. (held_light c.args.self.now.held.limits c.args.key.now c.args.self.now.held.areas e h c.requires.sound).1
