@@ -123,8 +123,9 @@ impl Listening {
         }
     }
 
-    /// Takes connections until enough were closed; then no further one comes.
-    pub(crate) fn run<R: Wait>(mut self, rt: &R) {
+    /// Takes connections until enough were closed; then no further one comes. It gives back what wakes
+    /// the workers, which is to live until they have ended: what a waker says is lost with it.
+    pub(crate) fn run<R: Wait>(mut self, rt: &R) -> Vec<Post> {
         let patience = self.patience();
         for _ in rt.forever() {
             if self.is_done() {
@@ -135,5 +136,19 @@ impl Listening {
         }
         self.door.end();
         self.wake_workers();
+        self.into_posts()
+    }
+
+    fn into_posts(self) -> Vec<Post> {
+        let Listening {
+            listener: _,
+            poll: _,
+            events: _,
+            posts,
+            door: _,
+            until: _,
+            number: _,
+        } = self;
+        posts
     }
 }

@@ -176,7 +176,7 @@ fn run<
     let source = Ticking { rt: *rt };
     let ended = run_crew(rt, alloc, hall, users, &clock, &Open, keeper, crew, source);
     door.end();
-    listener.join(rt);
+    let _posts = listener.join(rt);
     match ended {
         Ok(_seats) => Ok(()),
         Err(_) => Err(Unserved::NoMemory),

@@ -4,6 +4,7 @@ ghost use Rattle.std.specs.Prelude.{◌≡◌, map};
 ghost use Rattle.tc_fresh.specs.Beginning.{fresh_cache};
 
 mod crews;
+mod pressure;
 mod table;
 mod wires;
 
