@@ -1,5 +1,5 @@
 //! Seats and books of one hall, with memory to spare. Each scene is over any cache, and its test runs it
-//! over each kind.
+//! over the plain one.
 
 mod commands;
 mod crowd;

@@ -8,20 +8,16 @@ mod pressure;
 mod table;
 mod wires;
 
-use crate::hall::stage::{Beginning, two_of};
+use crate::hall::stage::{Beginning, plain};
 use std::alloc::Global;
-use std::hash::RandomState;
 use std::marker::Brand;
 use std::process::Abort;
-use std::random::RandomSource;
 use std::sync::atomic::Ordering::SeqCst;
 use std::sync::{Arc, Wait};
 use std::test::*;
 use table::{ENDS_SHORT, LONG_LINE, NOTHING, READS, ROWS, SILENT, WRITES, asking, first_over};
-use tc_kinds::Kind;
 use tc_locked::{Clock, Hall, Naming};
-use tc_partition::Fast;
-use tc_plain::{Cache, Plain};
+use tc_plain::Plain;
 use tc_users::Users;
 use tc_workers::{Open, Worker};
 use wires::{Cut, Ending, Memory, Plan, Seen};
@@ -30,10 +26,10 @@ use wires::{Cut, Ending, Memory, Plan, Seen};
 const TURNS: u64 = 256;
 
 /// A connection over a wire, for so many turns: what it is sent, and whether it is dropped.
-fn play<C: Cache, N: Naming, R: Wait + Abort>(
+fn play<N: Naming, R: Wait + Abort>(
     rt: &R,
     alloc: Global,
-    hall: &Hall<C, N>,
+    hall: &Hall<Plain, N>,
     users: &Users,
     worker: &mut Worker<Memory, N>,
     plan: &Plan,
@@ -54,10 +50,10 @@ fn play<C: Cache, N: Naming, R: Wait + Abort>(
     Ok(())
 }
 
-fn play_on<C: Cache, N: Naming, R: Wait + Abort>(
+fn play_on<N: Naming, R: Wait + Abort>(
     rt: &R,
     alloc: Global,
-    beginning: Beginning<C>,
+    beginning: Beginning<Plain>,
     plans: &[Plan; 2],
 ) -> Result<(), Fail>
     requires name { beginning.opened ≡ N.table }
@@ -69,7 +65,7 @@ fn play_on<C: Cache, N: Naming, R: Wait + Abort>(
         users,
         caches,
     } = beginning;
-    let (hall, mut seats) = Hall::<C, N>::new(alloc, opened, &users, caches, 1, 16)?;
+    let (hall, mut seats) = Hall::<Plain, N>::new(alloc, opened, &users, caches, 1, 16)?;
     let Some(seat) = seats.pop() else {
         panic!(rt; "no seat")
     };
@@ -82,26 +78,10 @@ fn play_on<C: Cache, N: Naming, R: Wait + Abort>(
     Ok(())
 }
 
-/// Two connections, one after the other, on a hall of their own over a kind of cache.
-fn play_both_over<C: Kind, R: Wait + Abort>(
-    rt: &R,
-    alloc: Global,
-    hasher: RandomState,
-    plans: &[Plan; 2],
-) -> Result<(), Fail> {
-    let beginning = two_of::<C>(alloc, hasher)?;
-    play_on::<_, Brand, _>(rt, alloc, beginning, plans)
-}
-
-/// Two connections, one after the other, on a hall of their own over each kind of cache.
-fn play_both<R: Wait + Abort + RandomSource>(
-    rt: &R,
-    alloc: Global,
-    plans: &[Plan; 2],
-) -> Result<(), Fail> {
-    let hasher = RandomState::new(rt)?;
-    play_both_over::<Plain, _>(rt, alloc, hasher, plans)?;
-    play_both_over::<Fast, _>(rt, alloc, hasher, plans)
+/// Two connections, one after the other, on a hall of their own.
+fn play_both<R: Wait + Abort>(rt: &R, alloc: Global, plans: &[Plan; 2]) -> Result<(), Fail> {
+    let beginning = plain(alloc)?;
+    play_on::<Brand, _>(rt, alloc, beginning, plans)
 }
 
 #[test]
@@ -142,7 +122,7 @@ fn a_line_too_long_is_told_and_its_connection_dropped(rt: HostRuntime) -> Result
 }
 
 /// A row's stream, cut in two at each byte.
-fn cut_each<R: Wait + Abort + RandomSource>(
+fn cut_each<R: Wait + Abort>(
     rt: &R,
     alloc: Global,
     sends: &'static [u8],

@@ -4,9 +4,8 @@ ghost use Rattle.tc_fresh.specs.Beginning.{fresh_cache};
 
 use super::commands::{append, get, incr, look_up, set};
 use super::replayed::has_page;
-use super::stage::{Beginning, hall_of, two_of};
+use super::stage::{Beginning, hall_of, plain};
 use std::alloc::{AllocError, Global};
-use std::hash::RandomState;
 use std::marker::Brand;
 use std::process::Abort;
 use std::sync::Wait;
@@ -14,26 +13,15 @@ use std::test::*;
 use std::thread::{self, Threads};
 use tc_grammar::{Command, Form};
 use tc_item::Moment;
-use tc_kinds::Kind;
 use tc_locked::{Closed, Hall, Naming, Receipt, Seat};
-use tc_partition::Fast;
-use tc_plain::{Cache, Plain};
+use tc_plain::Cache;
 use tc_users::UserNo;
 
 #[test]
 fn four_threads_make_two_hundred_calls(rt: HostRuntime) -> Result<(), Fail> {
-    let (alloc, hasher) = (rt.alloc(), RandomState::new(&rt)?);
-    four_threads_over::<Plain, _>(&rt, alloc, hasher)?;
-    four_threads_over::<Fast, _>(&rt, alloc, hasher)
-}
-
-fn four_threads_over<C: Kind + Send + Sync, R: Threads + Wait + Abort + Sync>(
-    rt: &R,
-    alloc: Global,
-    hasher: RandomState,
-) -> Result<(), Fail> {
-    let beginning = two_of::<C>(alloc, hasher)?;
-    four_threads::<_, Brand, _>(rt, alloc, beginning)
+    let alloc = rt.alloc();
+    let beginning = plain(alloc)?;
+    four_threads::<_, Brand, _>(&rt, alloc, beginning)
 }
 
 fn four_threads<C: Cache + Send + Sync, N: Naming + Send + Sync, R: Threads + Wait + Abort + Sync>(
@@ -101,18 +89,9 @@ struct Work<N: Naming> {
 
 #[test]
 fn eight_threads_beside_a_keeper_leave_every_entry(rt: HostRuntime) -> Result<(), Fail> {
-    let (alloc, hasher) = (rt.alloc(), RandomState::new(&rt)?);
-    eight_threads_over::<Plain, _>(&rt, alloc, hasher)?;
-    eight_threads_over::<Fast, _>(&rt, alloc, hasher)
-}
-
-fn eight_threads_over<C: Kind + Send + Sync, R: Threads + Wait + Abort + Sync>(
-    rt: &R,
-    alloc: Global,
-    hasher: RandomState,
-) -> Result<(), Fail> {
-    let beginning = two_of::<C>(alloc, hasher)?;
-    eight_threads::<_, Brand, _>(rt, alloc, beginning)
+    let alloc = rt.alloc();
+    let beginning = plain(alloc)?;
+    eight_threads::<_, Brand, _>(&rt, alloc, beginning)
 }
 
 fn eight_threads<C: Cache + Send + Sync, N: Naming + Send + Sync, R: Threads + Wait + Abort + Sync>(

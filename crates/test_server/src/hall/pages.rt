@@ -4,34 +4,22 @@ ghost use Rattle.tc_fresh.specs.Beginning.{fresh_cache};
 
 use super::commands::{get, set, shows};
 use super::replayed::has_page;
-use super::stage::{Beginning, call, first, hall_of, two_of};
+use super::stage::{Beginning, call, first, hall_of, plain};
 use std::alloc::Global;
-use std::hash::RandomState;
 use std::marker::Brand;
 use std::process::Abort;
 use std::sync::Wait;
 use std::test::*;
 use tc_grammar::Command;
-use tc_kinds::Kind;
 use tc_locked::{Closed, Hall, Naming, Receipt, Seat};
-use tc_partition::Fast;
-use tc_plain::{Cache, Plain};
+use tc_plain::Cache;
 use tc_users::UserNo;
 
 #[test]
 fn forty_calls_turn_two_pages(rt: HostRuntime) -> Result<(), Fail> {
-    let (alloc, hasher) = (rt.alloc(), RandomState::new(&rt)?);
-    turn_two_pages_over::<Plain, _>(&rt, alloc, hasher)?;
-    turn_two_pages_over::<Fast, _>(&rt, alloc, hasher)
-}
-
-fn turn_two_pages_over<C: Kind, R: Wait + Abort>(
-    rt: &R,
-    alloc: Global,
-    hasher: RandomState,
-) -> Result<(), Fail> {
-    let beginning = two_of::<C>(alloc, hasher)?;
-    turn_two_pages::<_, Brand, _>(rt, alloc, beginning)
+    let alloc = rt.alloc();
+    let beginning = plain(alloc)?;
+    turn_two_pages::<_, Brand, _>(&rt, alloc, beginning)
 }
 
 fn turn_two_pages<C: Cache, N: Naming, R: Wait + Abort>(

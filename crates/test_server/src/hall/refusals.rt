@@ -4,35 +4,23 @@ ghost use Rattle.tc_fresh.specs.Beginning.{fresh_cache};
 
 use super::commands::set;
 use super::replayed::has_page;
-use super::stage::{Beginning, call, first, hall_of, two_of};
+use super::stage::{Beginning, call, first, hall_of, plain};
 use std::alloc::Global;
-use std::hash::RandomState;
 use std::marker::Brand;
 use std::process::Abort;
 use std::sync::Wait;
 use std::test::*;
 use tc_grammar::Command;
 use tc_item::Moment;
-use tc_kinds::Kind;
 use tc_locked::{CallFault, Hall, Naming, Seat};
-use tc_partition::Fast;
-use tc_plain::{Cache, Plain};
+use tc_plain::Cache;
 use tc_users::UserNo;
 
 #[test]
 fn a_refused_call_on_a_full_page_changes_nothing(rt: HostRuntime) -> Result<(), Fail> {
-    let (alloc, hasher) = (rt.alloc(), RandomState::new(&rt)?);
-    call_on_a_full_page_over::<Plain, _>(&rt, alloc, hasher)?;
-    call_on_a_full_page_over::<Fast, _>(&rt, alloc, hasher)
-}
-
-fn call_on_a_full_page_over<C: Kind, R: Wait + Abort>(
-    rt: &R,
-    alloc: Global,
-    hasher: RandomState,
-) -> Result<(), Fail> {
-    let beginning = two_of::<C>(alloc, hasher)?;
-    call_on_a_full_page::<_, Brand, _>(rt, alloc, beginning)
+    let alloc = rt.alloc();
+    let beginning = plain(alloc)?;
+    call_on_a_full_page::<_, Brand, _>(&rt, alloc, beginning)
 }
 
 fn call_on_a_full_page<C: Cache, N: Naming, R: Wait + Abort>(

@@ -3,19 +3,16 @@ ghost use Rattle.std.specs.Prelude.{◌≡◌, map};
 ghost use Rattle.tc_fresh.specs.Beginning.{fresh_cache};
 
 use super::commands::{get, set, shows, shows_nothing};
-use super::stage::{Beginning, call, first, hall_of, is_entered_at, two_of};
+use super::stage::{Beginning, call, first, hall_of, is_entered_at, plain};
 use std::alloc::Global;
-use std::hash::RandomState;
 use std::marker::Brand;
 use std::process::Abort;
 use std::sync::Wait;
 use std::test::*;
 use tc_grammar::Command;
 use tc_item::Moment;
-use tc_kinds::Kind;
 use tc_locked::{CallFault, Clock, Hall, Naming, Seat};
-use tc_partition::Fast;
-use tc_plain::{Cache, Plain};
+use tc_plain::Cache;
 use tc_users::UserNo;
 
 #[test]
@@ -29,18 +26,9 @@ fn the_clock_takes_the_later_moment(rt: HostRuntime) {
 
 #[test]
 fn a_seat_reads_its_own_set_back(rt: HostRuntime) -> Result<(), Fail> {
-    let (alloc, hasher) = (rt.alloc(), RandomState::new(&rt)?);
-    set_and_get_over::<Plain, _>(&rt, alloc, hasher)?;
-    set_and_get_over::<Fast, _>(&rt, alloc, hasher)
-}
-
-fn set_and_get_over<C: Kind, R: Wait + Abort>(
-    rt: &R,
-    alloc: Global,
-    hasher: RandomState,
-) -> Result<(), Fail> {
-    let beginning = two_of::<C>(alloc, hasher)?;
-    set_and_get::<_, Brand, _>(rt, alloc, beginning)
+    let alloc = rt.alloc();
+    let beginning = plain(alloc)?;
+    set_and_get::<_, Brand, _>(&rt, alloc, beginning)
 }
 
 fn set_and_get<C: Cache, N: Naming, R: Wait + Abort>(
@@ -133,18 +121,9 @@ const LATE: [Late; 2] = [
 
 #[test]
 fn a_late_call_is_entered_at_the_books_moment(rt: HostRuntime) -> Result<(), Fail> {
-    let (alloc, hasher) = (rt.alloc(), RandomState::new(&rt)?);
-    call_late_over::<Plain, _>(&rt, alloc, hasher)?;
-    call_late_over::<Fast, _>(&rt, alloc, hasher)
-}
-
-fn call_late_over<C: Kind, R: Wait + Abort>(
-    rt: &R,
-    alloc: Global,
-    hasher: RandomState,
-) -> Result<(), Fail> {
-    let beginning = two_of::<C>(alloc, hasher)?;
-    call_late::<_, Brand, _>(rt, alloc, beginning)
+    let alloc = rt.alloc();
+    let beginning = plain(alloc)?;
+    call_late::<_, Brand, _>(&rt, alloc, beginning)
 }
 
 fn call_late<C: Cache, N: Naming, R: Wait + Abort>(
@@ -201,18 +180,9 @@ fn call_once<C: Cache, N: Naming, R: Wait + Abort>(
 
 #[test]
 fn a_call_on_no_user_is_refused(rt: HostRuntime) -> Result<(), Fail> {
-    let (alloc, hasher) = (rt.alloc(), RandomState::new(&rt)?);
-    call_nobody_over::<Plain, _>(&rt, alloc, hasher)?;
-    call_nobody_over::<Fast, _>(&rt, alloc, hasher)
-}
-
-fn call_nobody_over<C: Kind, R: Wait + Abort>(
-    rt: &R,
-    alloc: Global,
-    hasher: RandomState,
-) -> Result<(), Fail> {
-    let beginning = two_of::<C>(alloc, hasher)?;
-    call_nobody::<_, Brand, _>(rt, alloc, beginning)
+    let alloc = rt.alloc();
+    let beginning = plain(alloc)?;
+    call_nobody::<_, Brand, _>(&rt, alloc, beginning)
 }
 
 fn call_nobody<C: Cache, N: Naming, R: Wait + Abort>(
@@ -263,18 +233,9 @@ fn has_no_user<C: Cache, N: Naming, R: Wait>(
 
 #[test]
 fn a_hall_that_lacks_a_seat_is_not_closed(rt: HostRuntime) -> Result<(), Fail> {
-    let (alloc, hasher) = (rt.alloc(), RandomState::new(&rt)?);
-    close_twice_over::<Plain, _>(&rt, alloc, hasher)?;
-    close_twice_over::<Fast, _>(&rt, alloc, hasher)
-}
-
-fn close_twice_over<C: Kind, R: Wait + Abort>(
-    rt: &R,
-    alloc: Global,
-    hasher: RandomState,
-) -> Result<(), Fail> {
-    let beginning = two_of::<C>(alloc, hasher)?;
-    close_twice::<_, Brand, _>(rt, alloc, beginning)
+    let alloc = rt.alloc();
+    let beginning = plain(alloc)?;
+    close_twice::<_, Brand, _>(&rt, alloc, beginning)
 }
 
 fn close_twice<C: Cache, N: Naming, R: Wait + Abort>(

@@ -3,15 +3,14 @@ ghost use Rattle.std.specs.Prelude.{◌≡◌, ◌<◌, map};
 ghost use Rattle.tc_fresh.specs.Beginning.{fresh_cache};
 
 use std::alloc::Global;
-use std::hash::RandomState;
 use std::process::Abort;
 use std::sync::Wait;
 use std::test::*;
+use tc_fresh::fresh_caches;
 use tc_grammar::Command;
 use tc_item::Moment;
-use tc_kinds::{Kind, begin_all};
 use tc_locked::{Hall, Naming, Opened, Receipt, Seat};
-use tc_plain::Cache;
+use tc_plain::{Cache, Plain};
 use tc_users::{Text, UserNo, UserSpec, Users};
 
 /// Users, a fresh cache for each, and a table for their hall.
@@ -40,10 +39,10 @@ fn two_users(alloc: Global) -> Result<Users, Fail> {
     Ok(users)
 }
 
-/// Two users with caches of a kind.
-pub fn two_of<C: Kind>(alloc: Global, hasher: RandomState) -> Result<Beginning<C>, Fail> {
+/// Two users with plain caches.
+pub fn plain(alloc: Global) -> Result<Beginning<Plain>, Fail> {
     let users = two_users(alloc)?;
-    let caches = begin_all::<C>(alloc, &users, hasher)?;
+    let caches = fresh_caches(alloc, &users)?;
     Ok(Beginning {
         opened: Opened::new(alloc)?,
         users,

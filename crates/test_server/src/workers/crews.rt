@@ -4,9 +4,8 @@ ghost use Rattle.tc_fresh.specs.Beginning.{fresh_cache};
 
 use super::table::{COUNTED, HELD, PASSES};
 use super::wires::{Memory, Plan, Seen};
-use crate::hall::stage::{Beginning, two_of};
+use crate::hall::stage::{Beginning, plain};
 use std::alloc::Global;
-use std::hash::RandomState;
 use std::marker::Brand;
 use std::process::Abort;
 use std::sync::atomic::AtomicU64;
@@ -17,10 +16,8 @@ use std::thread;
 use std::thread::Threads;
 use std::time::{Clock as Time, Duration};
 use tc_item::Moment;
-use tc_kinds::Kind;
 use tc_locked::{Clock, Hall, Naming, Seat};
-use tc_partition::Fast;
-use tc_plain::{Cache, Plain};
+use tc_plain::Plain;
 use tc_users::UserNo;
 use tc_workers::{Gate, Inlet, Keeper, Open, Patience, Place, Source, Taken, Worker, run_crew};
 
@@ -216,11 +213,12 @@ fn has_heard(seen: &Seen, plan: &Plan) -> bool {
     seen.odd.load(SeqCst) == 0 && seen.told.load(SeqCst) == plan.expects.len() as u64
 }
 
-fn hold_on<
-    C: Cache + Send + Sync,
-    N: Naming + Send + Sync,
-    R: Threads + Wait + Abort + Time + Copy + Send + Sync + Drop,
->(rt: &R, alloc: Global, beginning: Beginning<C>, hold: Hold) -> Result<(), Fail>
+fn hold_on<N: Naming + Send + Sync, R: Threads + Wait + Abort + Time + Copy + Send + Sync + Drop>(
+    rt: &R,
+    alloc: Global,
+    beginning: Beginning<Plain>,
+    hold: Hold,
+) -> Result<(), Fail>
     requires name { beginning.opened ≡ N.table }
     requires begins { N.terms.begins ≡ map fresh_cache beginning.users }
     requires terms { (N.terms.seats ≡ 2) × (N.terms.journal ≡ 16) }
@@ -230,7 +228,7 @@ fn hold_on<
         users,
         caches,
     } = beginning;
-    let (hall, mut seats) = Hall::<C, N>::new(alloc, opened, &users, caches, 2, 16)?;
+    let (hall, mut seats) = Hall::<Plain, N>::new(alloc, opened, &users, caches, 2, 16)?;
     let (Some(last), Some(first)) = (seats.pop(), seats.pop()) else {
         panic!(rt; "no seats")
     };
@@ -269,31 +267,28 @@ fn hold_on<
 }
 
 /// Bob is answered while alice's worker is held.
-fn hold_alice<C: Kind + Send + Sync, R: Threads + Wait + Abort + Time + Copy + Send + Sync + Drop>(
+fn hold_alice<R: Threads + Wait + Abort + Time + Copy + Send + Sync + Drop>(
     rt: &R,
     alloc: Global,
-    hasher: RandomState,
     hold: Hold,
 ) -> Result<(), Fail> {
-    let beginning = two_of::<C>(alloc, hasher)?;
-    hold_on::<_, Brand, _>(rt, alloc, beginning, hold)
+    let beginning = plain(alloc)?;
+    hold_on::<Brand, _>(rt, alloc, beginning, hold)
 }
 
 #[test]
 fn one_is_answered_while_another_is_held(rt: HostRuntime) -> Result<(), Fail> {
-    let hasher = RandomState::new(&rt)?;
     for hold in HOLDS {
-        hold_alice::<Plain, _>(&rt, rt.alloc(), hasher, *hold)?;
-        hold_alice::<Fast, _>(&rt, rt.alloc(), hasher, *hold)?;
+        hold_alice(&rt, rt.alloc(), *hold)?;
     }
     Ok(())
 }
 
-fn count_on<
-    C: Cache + Send + Sync,
-    N: Naming + Send + Sync,
-    R: Threads + Wait + Abort + Time + Copy + Send + Sync + Drop,
->(rt: &R, alloc: Global, beginning: Beginning<C>) -> Result<(), Fail>
+fn count_on<N: Naming + Send + Sync, R: Threads + Wait + Abort + Time + Copy + Send + Sync + Drop>(
+    rt: &R,
+    alloc: Global,
+    beginning: Beginning<Plain>,
+) -> Result<(), Fail>
     requires name { beginning.opened ≡ N.table }
     requires begins { N.terms.begins ≡ map fresh_cache beginning.users }
     requires terms { (N.terms.seats ≡ 8) × (N.terms.journal ≡ 16) }
@@ -303,7 +298,7 @@ fn count_on<
         users,
         caches,
     } = beginning;
-    let (hall, seats) = Hall::<C, N>::new(alloc, opened, &users, caches, 8, 16)?;
+    let (hall, seats) = Hall::<Plain, N>::new(alloc, opened, &users, caches, 8, 16)?;
     let signs = Arc::new(alloc, Signs::new())?;
     let seen = Arc::new(alloc, Seen::new())?;
     let mut crew = Vec::new(alloc);
@@ -331,9 +326,9 @@ fn count_on<
 }
 
 /// Closes a hall whose eight seats each made a hundred calls for alice.
-fn count_all<C: Cache, N: Naming, R: Abort>(
+fn count_all<N: Naming, R: Abort>(
     rt: &R,
-    hall: Hall<C, N>,
+    hall: Hall<Plain, N>,
     seats: Vec<Seat<N>>,
 ) -> Result<(), Fail>
     requires { N.terms.seats ≡ 8 }
@@ -349,16 +344,7 @@ fn count_all<C: Cache, N: Naming, R: Abort>(
 
 #[test]
 fn eight_workers_make_eight_hundred_calls(rt: HostRuntime) -> Result<(), Fail> {
-    let (alloc, hasher) = (rt.alloc(), RandomState::new(&rt)?);
-    count_over::<Plain, _>(&rt, alloc, hasher)?;
-    count_over::<Fast, _>(&rt, alloc, hasher)
-}
-
-fn count_over<C: Kind + Send + Sync, R: Threads + Wait + Abort + Time + Copy + Send + Sync + Drop>(
-    rt: &R,
-    alloc: Global,
-    hasher: RandomState,
-) -> Result<(), Fail> {
-    let beginning = two_of::<C>(alloc, hasher)?;
-    count_on::<_, Brand, _>(rt, alloc, beginning)
+    let alloc = rt.alloc();
+    let beginning = plain(alloc)?;
+    count_on::<Brand, _>(&rt, alloc, beginning)
 }

@@ -3,9 +3,8 @@
 ghost use Rattle.std.specs.Prelude.{◌≡◌, ◌≤◌, length, map};
 ghost use Rattle.tc_fresh.specs.Beginning.{fresh_cache};
 
-use crate::hall::stage::{Beginning, two_of};
+use crate::hall::stage::{Beginning, plain};
 use std::alloc::Global;
-use std::hash::RandomState;
 use std::marker::Brand;
 use std::process::Abort;
 use std::sync::atomic::AtomicU64;
@@ -13,7 +12,7 @@ use std::sync::atomic::Ordering::SeqCst;
 use std::sync::{Arc, Wait};
 use std::test::*;
 use tc_locked::{Clock, Hall, Naming};
-use tc_partition::Fast;
+use tc_plain::Plain;
 use tc_users::Users;
 use tc_workers::{Got, Open, Put, Wire, Worker};
 
@@ -124,7 +123,7 @@ fn join<N: Naming, R: Abort>(
 
 fn turn_often<N: Naming, R: Wait>(
     rt: &R,
-    hall: &Hall<Fast, N>,
+    hall: &Hall<Plain, N>,
     users: &Users,
     worker: &mut Worker<Flood, N>,
     turns: u32,
@@ -139,7 +138,7 @@ fn turn_often<N: Naming, R: Wait>(
 fn serve_both<N: Naming, R: Wait + Abort>(
     rt: &R,
     alloc: Global,
-    hall: &Hall<Fast, N>,
+    hall: &Hall<Plain, N>,
     users: &Users,
     worker: &mut Worker<Flood, N>,
 ) -> Result<(), Fail> {
@@ -157,7 +156,7 @@ fn serve_both<N: Naming, R: Wait + Abort>(
 fn serve_on<N: Naming, R: Wait + Abort>(
     rt: &R,
     alloc: Global,
-    beginning: Beginning<Fast>,
+    beginning: Beginning<Plain>,
 ) -> Result<(), Fail>
     requires name { beginning.opened ≡ N.table }
     requires begins { N.terms.begins ≡ map fresh_cache beginning.users }
@@ -168,7 +167,7 @@ fn serve_on<N: Naming, R: Wait + Abort>(
         users,
         caches,
     } = beginning;
-    let (hall, mut seats) = Hall::<Fast, N>::new(alloc, opened, &users, caches, 1, 16)?;
+    let (hall, mut seats) = Hall::<Plain, N>::new(alloc, opened, &users, caches, 1, 16)?;
     let Some(seat) = seats.pop() else {
         panic!(rt; "no seat")
     };
@@ -181,6 +180,6 @@ fn serve_on<N: Naming, R: Wait + Abort>(
 #[test]
 fn one_who_never_reads_is_read_no_more_and_another_goes_on(rt: HostRuntime) -> Result<(), Fail> {
     let alloc = rt.alloc();
-    let beginning = two_of::<Fast>(alloc, RandomState::new(&rt)?)?;
+    let beginning = plain(alloc)?;
     serve_on::<Brand, _>(&rt, alloc, beginning)
 }

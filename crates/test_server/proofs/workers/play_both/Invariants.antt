@@ -1,6 +1,6 @@
 use Rattle.std.proofs.Common.{map}
 use Rattle.tc_fresh.specs.Beginning.{fresh_cache}
-use Rattle.test_server.proofs.workers.play_both_over.Given as goal
+use Rattle.test_server.proofs.workers.play_both.Given as goal
 
 -- the hall over the table that was opened for these users
 abbrev pub ghosts-play_on : goal.ghosts-play_on

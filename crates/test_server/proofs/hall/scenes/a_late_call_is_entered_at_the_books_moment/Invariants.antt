@@ -1,6 +1,6 @@
 use Rattle.std.proofs.Common.{map}
 use Rattle.tc_fresh.specs.Beginning.{fresh_cache}
-use Rattle.test_server.proofs.hall.scenes.call_late_over.Given as goal
+use Rattle.test_server.proofs.hall.scenes.a_late_call_is_entered_at_the_books_moment.Given as goal
 
 -- the hall over the table that was opened for these users
 abbrev pub ghosts-call_late : goal.ghosts-call_late
