@@ -1,5 +1,6 @@
 //! Commands: what a line asks of a cache.
 ghost use Rattle.std.specs.Prelude.{◌≡◌, IfOk};
+ghost use Rattle.tc_grammar.specs.declared.command.Command.TheVariants.{Store, Get, Gat, Delete, Count, Touch};
 
 use std::alloc::Global;
 use tc_item::{Blob, Key, Keys, NoMemory};
@@ -103,59 +104,99 @@ pub enum Command {
     Quit,
 }
 
+/// A storage command with an equal head, over the same block.
+fn copy_store(alloc: Global, head: &Head, blob: &Blob) -> Result<Command, NoMemory>
+    ensures { IfOk result (λ command. command ≡ Store head.now blob.now) }
+{
+    let blob = blob.copy()?;
+    let head = head.copy(alloc)?;
+    Ok(Command::Store(head, blob))
+}
+
+/// A look-up of equal keys.
+fn copy_get(alloc: Global, form: Form, keys: &Keys) -> Result<Command, NoMemory>
+    ensures { IfOk result (λ command. command ≡ Get form keys.now) }
+{
+    let keys = keys.copy(alloc)?;
+    Ok(Command::Get { form, keys })
+}
+
+/// A look-up of equal keys with the same exptime.
+fn copy_gat(alloc: Global, form: Form, exptime: i64, keys: &Keys) -> Result<Command, NoMemory>
+    ensures { IfOk result (λ command. command ≡ Gat form exptime keys.now) }
+{
+    let keys = keys.copy(alloc)?;
+    Ok(Command::Gat {
+        form,
+        exptime,
+        keys,
+    })
+}
+
+/// A deletion of an equal key.
+fn copy_delete(alloc: Global, key: &Key, quiet: bool) -> Result<Command, NoMemory>
+    ensures { IfOk result (λ command. command ≡ Delete key.now quiet) }
+{
+    let key = key.copy(alloc)?;
+    Ok(Command::Delete { key, quiet })
+}
+
+/// A count of an equal key by the same value.
+fn copy_count(
+    alloc: Global,
+    way: Way,
+    key: &Key,
+    value: u64,
+    quiet: bool,
+) -> Result<Command, NoMemory>
+    ensures { IfOk result (λ command. command ≡ Count way key.now value quiet) }
+{
+    let key = key.copy(alloc)?;
+    Ok(Command::Count {
+        way,
+        key,
+        value,
+        quiet,
+    })
+}
+
+/// A touch of an equal key with the same exptime.
+fn copy_touch(alloc: Global, key: &Key, exptime: i64, quiet: bool) -> Result<Command, NoMemory>
+    ensures { IfOk result (λ command. command ≡ Touch key.now exptime quiet) }
+{
+    let key = key.copy(alloc)?;
+    Ok(Command::Touch {
+        key,
+        exptime,
+        quiet,
+    })
+}
+
 impl Command {
     /// An equal command. A block is shared and not copied.
     pub fn copy(&self, alloc: Global) -> Result<Command, NoMemory>
         ensures { IfOk result (λ command. command ≡ self.now) }
     {
         match self {
-            Command::Store(head, blob) => Ok(Command::Store(head.copy(alloc)?, blob.copy()?)),
-            Command::Get { form, keys } => {
-                let (form, keys) = (*form, keys.copy(alloc)?);
-                Ok(Command::Get { form, keys })
-            }
+            Command::Store(head, blob) => copy_store(alloc, head, blob),
+            Command::Get { form, keys } => copy_get(alloc, *form, keys),
             Command::Gat {
                 form,
                 exptime,
                 keys,
-            } => {
-                let (form, exptime, keys) = (*form, *exptime, keys.copy(alloc)?);
-                Ok(Command::Gat {
-                    form,
-                    exptime,
-                    keys,
-                })
-            }
-            Command::Delete { key, quiet } => {
-                let (key, quiet) = (key.copy(alloc)?, *quiet);
-                Ok(Command::Delete { key, quiet })
-            }
+            } => copy_gat(alloc, *form, *exptime, keys),
+            Command::Delete { key, quiet } => copy_delete(alloc, key, *quiet),
             Command::Count {
                 way,
                 key,
                 value,
                 quiet,
-            } => {
-                let (way, key, value, quiet) = (*way, key.copy(alloc)?, *value, *quiet);
-                Ok(Command::Count {
-                    way,
-                    key,
-                    value,
-                    quiet,
-                })
-            }
+            } => copy_count(alloc, *way, key, *value, *quiet),
             Command::Touch {
                 key,
                 exptime,
                 quiet,
-            } => {
-                let (key, exptime, quiet) = (key.copy(alloc)?, *exptime, *quiet);
-                Ok(Command::Touch {
-                    key,
-                    exptime,
-                    quiet,
-                })
-            }
+            } => copy_touch(alloc, key, *exptime, *quiet),
             Command::Flush { delay, quiet } => Ok(Command::Flush {
                 delay: *delay,
                 quiet: *quiet,

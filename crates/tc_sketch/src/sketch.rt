@@ -1,6 +1,6 @@
 //! The sketch: four rows, a place in each for every hash, and a count of records.
 
-ghost use Rattle.std.specs.Prelude.{◌≡◌, ◌+◌, ◌*◌, ◌^◌, ◌<◌, ◌≤◌, IfOk};
+ghost use Rattle.std.specs.Prelude.{◌≡◌, ◌+◌, ◌*◌, ◌^◌, ◌<◌, ◌≤◌, IfOk, replicate};
 ghost use Rattle.tc_sketch.specs.Sketch.{empty_sketch, place_of, recorded, aged, freq};
 ghost use Rattle.tc_sketch.specs.Counting.{IsSketch, CountsRecords};
 
@@ -71,12 +71,14 @@ impl Sketch {
         requires at_most { width ≤ 22 }
         ensures { IfOk result (λ s. s ≡ empty_sketch width) }
     {
+        let (row0, row1) = two_rows(alloc, width)?;
+        let (row2, row3) = two_rows(alloc, width)?;
         Ok(Sketch {
             width,
-            row0: Row::new(alloc, width)?,
-            row1: Row::new(alloc, width)?,
-            row2: Row::new(alloc, width)?,
-            row3: Row::new(alloc, width)?,
+            row0,
+            row1,
+            row2,
+            row3,
             count: 0,
         })
     }
@@ -128,6 +130,18 @@ impl Sketch {
             count: self.count,
         })
     }
+}
+
+// Two rows of counters of 0.
+fn two_rows(alloc: Global, width: u32) -> Result<(Row, Row), NoMemory>
+    requires at_least { 8 ≤ width }
+    requires at_most { width ≤ 22 }
+    ensures first { IfOk result (λ rows. rows.0 ≡ replicate (2 ^ width) 0) }
+    ensures second { IfOk result (λ rows. rows.1 ≡ replicate (2 ^ width) 0) }
+{
+    let first = Row::new(alloc, width)?;
+    let second = Row::new(alloc, width)?;
+    Ok((first, second))
 }
 
 // The place of a hash in the row of a multiplier.

@@ -9,8 +9,8 @@ invariant_of-result c = record {
   at_least = omega arith;
   at_most = omega arith;
   young = omega (arith, pow_pos c.args.width);
-  legal = subst IsSketch (sym (empty_by_rows c.args.width c.in_ok-new.ensures c.in_ok-new-2.ensures c.in_ok-new-3.ensures c.in_ok-new-4.ensures)) (IsSketch-empty_sketch c.args.width);
+  legal = subst IsSketch (sym (empty_by_rows c.args.width c.in_ok-row0.ensures.first c.in_ok-row0.ensures.second c.in_ok-row2.ensures.first c.in_ok-row2.ensures.second)) (IsSketch-empty_sketch c.args.width);
 }
 
 pub returns : goal.returns
-returns c = empty_by_rows c.args.width c.in_ok-new.ensures c.in_ok-new-2.ensures c.in_ok-new-3.ensures c.in_ok-new-4.ensures
+returns c = empty_by_rows c.args.width c.in_ok-row0.ensures.first c.in_ok-row0.ensures.second c.in_ok-row2.ensures.first c.in_ok-row2.ensures.second
