@@ -142,7 +142,7 @@ def drawing(budgets, rates):
     rules = "".join(f'<line x1="60" x2="{60 + wide}" y1="{320 - high * n / 5:.0f}" y2="{320 - high * n / 5:.0f}" stroke="#ddd"/>'
                     f'<text x="54" y="{324 - high * n / 5:.0f}" text-anchor="end">{20 * n} %</text>' for n in range(6))
     return (f'<svg xmlns="http://www.w3.org/2000/svg" width="720" height="360" font-family="sans-serif" font-size="11">'
-            f'{rules}{lines}{ticks}<text x="340" y="356" text-anchor="middle">budget, KiB</text></svg>\n')
+            f'<rect width="720" height="360" fill="#fff"/>{rules}{lines}{ticks}<text x="340" y="356" text-anchor="middle">budget, KiB</text></svg>\n')
 
 
 def main():
