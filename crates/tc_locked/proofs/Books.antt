@@ -83,7 +83,7 @@ stands_maintain start es b now s =
 abbrev pub here : BookState → Start
 here b = record { cache = b.settled; moment = b.moment; number = b.number; counts = b.counts }
 
-is_settled : (start : Start) (es : List Entry) (b : BookState) → Stands start es b → advance b.settled b.moment ≡ b.settled
+pub is_settled : (start : Start) (es : List Entry) (b : BookState) → Stands start es b → advance b.settled b.moment ≡ b.settled
 is_settled start es b s = ap (λ (k : UserCache). advance k b.moment) (sym s.settled) ∙ advance-earlier (left_by start.cache es) b.moment b.moment (omega arith) ∙ s.settled
 
 pub stands_turn : (start : Start) (b : BookState) → Stands start b.entries b → Stands (here b) [] (page_turned b)

@@ -126,6 +126,16 @@ impl<C: Cache> Book<C> {
         self.moment = self.moment.later(now);
     }
 
+    /// A copy of what the cache stands for. What it defers is done first, which nobody sees: for the
+    /// cache that is a few steps, and for the copy, a list, it would be many.
+    fn copy_settled(&mut self, alloc: Global) -> Result<Plain, NoMemory>
+        ensures state { self.new ≡ self.old }
+        ensures settled { IfOk result (λ plain. plain ≡ self.old.settled) }
+    {
+        self.cache.maintain(self.moment, u32::MAX);
+        self.cache.freeze(alloc)
+    }
+
     /// Begins a new page at what the cache stands for, where the page has entries. A refusal changes
     /// nothing.
     pub fn turn_page(&mut self, alloc: Global) -> Result<(), NoMemory>
@@ -163,7 +173,7 @@ impl<C: Cache> Book<C> {
         if self.entries.len() < journal {
             return self.call(alloc, seat_no, now, conn, command);
         }
-        let Ok(opening) = self.cache.freeze(alloc) else {
+        let Ok(opening) = self.copy_settled(alloc) else {
             return Err(CallFault::NoMemory);
         };
         let Ok(()) = self.make_room() else {

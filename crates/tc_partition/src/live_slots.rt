@@ -86,10 +86,19 @@ impl LiveSlots {
         requires { AreSound self.now.held.limits self.now.held.areas }
         ensures { SeeksSlot result moment key.now self.now }
     {
+        self.seek_from(None, key, moment)
+    }
+
+    /// The same, of a key that was found at this place: where it is still there, the index is not
+    /// asked.
+    pub(crate) fn seek_from(&self, place: Option<Slot>, key: &Key, moment: Moment) -> Option<Slot>
+        requires { AreSound self.now.held.limits self.now.held.areas }
+        ensures { SeeksSlot result moment key.now self.now }
+    {
         if is_flush_due(self.flush, moment) {
             return None;
         }
-        let slot = self.held.find(key)?;
+        let slot = self.held.find_from(place, key)?;
         match self.held.entry(slot) {
             Some(entry) => {
                 if alive(&entry.item, moment) {

@@ -1,16 +1,75 @@
 //! Look-ups that wait: what they show is peeked at, then each is noted.
-ghost use Rattle.std.specs.Prelude.{◌≡◌, ◌<◌, ◌∷◌, ◌++◌, [], nat_lt, length, IfOk, OnOk, OnErr};
+ghost use Rattle.std.specs.Prelude.{◌≡◌, ◌<◌, ◌∷◌, ◌++◌, [], nat_lt, length, option_map, option_to_list, IfOk, OnOk, OnErr};
+ghost use Rattle.tc_plain.specs.Entries.{hit_of};
+ghost use Rattle.tc_plain.specs.Live.{at_moment};
+ghost use Rattle.tc_plain.specs.Soundness.{AreSound};
 ghost use Rattle.tc_plain.specs.UserCache.{advance};
 ghost use Rattle.tc_plain.specs.Doing.{with_live, all_looked_up};
+ghost use Rattle.tc_partition.specs.Deferred.{peeked};
+ghost use Rattle.tc_partition.specs.LiveSlots.{live_of};
 ghost use Rattle.tc_partition.specs.Delayed.{settled_in, noted_in, hit_in, waits_next, waits_after};
 
 use crate::Fast;
+use crate::live_slots::LiveSlots;
+use smallvec::SmallVec;
 use std::alloc::Global;
-use tc_item::{Key, Moment, NoMemory};
-use tc_plain::look_up;
+use tc_item::{Key, Moment, NoMemory, Slot};
 use tc_readbuf::{Noted, PLACES, ReadBuf};
 use tc_sketch::hash;
 use tc_stats::Hits;
+
+/// Where keys were found, in the order asked. A few take no memory.
+type Places = SmallVec<Option<Slot>, 4>;
+
+/// Adds the hit of what a key will hold at the moment, and says where that is.
+fn add_hit(
+    alloc: Global,
+    live: &LiveSlots,
+    key: &Key,
+    moment: Moment,
+    hits: &mut Hits,
+) -> Result<Option<Slot>, NoMemory>
+    requires { AreSound live.now.held.limits live.now.held.areas }
+    ensures { OnOk result (hits.new
+        ≡ hits.old ++ option_to_list (option_map hit_of (peeked moment key.now (live_of live.now)))) }
+{
+    let Some(slot) = live.seek(key, moment) else {
+        return Ok(None);
+    };
+    if let Some(entry) = live.held.entry(slot) {
+        hits.push(alloc, entry.show(alloc)?)?;
+    }
+    Ok(Some(slot))
+}
+
+/// The hits of keys at the moment, in the order asked, and where each key was found.
+fn seek_all(
+    alloc: Global,
+    live: &LiveSlots,
+    keys: &[Key],
+    moment: Moment,
+) -> Result<(Hits, Places), NoMemory>
+    requires { AreSound live.now.held.limits live.now.held.areas }
+    ensures { IfOk result (λ r. r.0
+        ≡ (all_looked_up (λ i. i) keys.now (at_moment moment (live_of live.now))).0) }
+{
+    let mut hits = Hits::new();
+    let mut places = SmallVec::new(alloc);
+    places.reserve(keys.len())?;
+    for key in keys {
+        let place = add_hit(alloc, live, key, moment, &mut hits)?;
+        places.push(place)?;
+    }
+    Ok((hits, places))
+}
+
+/// Where a key was found, as far as that is known.
+fn place_at(places: &[Option<Slot>], i: usize) -> Option<Slot> {
+    match places.get(i) {
+        Some(place) => *place,
+        None => None,
+    }
+}
 
 /// Notes behind what waits, where there is room.
 fn push(waiting: &mut ReadBuf, noted: Noted, moment: Moment)
@@ -21,22 +80,23 @@ fn push(waiting: &mut ReadBuf, noted: Noted, moment: Moment)
 }
 
 impl Fast {
-    /// The hits of keys at the moment, or at the cache's own where that is later.
-    fn peek_all(&self, alloc: Global, now: Moment, keys: &[Key]) -> Result<Hits, NoMemory>
-        ensures { IfOk result (λ hits. hits
+    /// The hits of keys at the moment, or at the cache's own where that is later, and where each
+    /// key was found.
+    fn peek_all(&self, alloc: Global, now: Moment, keys: &[Key]) -> Result<(Hits, Places), NoMemory>
+        ensures { IfOk result (λ r. r.0
             ≡ (all_looked_up (λ i. i) keys.now (advance (settled_in self.now) now).live).0) }
     {
         let moment = self.moment.later(now);
-        look_up(alloc, &self.cache.live, keys, moment, None)
+        seek_all(alloc, &self.cache.live, keys, moment)
     }
 
-    /// Notes a look-up of a key.
-    fn note(&mut self, key: &Key)
+    /// Notes a look-up of a key, which was found at this place.
+    fn note(&mut self, key: &Key, place: Option<Slot>)
         requires { length self.old.waiting < 128 }
         ensures state { self.new ≡ noted_in self.old key.now }
         ensures settled { settled_in self.new ≡ hit_in key.now (settled_in self.old) }
     {
-        match self.cache.live.seek(key, self.moment) {
+        match self.cache.live.seek_from(place, key, self.moment) {
             Some(slot) => push(&mut self.waiting, Noted::Hit(slot), self.moment),
             None => {
                 push(
@@ -55,27 +115,28 @@ impl Fast {
         self.waiting.len() < PLACES
     }
 
-    /// One look-up more; where no more may wait, all that waits is done first.
-    fn note_next(&mut self, key: &Key)
+    /// One look-up more, of a key that was found at this place; where no more may wait, all that
+    /// waits is done first.
+    fn note_next(&mut self, key: &Key, place: Option<Slot>)
         ensures settled { settled_in self.new ≡ hit_in key.now (settled_in self.old) }
         ensures waits { length self.new.waiting ≡ waits_next (length self.old.waiting) }
     {
         if !self.has_room() {
             self.drain();
         }
-        self.note(key);
+        self.note(key, place);
     }
 
-    /// Look-ups of keys, one after another.
-    fn note_all(&mut self, keys: &[Key])
+    /// Look-ups of keys that were found at these places, one after another.
+    fn note_all(&mut self, keys: &[Key], places: &[Option<Slot>])
         ensures settled { settled_in self.new
             ≡ with_live (settled_in self.old) (all_looked_up (λ i. i) keys.now
             (settled_in self.old).live).1 }
         ensures waits { length self.new.waiting
             ≡ waits_after (length keys.now) (length self.old.waiting) }
     {
-        for key in keys {
-            self.note_next(key);
+        for (i, key) in keys.iter().enumerate() {
+            self.note_next(key, place_at(places, i));
         }
     }
 
@@ -97,10 +158,10 @@ impl Fast {
             ≡ waits_after (length keys.now) (length self.old.waiting)) }
         ensures unchanged_on_err { OnErr result (self.new ≡ self.old) }
     {
-        let first = self.peek_all(alloc, now, keys)?;
+        let (first, places) = self.peek_all(alloc, now, keys)?;
         let second = first.copy(alloc)?;
         self.raise(now);
-        self.note_all(keys);
+        self.note_all(keys, places.as_slice());
         Ok((first, second))
     }
 }

@@ -105,6 +105,26 @@ impl Slots {
         }
     }
 
+    /// Whether a slot holds an entry of this key.
+    fn is_of(&self, slot: Slot, key: &Key) -> bool
+        ensures { result ≡ true → IsFound key.now slot.0 self.now }
+    {
+        match self.entries.get(slot.0) {
+            Some(entry) => entry.key == *key,
+            None => false,
+        }
+    }
+
+    /// The slot of what a key holds; the index is asked only where that isn't this place.
+    pub fn find_from(&self, place: Option<Slot>, key: &Key) -> Option<Slot>
+        ensures { FindsSlot result key.now self.now }
+    {
+        match place {
+            Some(slot) if self.is_of(slot, key) => Some(slot),
+            Some(_) | None => self.find(key),
+        }
+    }
+
     /// What a slot holds.
     pub fn entry(&self, slot: Slot) -> Option<&Entry>
         ensures { option_copied result ≡ slice_index_or self.now.slots slot.0 None }
