@@ -22,7 +22,7 @@ impl Fault {
     pub(crate) fn text(self) -> &'static str {
         match self {
             Fault::Usage =>
-                "usage: bench [sketch|item|grammar|slru|wheel|session|hall [--measure]]",
+                "usage: bench [sketch|item|grammar|slru|wheel|session|partition|hall [--measure]]",
             Fault::NoMemory => "bench: out of memory",
             Fault::System => "bench: the clock, the arguments or standard output failed",
             Fault::Unfit => "bench: a key or a user was refused",

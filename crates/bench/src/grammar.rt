@@ -41,19 +41,22 @@ struct Readings<'a> {
     times: u32,
 }
 
-/// Whether a line has no fault.
-fn is_good(line: &Line) -> bool {
-    matches!(line, Line::Ready(_) | Line::NeedsBlock(..))
+impl Readings<'_> {
+    /// Whether a line has no fault.
+    fn read(&self, alloc: Global) -> Result<bool, NoMemory> {
+        match parse_line(alloc, self.line.as_bytes(), LIMIT)? {
+            Line::Ready(_) | Line::NeedsBlock(..) => Ok(true),
+            _ => Ok(false),
+        }
+    }
 }
 
 impl Work for Readings<'_> {
     fn run(&self, alloc: Global) -> Result<Tally, NoMemory> {
         let mut good: u32 = 0;
         for _ in 0..self.times {
-            let line = parse_line(alloc, self.line.as_bytes(), LIMIT)?;
-            if is_good(&line) {
-                good = good.wrapping_add(1);
-            }
+            let is_good = self.read(alloc)?;
+            good = good.wrapping_add(u32::from(is_good));
         }
         Ok(Tally {
             calls: self.times,

@@ -4,14 +4,20 @@
 //! prints what the calls came to and no times. bench/README.md says what each part measures.
 #![tactic(auto)]
 
+mod acts;
+mod calling;
+mod commands;
 mod fault;
 mod grammar;
 mod hall;
 mod item;
+mod lru_cache;
 mod measuring;
+mod partition;
 mod session;
 mod sketch;
 mod slru;
+mod turning;
 mod wheel;
 
 use fault::Fault;
@@ -30,17 +36,19 @@ enum Part {
     Slru,
     Wheel,
     Session,
+    Partition,
     Hall,
 }
 
 /// The parts, under the words that ask for them.
-const PARTS: [(&str, Part); 7] = [
+const PARTS: [(&str, Part); 8] = [
     ("sketch", Part::Sketch),
     ("item", Part::Item),
     ("grammar", Part::Grammar),
     ("slru", Part::Slru),
     ("wheel", Part::Wheel),
     ("session", Part::Session),
+    ("partition", Part::Partition),
     ("hall", Part::Hall),
 ];
 
@@ -92,6 +100,7 @@ fn run_part<R: Threads + Wait + Sync>(
         Part::Slru => slru::run(rt, extent),
         Part::Wheel => wheel::run(rt, extent),
         Part::Session => session::run(rt, extent),
+        Part::Partition => partition::run(rt, extent),
         Part::Hall => hall::run(rt, threads, extent),
     }
 }

@@ -25,6 +25,13 @@ pub(crate) struct Tally {
     pub(crate) sum: u32,
 }
 
+/// What calls took together, and how many they were.
+#[derive(Clone, Copy)]
+pub(crate) struct Spent {
+    pub(crate) time: Duration,
+    pub(crate) tally: Tally,
+}
+
 /// What a line of output speaks of.
 #[derive(Clone, Copy)]
 pub(crate) struct Topic<'a> {
@@ -65,6 +72,19 @@ pub(crate) fn print_time(
     let each = f64::from(tally.sum) / f64::from(tally.calls);
     println!(rt; "{part}, {calls}: {nanos:.1} ns each; {sum}: {each:.2} each")?;
     Ok(())
+}
+
+/// Prints what calls came to, with what they took where that is asked for.
+pub(crate) fn print_spent(
+    rt: &HostRuntime,
+    topic: Topic,
+    spent: Spent,
+    extent: Extent,
+) -> Result<(), Fault> {
+    match extent {
+        Extent::Counted => print_count(rt, topic, spent.tally),
+        Extent::Measured => print_time(rt, topic, spent.time, spent.tally),
+    }
 }
 
 /// What work took in the best of some runs.

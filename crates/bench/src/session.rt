@@ -1,11 +1,14 @@
 //! What it takes to read requests from a stream, and to serve them on one connection, with the
 //! memory that is taken and given back.
+ghost use Rattle.std.specs.Prelude.{◌≤◌};
 
+use crate::commands::data;
 use crate::fault::Fault;
 use crate::measuring::{Extent, Tally, Topic, Work, report};
 use std::alloc::Global;
 use tc_feed::Feed;
-use tc_item::{Blob, Key, NoMemory};
+use tc_grammar::Command;
+use tc_item::{Key, NoMemory};
 use tc_session::{Session, Want};
 use tc_stats::{Hit, Hits, Outcome};
 use tc_users::{Text, UserSpec, Users};
@@ -126,11 +129,10 @@ fn one_user(alloc: Global) -> Result<Users, Fault> {
 /// A hit of 100 bytes.
 fn hit(alloc: Global) -> Result<Hit, Fault> {
     let key = Key::new(alloc, b"user:00000000001")?;
-    let blob = Blob::new(alloc, vec![in alloc; b'x'; 100]?)?;
     Ok(Hit {
         key,
         flags: 0,
-        blob,
+        blob: data(alloc)?,
         cas: 1,
     })
 }
@@ -203,12 +205,16 @@ enum Turn {
 }
 
 impl Cache<'_> {
+    fn answer(&self, session: &mut Session, command: &Command) -> Result<Turn, NoMemory>
+        requires room { 64 ≤ session.old.room }
+    {
+        session.answer(command, self.outcome)?;
+        Ok(Turn::Served)
+    }
+
     fn serve_one(&self, alloc: Global, session: &mut Session) -> Result<Turn, NoMemory> {
         match session.next(alloc, self.users)? {
-            Want::Call(_, command) => {
-                session.answer(&command, self.outcome)?;
-                Ok(Turn::Served)
-            }
+            Want::Call(_, command) => self.answer(session, &command),
             Want::Said => Ok(Turn::Said),
             Want::Nothing | Want::Close => Ok(Turn::Idle),
         }
@@ -236,31 +242,76 @@ struct Served<'a> {
 }
 
 impl Served<'_> {
-    /// Serves a stream that comes piece by piece; what is said to a piece is sent at once.
+    /// Serves what comes as one piece, and sends what is said to it.
+    fn serve_piece(
+        &self,
+        alloc: Global,
+        session: &mut Session,
+        piece: &[u8],
+    ) -> Result<Tally, NoMemory> {
+        session.push(piece)?;
+        let calls = self.cache.serve_all(alloc, session)?;
+        let said = session.out().len();
+        session.sent(said);
+        let sum = bytes(said);
+        Ok(Tally { calls, sum })
+    }
+
+    /// Serves a stream that comes piece by piece.
     fn serve_stream(&self, alloc: Global, session: &mut Session) -> Result<Tally, NoMemory> {
         let mut tally = Tally { calls: 0, sum: 0 };
         for piece in self.stream.chunks(PIECE) {
-            session.push(piece)?;
-            let served = self.cache.serve_all(alloc, session)?;
-            tally.calls = tally.calls.wrapping_add(served);
-            let said = session.out().len();
-            tally.sum = tally.sum.wrapping_add(bytes(said));
-            session.sent(said);
+            let served = self.serve_piece(alloc, session, piece)?;
+            tally.calls = tally.calls.wrapping_add(served.calls);
+            tally.sum = tally.sum.wrapping_add(served.sum);
         }
         Ok(tally)
+    }
+
+    /// The login's answer is sent first, and not counted.
+    fn serve(&self, alloc: Global, session: &mut Session) -> Result<Tally, NoMemory> {
+        self.serve_piece(alloc, session, b"set auth 0 0 10\r\napp secret\r\n")?;
+        self.serve_stream(alloc, session)
     }
 }
 
 impl Work for Served<'_> {
-    /// The login's answer is sent first, and not counted.
     fn run(&self, alloc: Global) -> Result<Tally, NoMemory> {
         let mut session = Session::new(alloc);
-        session.push(b"set auth 0 0 10\r\napp secret\r\n")?;
-        self.cache.serve_all(alloc, &mut session)?;
-        let said = session.out().len();
-        session.sent(said);
-        self.serve_stream(alloc, &mut session)
+        self.serve(alloc, &mut session)
     }
+}
+
+fn report_fed(rt: &HostRuntime, asked: Stream, stream: &[u8], extent: Extent) -> Result<(), Fault> {
+    let fed = Fed { stream };
+    report(rt, topic(asked.fed, "bytes read"), &fed, extent)
+}
+
+fn report_served<'a>(
+    rt: &HostRuntime,
+    users: &'a Users,
+    asked: Stream,
+    stream: &'a [u8],
+    extent: Extent,
+) -> Result<(), Fault> {
+    let outcome = outcome_of(rt.alloc(), asked.request)?;
+    let cache = Cache {
+        users,
+        outcome: &outcome,
+    };
+    let served = Served { cache, stream };
+    report(rt, topic(asked.served, "bytes said"), &served, extent)
+}
+
+fn report_both(
+    rt: &HostRuntime,
+    users: &Users,
+    asked: Stream,
+    stream: &[u8],
+    extent: Extent,
+) -> Result<(), Fault> {
+    report_fed(rt, asked, stream, extent)?;
+    report_served(rt, users, asked, stream, extent)
 }
 
 fn report_stream(
@@ -274,24 +325,17 @@ fn report_stream(
         Extent::Measured => asked.times.saturating_mul(MORE),
     };
     let stream = stream_of(rt.alloc(), asked.request, times)?;
-    let fed = Fed { stream: &stream };
-    report(rt, topic(asked.fed, "bytes read"), &fed, extent)?;
-    let outcome = outcome_of(rt.alloc(), asked.request)?;
-    let cache = Cache {
-        users,
-        outcome: &outcome,
-    };
-    let served = Served {
-        cache,
-        stream: &stream,
-    };
-    report(rt, topic(asked.served, "bytes said"), &served, extent)
+    report_both(rt, users, asked, &stream, extent)
+}
+
+fn report_streams(rt: &HostRuntime, users: &Users, extent: Extent) -> Result<(), Fault> {
+    for stream in STREAMS {
+        report_stream(rt, users, stream, extent)?;
+    }
+    Ok(())
 }
 
 pub(crate) fn run(rt: &HostRuntime, extent: Extent) -> Result<(), Fault> {
     let users = one_user(rt.alloc())?;
-    for stream in STREAMS {
-        report_stream(rt, &users, stream, extent)?;
-    }
-    Ok(())
+    report_streams(rt, &users, extent)
 }

@@ -86,13 +86,20 @@ fn time_calls(rt: &HostRuntime, sketch: &mut Sketch) -> Result<(Duration, Durati
     Ok((recorded, start.elapsed(rt)?, sum))
 }
 
-/// Times records and looks in a sketch of this width.
-fn measure_calls(rt: &HostRuntime, width: u32, part: &str) -> Result<(), Fault>
+/// The same in a sketch of this width.
+fn time_width(rt: &HostRuntime, width: u32) -> Result<(Duration, Duration, u32), Fault>
     requires at_least { 8 ≤ width }
     requires at_most { width ≤ 22 }
 {
     let mut sketch = Sketch::new(rt.alloc(), width)?;
-    let (recorded, looked, sum) = time_calls(rt, &mut sketch)?;
+    time_calls(rt, &mut sketch)
+}
+
+fn measure_calls(rt: &HostRuntime, width: u32, part: &str) -> Result<(), Fault>
+    requires at_least { 8 ≤ width }
+    requires at_most { width ≤ 22 }
+{
+    let (recorded, looked, sum) = time_width(rt, width)?;
     let tally = Tally { calls: CALLS, sum };
     let sum = "their frequency";
     let calls = "records";

@@ -116,15 +116,21 @@ fn remove_half(wheel: &mut Wheel) -> u32 {
     FEW / 2
 }
 
-fn count(rt: &HostRuntime) -> Result<(), Fault> {
-    let mut wheel = roomy(rt.alloc(), FEW)?;
+/// What comes of adding the few slots, and of removing half of them later.
+fn count_few(alloc: Global) -> Result<(Tally, Tally), NoMemory> {
+    let mut wheel = roomy(alloc, FEW)?;
     add_few(&mut wheel);
     let sum = given_by(&mut wheel, 50);
     let added = Tally { calls: FEW, sum };
     let calls = remove_half(&mut wheel);
     let sum = given_by(&mut wheel, 100);
+    Ok((added, Tally { calls, sum }))
+}
+
+fn count(rt: &HostRuntime) -> Result<(), Fault> {
+    let (added, removed) = count_few(rt.alloc())?;
     print_count(rt, BY_HALF, added)?;
-    print_count(rt, OF_HALF, Tally { calls, sum })
+    print_count(rt, OF_HALF, removed)
 }
 
 /// Slot number so many in an order that looks random, of a power of two slots.
@@ -170,11 +176,16 @@ fn time_rounds(
     Ok(spent)
 }
 
+/// The same in a wheel with room for them.
+fn time_slots(rt: &HostRuntime, slots: u32, rounds: u32) -> Result<Spent, Fault> {
+    let mut wheel = roomy(rt.alloc(), slots)?;
+    time_rounds(rt, &mut wheel, slots, rounds)
+}
+
 fn measure_calls(rt: &HostRuntime, timed: Timed) -> Result<(), Fault> {
     let Timed { part, slots } = timed;
     let rounds = CALLS.checked_div(slots).unwrap_or(0);
-    let mut wheel = roomy(rt.alloc(), slots)?;
-    let spent = time_rounds(rt, &mut wheel, slots, rounds)?;
+    let spent = time_slots(rt, slots, rounds)?;
     let calls = rounds.wrapping_mul(slots);
     let tally = Tally { calls, sum: calls };
     print_time(

@@ -1,0 +1,103 @@
+//! What caches are measured with: keys of 16 bytes, data of 100, and commands on them.
+
+use crate::fault::Fault;
+use std::alloc::Global;
+use tc_grammar::{Command, Form, Head, StoreKind};
+use tc_item::{Blob, Key, Keys, NoMemory};
+
+/// The bytes of each item's data.
+const DATA: usize = 100;
+
+/// The second at which all items are due. What is timed before happens at the first one.
+pub(crate) const DUE: u64 = 60;
+
+/// A prime, so that its multiples pass over each place of a span once.
+const STRIDE: u64 = 2_654_435_761;
+
+/// The numbers of some items, from the first on.
+#[derive(Clone, Copy)]
+pub(crate) struct Span {
+    pub(crate) first: u32,
+    pub(crate) count: u32,
+}
+
+impl Span {
+    /// The number at a place, in an order that looks random.
+    fn number(self, place: u32) -> u32 {
+        let stirred = u64::from(place).wrapping_mul(STRIDE);
+        let offset = stirred.checked_rem(u64::from(self.count)).unwrap_or(0);
+        let offset = u32::try_from(offset).unwrap_or(0);
+        self.first.wrapping_add(offset)
+    }
+}
+
+/// What is asked for under a key.
+#[derive(Clone, Copy)]
+pub(crate) enum Ask<'a> {
+    Get,
+    /// A `set` of this data.
+    Set(&'a Blob),
+    Delete,
+}
+
+/// The key of an item, of 16 bytes.
+pub(crate) fn key(alloc: Global, number: u32) -> Result<Key, Fault> {
+    let text = format!(in alloc; "user:{number:011}")?;
+    Ok(Key::new(alloc, text.as_bytes())?)
+}
+
+/// An item's data, shared with no other.
+pub(crate) fn data(alloc: Global) -> Result<Blob, NoMemory> {
+    let bytes = vec![in alloc; b'x'; DATA]?;
+    Blob::new(alloc, bytes)
+}
+
+fn set(key: Key, blob: Blob) -> Command {
+    let head = Head {
+        kind: StoreKind::Set,
+        key,
+        flags: 0,
+        exptime: DUE as i64,
+        cas_unique: 0,
+        quiet: false,
+    };
+    Command::Store(head, blob)
+}
+
+fn command(alloc: Global, ask: Ask, number: u32) -> Result<Command, Fault> {
+    let key = key(alloc, number)?;
+    match ask {
+        Ask::Get => Ok(Command::Get {
+            form: Form::Bare,
+            keys: Keys::one(key),
+        }),
+        Ask::Set(data) => Ok(set(key, data.copy()?)),
+        Ask::Delete => Ok(Command::Delete { key, quiet: false }),
+    }
+}
+
+/// A `set` of an item with data of its own.
+pub(crate) fn item(alloc: Global, number: u32) -> Result<Command, Fault> {
+    let data = data(alloc)?;
+    command(alloc, Ask::Set(&data), number)
+}
+
+/// One command for each item of a span, in an order that looks random.
+pub(crate) fn commands(alloc: Global, ask: Ask, span: Span) -> Result<Vec<Command>, Fault> {
+    let mut commands = Vec::new(alloc);
+    for place in 0..span.count {
+        let command = command(alloc, ask, span.number(place))?;
+        commands.push(command)?;
+    }
+    Ok(commands)
+}
+
+/// The key of each item of a span, in an order that looks random.
+pub(crate) fn keys(alloc: Global, span: Span) -> Result<Vec<Key>, Fault> {
+    let mut keys = Vec::new(alloc);
+    for place in 0..span.count {
+        let key = key(alloc, span.number(place))?;
+        keys.push(key)?;
+    }
+    Ok(keys)
+}

@@ -1,0 +1,176 @@
+//! How long the call of a hall takes that turns a page.
+ghost use Rattle.std.specs.Prelude.{◌≡◌, ◌<◌, map};
+ghost use Rattle.tc_fresh.specs.Beginning.{fresh_cache};
+
+use crate::calling::{begin, call, store_all, users_of};
+use crate::fault::Fault;
+use crate::measuring::{Extent, Spent, Tally, Topic, print_spent};
+use std::hash::RandomState;
+use std::marker::Brand;
+use std::sync::Wait;
+use std::time::{Duration, Instant};
+use tc_grammar::Command;
+use tc_kinds::Kind;
+use tc_locked::{Hall, Naming, Opened, Seat};
+use tc_partition::Fast;
+use tc_plain::Cache;
+use tc_users::Users;
+
+/// What one user holds while pages are turned.
+#[derive(Clone, Copy)]
+struct Load {
+    part: &'static str,
+    items: u32,
+    budget: u64,
+    journal: usize,
+    turns: u32,
+}
+
+const LIGHT: Load = Load {
+    part: "hall",
+    items: 20,
+    budget: 65_536,
+    journal: 16,
+    turns: 3,
+};
+
+const LOADS: [Load; 3] = [
+    Load {
+        part: "hall of 10000 items",
+        items: 10_000,
+        budget: 1 << 22,
+        journal: 4_096,
+        turns: 5,
+    },
+    Load {
+        part: "hall of 100000 items",
+        items: 100_000,
+        budget: 1 << 25,
+        journal: 4_096,
+        turns: 5,
+    },
+    Load {
+        part: "hall of 1000000 items",
+        items: 1_000_000,
+        budget: 1 << 28,
+        journal: 4_096,
+        turns: 5,
+    },
+];
+
+/// Calls until a page is turned, and says what the call took that turned it.
+fn time_turn<C: Cache, N: Naming, R: Wait>(
+    rt: &HostRuntime,
+    waiting: &R,
+    hall: &Hall<C, N>,
+    seat: &mut Seat<N>,
+    command: &Command,
+    journal: usize,
+) -> Result<Duration, Fault> {
+    let first = call(waiting, rt.alloc(), hall, seat, 1, command)?;
+    for _ in 0..journal {
+        let start = Instant::now(rt)?;
+        let shown = call(waiting, rt.alloc(), hall, seat, 1, command)?;
+        let time = start.elapsed(rt)?;
+        if shown.page != first.page {
+            return Ok(time);
+        }
+    }
+    Err(Fault::Unfit)
+}
+
+/// Has so many pages turned once the user holds all items, and says what the calls took that turned
+/// them.
+fn time_turns<C: Cache, N: Naming, R: Wait>(
+    rt: &HostRuntime,
+    waiting: &R,
+    hall: &Hall<C, N>,
+    seats: &mut Vec<Seat<N>>,
+    command: &Command,
+    load: Load,
+) -> Result<Duration, Fault> {
+    store_all(waiting, rt.alloc(), hall, seats, load.items)?;
+    let Some(seat) = seats.first_mut() else {
+        return Err(Fault::Unfit);
+    };
+    let mut time = Duration::ZERO;
+    for _ in 0..load.turns {
+        let turn = time_turn(rt, waiting, hall, seat, command, load.journal)?;
+        time = time.saturating_add(turn);
+    }
+    Ok(time)
+}
+
+/// Turns pages of the hall N, which begins so.
+fn turn_hall<C: Cache, N: Naming, R: Wait>(
+    rt: &HostRuntime,
+    waiting: &R,
+    users: &Users,
+    begun: (Opened, Vec<C>),
+    command: &Command,
+    load: Load,
+) -> Result<Duration, Fault>
+    requires name { begun.0 ≡ N.table }
+    requires begins { N.terms.begins ≡ map fresh_cache users.now }
+    requires caches { map C.settled begun.1.items ≡ map fresh_cache users.now }
+    requires seats { 1 ≡ N.terms.seats }
+    requires journal { (load.journal ≡ N.terms.journal) × (0 < load.journal) }
+{
+    let (opened, caches) = begun;
+    let (hall, mut seats) = Hall::<C, N>::new(rt.alloc(), opened, users, caches, 1, load.journal)?;
+    time_turns(rt, waiting, &hall, &mut seats, command, load)
+}
+
+/// Turns pages of a hall of these users.
+fn turn_users<C: Kind, R: Wait>(
+    rt: &HostRuntime,
+    waiting: &R,
+    users: &Users,
+    command: &Command,
+    load: Load,
+) -> Result<Duration, Fault> {
+    if load.journal == 0 {
+        return Err(Fault::Unfit);
+    }
+    let begun = begin::<C>(rt.alloc(), users, RandomState::new(rt)?)?;
+    turn_hall::<C, Brand, R>(rt, waiting, users, begun, command, load)
+}
+
+fn report_load<R: Wait>(
+    rt: &HostRuntime,
+    waiting: &R,
+    command: &Command,
+    load: Load,
+    extent: Extent,
+) -> Result<(), Fault> {
+    let users = users_of(rt.alloc(), 1, load.budget)?;
+    let time = turn_users::<Fast, R>(rt, waiting, &users, command, load)?;
+    let topic = Topic {
+        part: load.part,
+        calls: "calls that turned a page",
+        sum: "items held",
+    };
+    let tally = Tally {
+        calls: load.turns,
+        sum: load.items.wrapping_mul(load.turns),
+    };
+    print_spent(rt, topic, Spent { time, tally }, extent)
+}
+
+/// Turns pages of halls whose user holds an item that `command` asks for, among others.
+pub(crate) fn report_turns<R: Wait>(
+    rt: &HostRuntime,
+    waiting: &R,
+    command: &Command,
+    extent: Extent,
+) -> Result<(), Fault> {
+    match extent {
+        Extent::Counted => report_load(rt, waiting, command, LIGHT, extent),
+        Extent::Measured => {
+            for load in LOADS {
+                report_load(rt, waiting, command, load, extent)?;
+            }
+            Ok(())
+        }
+    }
+}
