@@ -1,4 +1,4 @@
-//! The fast cache beside the plain one, on commands that are drawn.
+//! Two kinds of cache side by side, on commands that are drawn.
 ghost use Rattle.std.specs.Prelude.{◌≤◌, ◌^◌};
 
 use crate::draws::{Draws, KEYS, drawn, push_key};
@@ -6,63 +6,63 @@ use crate::fixtures::{at, done};
 use std::alloc::Global;
 use std::hash::RandomState;
 use std::process::Abort;
-use std::random::RandomSource;
 use std::test::Fail;
 use tc_grammar::Command;
 use tc_item::{Moment, NoMemory};
+use tc_kinds::Kind;
 use tc_partition::Fast;
 use tc_plain::{Cache, Live, Plain};
 use tc_sketch::{Sketch, hash};
+use tc_stats::Outcome;
 
-/// How many commands are drawn, and after how many what both stand for is compared.
-const COMMANDS: u64 = 10_000;
-
+/// How many commands are drawn between two looks at what both stand for, and how many such rounds.
 const ROUND: u64 = 500;
 
-/// Whether a command comes to the same.
-fn does_alike(
-    alloc: Global,
-    plain: &mut Plain,
-    fast: &mut Fast,
-    now: Moment,
-    command: &Command,
-) -> bool {
-    match (
-        done(alloc, plain, now, command),
-        done(alloc, fast, now, command),
-    ) {
+const ROUNDS: u64 = 20;
+
+/// Whether a command was done twice, with the same outcome.
+fn is_done_alike(first: &Result<Outcome, NoMemory>, second: &Result<Outcome, NoMemory>) -> bool {
+    match (first, second) {
         (Ok(first), Ok(second)) => first == second,
         _ => false,
     }
 }
 
+/// Whether a command comes to the same.
+fn does_alike<C: Cache, D: Cache>(
+    alloc: Global,
+    first: &mut C,
+    second: &mut D,
+    now: Moment,
+    command: &Command,
+) -> bool {
+    let one = done(alloc, first, now, command);
+    let other = done(alloc, second, now, command);
+    is_done_alike(&one, &other)
+}
+
 /// Maintains both, one time in three, by a limit that is drawn.
-fn maintain(plain: &mut Plain, fast: &mut Fast, now: Moment, draws: &mut Draws) {
+fn maintain<C: Cache, D: Cache>(first: &mut C, second: &mut D, now: Moment, draws: &mut Draws) {
     if draws.below(3) == 0 {
         let limit = u32::try_from(draws.below(9)).unwrap_or(0);
-        plain.maintain(now, limit);
-        fast.maintain(now, limit);
+        first.maintain(now, limit);
+        second.maintain(now, limit);
     }
 }
 
 /// Maintains both perhaps, and says whether the next command comes to the same.
-fn goes_on_alike(
+fn goes_on_alike<C: Cache, D: Cache>(
+    rt: &impl Abort,
     alloc: Global,
-    plain: &mut Plain,
-    fast: &mut Fast,
+    first: &mut C,
+    second: &mut D,
     draws: &mut Draws,
-    second: u64,
-) -> Result<bool, Fail> {
-    let command = drawn(alloc, draws)?;
-    let late = draws.below(4);
-    maintain(plain, fast, at(second), draws);
-    Ok(does_alike(
-        alloc,
-        plain,
-        fast,
-        at(second.saturating_sub(late)),
-        &command,
-    ))
+    now: u64,
+) -> Result<bool, NoMemory> {
+    let command = drawn(rt, alloc, draws)?;
+    let late = at(now.saturating_sub(draws.below(4)));
+    maintain(first, second, at(now), draws);
+    Ok(does_alike(alloc, first, second, late, &command))
 }
 
 /// Whether each key was seen as often.
@@ -98,47 +98,87 @@ fn is_same(alloc: Global, first: &Plain, second: &Plain) -> Result<bool, NoMemor
     Ok(holds && is_seen_alike(alloc, &first.live.sketch, &second.live.sketch)?)
 }
 
-/// Whether both stand for the same.
-fn stands_alike(alloc: Global, plain: &Plain, fast: &Fast) -> Result<bool, NoMemory> {
-    let frozen = fast.freeze(alloc)?;
-    is_same(alloc, plain, &frozen)
+/// Whether a cache stands for this.
+fn stands_for<C: Cache>(alloc: Global, cache: &C, state: &Plain) -> Result<bool, NoMemory> {
+    let frozen = cache.freeze(alloc)?;
+    is_same(alloc, state, &frozen)
 }
 
-/// Does one command after another on both.
-fn go_on(rt: &impl Abort, alloc: Global, plain: &mut Plain, fast: &mut Fast) -> Result<(), Fail> {
-    let mut draws = Draws::new();
-    for step in 0..COMMANDS {
-        let second = 1_000 + step / 7;
-        assert!(rt;
-            goes_on_alike(alloc, plain, fast, &mut draws, second)?,
-            "{step}"
-        );
-        if step % ROUND == ROUND - 1 {
-            assert!(rt; stands_alike(alloc, plain, fast)?, "{step}");
-        }
+/// Whether both stand for the same.
+fn stands_alike<C: Cache, D: Cache>(
+    alloc: Global,
+    first: &C,
+    second: &D,
+) -> Result<bool, NoMemory> {
+    let frozen = first.freeze(alloc)?;
+    stands_for(alloc, second, &frozen)
+}
+
+/// Does the commands of a round on both, of which this many were done before.
+fn go_on<C: Cache, D: Cache>(
+    rt: &impl Abort,
+    alloc: Global,
+    first: &mut C,
+    second: &mut D,
+    draws: &mut Draws,
+    before: u64,
+) -> Result<(), NoMemory> {
+    for step in 0..ROUND {
+        let number = before.saturating_add(step);
+        let alike = goes_on_alike(rt, alloc, first, second, draws, 1_000 + number / 7)?;
+        assert!(rt; alike, "{number}");
     }
     Ok(())
 }
 
-/// Both caches at a budget, which evict some entries.
-fn expect_alike<R: Abort + RandomSource>(rt: &R, alloc: Global, budget: u64) -> Result<(), Fail>
+/// Does one command after another on both, and looks at them behind each round.
+fn expect_alike<C: Cache, D: Cache>(
+    rt: &impl Abort,
+    alloc: Global,
+    first: &mut C,
+    second: &mut D,
+) -> Result<(), NoMemory> {
+    let mut draws = Draws::new();
+    for round in 0..ROUNDS {
+        go_on(rt, alloc, first, second, &mut draws, round * ROUND)?;
+        let alike = stands_alike(alloc, first, second)?;
+        assert!(rt; alike, "round {round}");
+    }
+    Ok(())
+}
+
+/// Whether a cache has evicted entries.
+fn has_evicted<C: Cache>(alloc: Global, cache: &C) -> Result<bool, NoMemory> {
+    let frozen = cache.freeze(alloc)?;
+    Ok(frozen.counters.evictions > 0)
+}
+
+/// A cache of each of two kinds at a budget, which evict some entries.
+fn expect_kinds_alike<C: Kind, D: Kind>(
+    rt: &impl Abort,
+    alloc: Global,
+    hasher: RandomState,
+    budget: u64,
+) -> Result<(), NoMemory>
     requires least { 65536 ≤ budget }
     requires most { budget ≤ 2 ^ 30 }
 {
-    let hasher = RandomState::new(rt)?;
-    let mut plain = Plain::new(alloc, budget, 1_048_576)?;
-    let mut fast = Fast::new(alloc, budget, 1_048_576, hasher)?;
-    go_on(rt, alloc, &mut plain, &mut fast)?;
-    assert!(rt; plain.counters.evictions > 0);
+    let mut first = C::begin(alloc, budget, 1_048_576, hasher)?;
+    let mut second = D::begin(alloc, budget, 1_048_576, hasher)?;
+    expect_alike(rt, alloc, &mut first, &mut second)?;
+    let evicted = has_evicted(alloc, &first)?;
+    assert!(rt; evicted);
     Ok(())
 }
 
 #[test]
 fn drawn_commands_come_to_the_same_at_the_least_budget(rt: HostRuntime) -> Result<(), Fail> {
-    expect_alike(&rt, rt.alloc(), 65_536)
+    let hasher = RandomState::new(&rt)?;
+    Ok(expect_kinds_alike::<Plain, Fast>(&rt, rt.alloc(), hasher, 65_536)?)
 }
 
 #[test]
 fn drawn_commands_come_to_the_same_at_a_larger_budget(rt: HostRuntime) -> Result<(), Fail> {
-    expect_alike(&rt, rt.alloc(), 1_000_000)
+    let hasher = RandomState::new(&rt)?;
+    Ok(expect_kinds_alike::<Plain, Fast>(&rt, rt.alloc(), hasher, 1_000_000)?)
 }

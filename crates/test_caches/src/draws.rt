@@ -2,7 +2,7 @@
 
 use crate::fixtures::command;
 use std::alloc::Global;
-use std::test::Fail;
+use std::process::Abort;
 use tc_counter::write_into;
 use tc_grammar::Command;
 use tc_item::NoMemory;
@@ -120,7 +120,11 @@ fn line(alloc: Global, draws: &mut Draws) -> Result<Vec<u8>, NoMemory> {
 }
 
 /// The next command. Its data begins with a digit.
-pub(crate) fn drawn(alloc: Global, draws: &mut Draws) -> Result<Command, Fail> {
+pub(crate) fn drawn(
+    rt: &impl Abort,
+    alloc: Global,
+    draws: &mut Draws,
+) -> Result<Command, NoMemory> {
     let line = line(alloc, draws)?;
-    command(alloc, &line, "7")
+    command(rt, alloc, &line, "7")
 }

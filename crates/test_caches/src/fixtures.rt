@@ -5,7 +5,6 @@ use crate::table::{
 };
 use std::alloc::{AllocError, Global};
 use std::process::Abort;
-use std::test::Fail;
 use tc_counter::write_into;
 use tc_grammar::{Command, Line, parse_line};
 use tc_item::{Blob, Moment, NoMemory};
@@ -24,15 +23,26 @@ fn block_of(alloc: Global, front: &str, length: usize) -> Result<Vec<u8>, AllocE
     Ok(block)
 }
 
+/// A block as a blob.
+fn blob_of(alloc: Global, front: &str, length: usize) -> Result<Blob, NoMemory> {
+    let block = block_of(alloc, front, length)?;
+    Blob::new(alloc, block)
+}
+
 /// A command by its line and the front of its block.
-pub(crate) fn command(alloc: Global, line: &[u8], front: &str) -> Result<Command, Fail> {
+pub(crate) fn command(
+    rt: &impl Abort,
+    alloc: Global,
+    line: &[u8],
+    front: &str,
+) -> Result<Command, NoMemory> {
     match parse_line(alloc, line, 1_048_576)? {
         Line::Ready(command) => Ok(command),
         Line::NeedsBlock(head, length) => {
-            let block = block_of(alloc, front, length as usize)?;
-            Ok(Command::Store(head, Blob::new(alloc, block)?))
+            let blob = blob_of(alloc, front, length as usize)?;
+            Ok(Command::Store(head, blob))
         }
-        Line::Refused { .. } => Err("a line that is refused".into()),
+        Line::Refused { .. } => panic!(rt; "a line that is refused"),
     }
 }
 
@@ -119,9 +129,14 @@ fn comes_to<C: Cache>(
 }
 
 /// Does a row's command, and says whether it comes to what it should.
-fn does<C: Cache>(alloc: Global, cache: &mut C, row: &Row) -> Result<bool, Fail> {
-    let command = command(alloc, row.1.as_bytes(), row.2)?;
-    Ok(comes_to(alloc, cache, row.0, &command, row.3)?)
+fn does<C: Cache>(
+    rt: &impl Abort,
+    alloc: Global,
+    cache: &mut C,
+    row: &Row,
+) -> Result<bool, NoMemory> {
+    let command = command(rt, alloc, row.1.as_bytes(), row.2)?;
+    comes_to(alloc, cache, row.0, &command, row.3)
 }
 
 /// Does the commands of rows, and expects what they should come to.
@@ -130,18 +145,25 @@ pub(crate) fn expect<C: Cache>(
     alloc: Global,
     cache: &mut C,
     rows: &[Row],
-) -> Result<(), Fail> {
+) -> Result<(), NoMemory> {
     for row in rows {
-        assert!(rt; does(alloc, cache, row)?, "{} at {}", row.1, row.0);
+        let is_right = does(rt, alloc, cache, row)?;
+        assert!(rt; is_right, "{} at {}", row.1, row.0);
     }
     Ok(())
 }
 
 /// What `stats` shows at a second.
-fn stats<C: Cache>(alloc: Global, cache: &mut C, second: u64) -> Result<Counters, Fail> {
-    match done(alloc, cache, at(second), &Command::Stats)? {
+fn stats<C: Cache>(
+    rt: &impl Abort,
+    alloc: Global,
+    cache: &mut C,
+    second: u64,
+) -> Result<Counters, NoMemory> {
+    let outcome = done(alloc, cache, at(second), &Command::Stats)?;
+    match &outcome {
         Outcome::Stats(statistics) => Ok(*statistics.counters()),
-        _ => Err("not what stats comes to".into()),
+        _ => panic!(rt; "not what stats comes to"),
     }
 }
 
@@ -150,9 +172,9 @@ pub(crate) fn expect_evictions<C: Cache>(
     rt: &impl Abort,
     alloc: Global,
     cache: &mut C,
-) -> Result<(), Fail> {
+) -> Result<(), NoMemory> {
     expect(rt, alloc, cache, &EVICTIONS)?;
-    let shown = stats(alloc, cache, 0)?;
+    let shown = stats(rt, alloc, cache, 0)?;
     assert!(rt; shown.evictions == 5);
     Ok(())
 }
@@ -162,11 +184,11 @@ pub(crate) fn expect_counters<C: Cache>(
     rt: &impl Abort,
     alloc: Global,
     cache: &mut C,
-) -> Result<(), Fail> {
+) -> Result<(), NoMemory> {
     expect(rt, alloc, cache, &COUNTED)?;
-    let shown = stats(alloc, cache, 15)?;
+    let shown = stats(rt, alloc, cache, 15)?;
     assert!(rt; shown == BEFORE_THE_FLUSH);
-    let flushed = stats(alloc, cache, 16)?;
+    let flushed = stats(rt, alloc, cache, 16)?;
     assert!(rt; flushed == AFTER_THE_FLUSH);
     Ok(())
 }
@@ -176,7 +198,7 @@ pub(crate) fn expect_maintained<C: Cache>(
     rt: &impl Abort,
     alloc: Global,
     cache: &mut C,
-) -> Result<(), Fail> {
+) -> Result<(), NoMemory> {
     expect(rt, alloc, cache, &DUE)?;
     cache.maintain(at(105), 0);
     expect(rt, alloc, cache, &GONE)
@@ -188,7 +210,7 @@ fn expect_frozen<C: Cache>(
     alloc: Global,
     cache: &C,
     rows: &[Row],
-) -> Result<(), Fail> {
+) -> Result<(), NoMemory> {
     let mut frozen = cache.freeze(alloc)?;
     expect(rt, alloc, &mut frozen, rows)
 }
@@ -198,7 +220,7 @@ pub(crate) fn expect_alike<C: Cache>(
     rt: &impl Abort,
     alloc: Global,
     cache: &mut C,
-) -> Result<(), Fail> {
+) -> Result<(), NoMemory> {
     expect(rt, alloc, cache, &BEFORE)?;
     expect_frozen(rt, alloc, cache, &AFTER)?;
     expect(rt, alloc, cache, &AFTER)

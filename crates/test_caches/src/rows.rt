@@ -8,6 +8,7 @@ use std::hash::RandomState;
 use std::process::Abort;
 use std::random::RandomSource;
 use std::test::Fail;
+use tc_item::NoMemory;
 use tc_kinds::Kind;
 use tc_partition::Fast;
 use tc_plain::{Cache, Plain};
@@ -27,7 +28,12 @@ enum Scene {
     Freezing,
 }
 
-fn play<C: Cache>(rt: &impl Abort, alloc: Global, cache: &mut C, scene: Scene) -> Result<(), Fail> {
+fn play<C: Cache>(
+    rt: &impl Abort,
+    alloc: Global,
+    cache: &mut C,
+    scene: Scene,
+) -> Result<(), NoMemory> {
     match scene {
         Scene::Rows(rows) => expect(rt, alloc, cache, rows),
         Scene::Evictions => expect_evictions(rt, alloc, cache),
@@ -44,7 +50,7 @@ fn play_on<C: Kind>(
     hasher: RandomState,
     largest: u64,
     scene: Scene,
-) -> Result<(), Fail>
+) -> Result<(), NoMemory>
     requires least { 1 ≤ largest }
     requires most { largest ≤ 1048576 }
 {
@@ -64,7 +70,8 @@ fn play_on_both<R: Abort + RandomSource>(
 {
     let hasher = RandomState::new(rt)?;
     play_on::<Plain>(rt, alloc, hasher, largest, scene)?;
-    play_on::<Fast>(rt, alloc, hasher, largest, scene)
+    play_on::<Fast>(rt, alloc, hasher, largest, scene)?;
+    Ok(())
 }
 
 /// The commands of rows on an empty cache of each kind.
@@ -140,5 +147,6 @@ fn come_to(cache: &mut Plain, last: u64) {
 fn the_last_cas_number_is_taken_once(rt: HostRuntime) -> Result<(), Fail> {
     let mut cache = Plain::new(rt.alloc(), 65_536, 1_048_576)?;
     come_to(&mut cache, 18446744073709551614);
-    expect(&rt, rt.alloc(), &mut cache, &LAST_NUMBER)
+    expect(&rt, rt.alloc(), &mut cache, &LAST_NUMBER)?;
+    Ok(())
 }

@@ -3,7 +3,11 @@
 use crate::fixtures::{at, command, done};
 use std::alloc::Global;
 use std::hash::RandomState;
+use std::process::Abort;
 use std::test::Fail;
+use tc_grammar::Command;
+use tc_item::NoMemory;
+use tc_kinds::Kind;
 use tc_partition::Fast;
 use tc_plain::Cache;
 
@@ -16,8 +20,10 @@ enum Deed {
     Maintains(u32),
 }
 
-/// Deeds, and how many look-ups wait behind each.
-static TURNS: [(Deed, usize); 24] = [
+/// A deed, and how many look-ups wait behind it.
+type Turn = (Deed, usize);
+
+static TURNS: [Turn; 28] = [
     (Deed::Does("set k 0 0 1", 1), 0),
     (Deed::Does("get k", 128), 128),
     (Deed::Maintains(100), 28),
@@ -42,40 +48,89 @@ static TURNS: [(Deed, usize); 24] = [
     (Deed::Does("delete z", 1), 0),
     (Deed::Does("get k", 3), 3),
     (Deed::Does("flush_all 9", 1), 0),
+    (Deed::Does("get k", 3), 3),
+    (Deed::Does("version", 1), 0),
+    (Deed::Does("get k", 3), 3),
+    (Deed::Does("verbosity 1", 1), 0),
 ];
 
-/// Commands that touch no item.
-static IDLE: [&str; 2] = ["version", "verbosity 1"];
+/// A cache in which look-ups wait.
+trait Waiting: Kind {
+    /// How many wait.
+    fn waiting(&self) -> usize;
+}
 
-/// Does a line's command so often.
-fn repeat(alloc: Global, fast: &mut Fast, line: &str, times: u32) -> Result<(), Fail> {
-    let command = command(alloc, line.as_bytes(), "7")?;
+impl Waiting for Fast {
+    fn waiting(&self) -> usize {
+        self.waiting()
+    }
+}
+
+/// Does a command so often.
+fn do_often<C: Cache>(
+    alloc: Global,
+    cache: &mut C,
+    command: &Command,
+    times: u32,
+) -> Result<(), NoMemory> {
     for _ in 0..times {
-        done(alloc, fast, at(1_000), &command)?;
+        done(alloc, cache, at(1_000), command)?;
     }
     Ok(())
 }
 
-fn perform(alloc: Global, fast: &mut Fast, deed: Deed) -> Result<(), Fail> {
+/// Does a line's command so often.
+fn repeat<C: Cache>(
+    rt: &impl Abort,
+    alloc: Global,
+    cache: &mut C,
+    line: &str,
+    times: u32,
+) -> Result<(), NoMemory> {
+    let command = command(rt, alloc, line.as_bytes(), "7")?;
+    do_often(alloc, cache, &command, times)
+}
+
+fn perform<C: Cache>(
+    rt: &impl Abort,
+    alloc: Global,
+    cache: &mut C,
+    deed: Deed,
+) -> Result<(), NoMemory> {
     match deed {
-        Deed::Does(line, times) => repeat(alloc, fast, line, times)?,
-        Deed::Maintains(limit) => fast.maintain(at(1_000), limit),
+        Deed::Does(line, times) => repeat(rt, alloc, cache, line, times)?,
+        Deed::Maintains(limit) => cache.maintain(at(1_000), limit),
     }
     Ok(())
+}
+
+/// Does the deeds, and looks how many look-ups wait behind each.
+fn expect_turns<C: Waiting>(
+    rt: &impl Abort,
+    alloc: Global,
+    cache: &mut C,
+    turns: &[Turn],
+) -> Result<(), NoMemory> {
+    for turn in turns {
+        perform(rt, alloc, cache, turn.0)?;
+        assert!(rt; cache.waiting() == turn.1, "{}", turn.1);
+    }
+    Ok(())
+}
+
+/// Does the deeds on an empty cache of the kind.
+fn expect_waiting<C: Waiting>(
+    rt: &impl Abort,
+    alloc: Global,
+    hasher: RandomState,
+    turns: &[Turn],
+) -> Result<(), NoMemory> {
+    let mut cache = C::begin(alloc, 65_536, 1_048_576, hasher)?;
+    expect_turns(rt, alloc, &mut cache, turns)
 }
 
 #[test]
 fn look_ups_wait_until_something_else_is_done(rt: HostRuntime) -> Result<(), Fail> {
     let hasher = RandomState::new(&rt)?;
-    let mut fast = Fast::new(rt.alloc(), 65_536, 1_048_576, hasher)?;
-    for turn in &TURNS {
-        perform(rt.alloc(), &mut fast, turn.0)?;
-        assert!(rt; fast.waiting() == turn.1, "{}", turn.1);
-    }
-    for line in &IDLE {
-        repeat(rt.alloc(), &mut fast, "get k", 3)?;
-        repeat(rt.alloc(), &mut fast, line, 1)?;
-        assert!(rt; fast.waiting() == 0, "{line}");
-    }
-    Ok(())
+    Ok(expect_waiting::<Fast>(&rt, rt.alloc(), hasher, &TURNS)?)
 }

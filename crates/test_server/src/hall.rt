@@ -1,10 +1,8 @@
-//! Seats and books of one hall, with memory to spare. Each scene is over any cache, and its test runs it
-//! over the plain one.
+//! Seats and books of one hall, with memory to spare, over both kinds of cache.
 
 mod commands;
-mod crowd;
-mod pages;
-mod refusals;
+pub mod crowd;
+pub mod pages;
+pub mod refusals;
 mod replayed;
-mod scenes;
-pub mod stage;
+pub mod scenes;

@@ -11,4 +11,6 @@ mod server;
 #[cfg(test)]
 mod serving;
 #[cfg(test)]
+mod stage;
+#[cfg(test)]
 mod workers;

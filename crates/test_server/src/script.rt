@@ -1,6 +1,7 @@
 //! Scripts and what they print, by hand from the protocol's text.
 
 mod cuts;
+mod drawn;
 mod rows;
 mod streams;
 mod table;
@@ -42,6 +43,17 @@ fn joined(alloc: Global, parts: &[Part]) -> Result<Vec<u8>, AllocError> {
     Ok(text)
 }
 
+/// How a script ends over a kind of cache; what it prints comes behind what is there.
+fn run_over<C: Kind>(
+    alloc: Global,
+    hasher: RandomState,
+    script: &[u8],
+    out: &mut Vec<u8>,
+) -> Ended {
+    let mut input = script;
+    run_script::<C, _, _>(alloc, hasher, &mut input, out)
+}
+
 /// Whether a script ends so over a kind of cache, and prints this.
 fn ends_over<C: Kind>(
     alloc: Global,
@@ -50,10 +62,8 @@ fn ends_over<C: Kind>(
     wanted: Ended,
     output: &[u8],
 ) -> bool {
-    let mut input = script;
     let mut out = Vec::new(alloc);
-    let ended = run_script::<C, _, _>(alloc, hasher, &mut input, &mut out);
-    ended == wanted && out.as_slice() == output
+    run_over::<C>(alloc, hasher, script, &mut out) == wanted && out.as_slice() == output
 }
 
 /// Whether a script ends so over each kind of cache, and prints this.

@@ -1,12 +1,10 @@
 //! Threads on one hall.
-ghost use Rattle.std.specs.Prelude.{◌≡◌, map};
-ghost use Rattle.tc_fresh.specs.Beginning.{fresh_cache};
+ghost use Rattle.std.specs.Prelude.{◌≡◌};
 
 use super::commands::{append, get, incr, look_up, set};
 use super::replayed::has_page;
-use super::stage::{Beginning, hall_of, plain};
+use crate::stage::{Scene, closed, count, play};
 use std::alloc::{AllocError, Global};
-use std::marker::Brand;
 use std::process::Abort;
 use std::sync::Wait;
 use std::test::*;
@@ -19,28 +17,37 @@ use tc_users::UserNo;
 
 #[test]
 fn four_threads_make_two_hundred_calls(rt: HostRuntime) -> Result<(), Fail> {
-    let alloc = rt.alloc();
-    let beginning = plain(alloc)?;
-    four_threads::<_, Brand, _>(&rt, alloc, beginning)
+    play(&rt, rt.alloc(), 4, 16, Scene::FourThreads)
 }
 
-fn four_threads<C: Cache + Send + Sync, N: Naming + Send + Sync, R: Threads + Wait + Abort + Sync>(
+/// Fifty calls by each of four seats, each in a thread of its own.
+pub fn four_threads<
+    C: Cache + Send + Sync,
+    N: Naming + Send + Sync,
+    R: Threads + Wait + Abort + Sync,
+>(rt: &R, alloc: Global, hall: Hall<C, N>, seats: Vec<Seat<N>>, all: usize) -> Result<(), Fail>
+    requires { all ≡ N.terms.seats }
+{
+    let seats = call_by_four(rt, alloc, &hall, seats)?;
+    let closed = closed(rt, hall, seats);
+    expect_two_hundred(rt, &closed, all);
+    Ok(())
+}
+
+/// The seats come back.
+fn call_by_four<C: Cache + Send + Sync, N: Naming + Send + Sync, R: Threads + Wait + Abort + Sync>(
     rt: &R,
     alloc: Global,
-    beginning: Beginning<C>,
-) -> Result<(), Fail>
-    requires name { beginning.opened ≡ N.table }
-    requires begins { N.terms.begins ≡ map fresh_cache beginning.users }
-    requires terms { (N.terms.seats ≡ 4) × (N.terms.journal ≡ 16) }
-{
+    hall: &Hall<C, N>,
+    seats: Vec<Seat<N>>,
+) -> Result<Vec<Seat<N>>, Fail> {
     let set = set(alloc, b"abc")?;
-    let (hall, seats) = hall_of::<C, N>(alloc, beginning, 4, 16)?;
-    let seats = thread::map_vec(
+    let called = thread::map_vec(
         rt,
         seats,
-        &|seat| { fifty_calls(rt, alloc, &hall, seat, &set) },
-    )?;
-    close_with_two_hundred(rt, hall, seats)
+        &|seat| { fifty_calls(rt, alloc, hall, seat, &set) },
+    );
+    Ok(called?)
 }
 
 /// Makes 25 calls on each of two users, and hands the seat back.
@@ -60,24 +67,16 @@ fn fifty_calls<C: Cache, N: Naming, R: Wait + Abort>(
     seat
 }
 
-fn close_with_two_hundred<C: Cache, N: Naming, R: Abort>(
-    rt: &R,
-    hall: Hall<C, N>,
-    seats: Vec<Seat<N>>,
-) -> Result<(), Fail>
-    requires { N.terms.seats ≡ 4 }
+fn expect_two_hundred<C: Cache, N: Naming, R: Abort>(rt: &R, closed: &Closed<C, N>, all: usize)
+    requires { all ≡ N.terms.seats }
 {
-    let Ok(closed) = hall.close(seats) else {
-        panic!(rt; "not closed")
-    };
     let mut sum = 0u64;
     for seat_no in 0..4 {
         for user in 1..3 {
-            sum = sum.saturating_add(closed.count(seat_no, UserNo::new(user)));
+            sum = sum.saturating_add(count(rt, closed, all, seat_no, user));
         }
     }
     assert!(rt; sum == 200);
-    Ok(())
 }
 
 /// A seat, and the receipts of what it called.
@@ -89,22 +88,16 @@ struct Work<N: Naming> {
 
 #[test]
 fn eight_threads_beside_a_keeper_leave_every_entry(rt: HostRuntime) -> Result<(), Fail> {
-    let alloc = rt.alloc();
-    let beginning = plain(alloc)?;
-    eight_threads::<_, Brand, _>(&rt, alloc, beginning)
+    play(&rt, rt.alloc(), 8, 65_536, Scene::EightThreads)
 }
 
-fn eight_threads<C: Cache + Send + Sync, N: Naming + Send + Sync, R: Threads + Wait + Abort + Sync>(
-    rt: &R,
-    alloc: Global,
-    beginning: Beginning<C>,
-) -> Result<(), Fail>
-    requires name { beginning.opened ≡ N.table }
-    requires begins { N.terms.begins ≡ map fresh_cache beginning.users }
-    requires terms { (N.terms.seats ≡ 8) × (N.terms.journal ≡ 65536) }
-{
+/// A hundred calls by each of eight seats, beside a keeper, each in a thread of its own.
+pub fn eight_threads<
+    C: Cache + Send + Sync,
+    N: Naming + Send + Sync,
+    R: Threads + Wait + Abort + Sync,
+>(rt: &R, alloc: Global, hall: Hall<C, N>, seats: Vec<Seat<N>>) -> Result<(), Fail> {
     let commands = five_commands(alloc)?;
-    let (hall, seats) = hall_of::<C, N>(alloc, beginning, 8, 65_536)?;
     let works = beside_a_keeper(rt, alloc, &hall, seats, &commands)?;
     close_with_works(rt, alloc, hall, works, &commands)
 }
@@ -206,18 +199,30 @@ fn close_with_works<C: Cache, N: Naming, R: Abort>(
     works: Vec<Work<N>>,
     commands: &[Command],
 ) -> Result<(), Fail> {
+    let (seats, receipts) = parted(alloc, works)?;
+    let closed = closed(rt, hall, seats);
+    has_all_entries(rt, &closed, &receipts, commands);
+    assert!(rt; has_pages(alloc, &closed)?);
+    Ok(())
+}
+
+/// The seats, and the receipts of each.
+fn parted<N: Naming>(
+    alloc: Global,
+    works: Vec<Work<N>>,
+) -> Result<(Vec<Seat<N>>, Vec<Vec<Receipt<N>>>), Fail> {
     let mut seats = Vec::new(alloc);
     let mut receipts = Vec::new(alloc);
     for work in works {
         seats.push(work.seat)?;
         receipts.push(work.receipts)?;
     }
-    let Ok(closed) = hall.close(seats) else {
-        panic!(rt; "not closed")
-    };
-    has_all_entries(rt, &closed, &receipts, commands);
-    assert!(rt; has_page(alloc, &closed, 1, 400)? && has_page(alloc, &closed, 2, 400)?);
-    Ok(())
+    Ok((seats, receipts))
+}
+
+/// Whether each user's page has half of the entries, which lead to their outcomes.
+fn has_pages<C: Cache, N: Naming>(alloc: Global, closed: &Closed<C, N>) -> Result<bool, Fail> {
+    Ok(has_page(alloc, closed, 1, 400)? && has_page(alloc, closed, 2, 400)?)
 }
 
 /// Each of eight hundred receipts has its entry.

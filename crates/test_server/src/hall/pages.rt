@@ -1,39 +1,36 @@
 //! A page of 16 entries: which receipts still have theirs once pages were turned.
-ghost use Rattle.std.specs.Prelude.{◌≡◌, map};
-ghost use Rattle.tc_fresh.specs.Beginning.{fresh_cache};
+ghost use Rattle.std.specs.Prelude.{◌≡◌};
 
 use super::commands::{get, set, shows};
 use super::replayed::has_page;
-use super::stage::{Beginning, call, first, hall_of, plain};
+use crate::stage::{Scene, call, closed, count, first, play};
 use std::alloc::Global;
-use std::marker::Brand;
 use std::process::Abort;
 use std::sync::Wait;
 use std::test::*;
 use tc_grammar::Command;
 use tc_locked::{Closed, Hall, Naming, Receipt, Seat};
 use tc_plain::Cache;
-use tc_users::UserNo;
 
 #[test]
 fn forty_calls_turn_two_pages(rt: HostRuntime) -> Result<(), Fail> {
-    let alloc = rt.alloc();
-    let beginning = plain(alloc)?;
-    turn_two_pages::<_, Brand, _>(&rt, alloc, beginning)
+    play(&rt, rt.alloc(), 1, 16, Scene::TurnsPages)
 }
 
-fn turn_two_pages<C: Cache, N: Naming, R: Wait + Abort>(
+/// Makes a set and 39 gets on pages of 16 entries, and closes the hall.
+pub fn turn_two_pages<C: Cache, N: Naming, R: Wait + Abort>(
     rt: &R,
     alloc: Global,
-    beginning: Beginning<C>,
+    hall: Hall<C, N>,
+    mut seats: Vec<Seat<N>>,
+    all: usize,
 ) -> Result<(), Fail>
-    requires name { beginning.opened ≡ N.table }
-    requires begins { N.terms.begins ≡ map fresh_cache beginning.users }
-    requires terms { (N.terms.seats ≡ 1) × (N.terms.journal ≡ 16) }
+    requires { all ≡ N.terms.seats }
 {
-    let (hall, mut seats) = hall_of::<C, N>(alloc, beginning, 1, 16)?;
     let receipts = set_and_forty(rt, alloc, &hall, first(rt, &mut seats))?;
-    close_with_forty(rt, alloc, hall, seats, &receipts)
+    let closed = closed(rt, hall, seats);
+    assert!(rt; count(rt, &closed, all, 0, 1) == 40);
+    expect_forty(rt, alloc, &closed, &receipts)
 }
 
 fn set_and_forty<C: Cache, N: Naming, R: Wait + Abort>(
@@ -76,21 +73,15 @@ fn get_shown<C: Cache, N: Naming, R: Wait + Abort>(
     Ok(receipt)
 }
 
-fn close_with_forty<C: Cache, N: Naming, R: Abort>(
+/// The last page has eight entries, and the first 32 are gone.
+fn expect_forty<C: Cache, N: Naming, R: Abort>(
     rt: &R,
     alloc: Global,
-    hall: Hall<C, N>,
-    seats: Vec<Seat<N>>,
+    closed: &Closed<C, N>,
     receipts: &[Receipt<N>],
-) -> Result<(), Fail>
-    requires { N.terms.seats ≡ 1 }
-{
-    let Ok(closed) = hall.close(seats) else {
-        panic!(rt; "not closed")
-    };
-    assert!(rt; closed.count(0, UserNo::new(1)) == 40);
-    assert!(rt; has_last_eight(&closed, receipts));
-    assert!(rt; has_page(alloc, &closed, 1, 8)?);
+) -> Result<(), Fail> {
+    assert!(rt; has_last_eight(closed, receipts));
+    assert!(rt; has_page(alloc, closed, 1, 8)?);
     Ok(())
 }
 

@@ -1,12 +1,10 @@
 //! A call that is refused memory, where one is: the book, its page and its counts are as before.
-ghost use Rattle.std.specs.Prelude.{◌≡◌, map};
-ghost use Rattle.tc_fresh.specs.Beginning.{fresh_cache};
+ghost use Rattle.std.specs.Prelude.{◌≡◌};
 
 use super::commands::set;
 use super::replayed::has_page;
-use super::stage::{Beginning, call, first, hall_of, plain};
+use crate::stage::{Scene, call, closed, count, first, play};
 use std::alloc::Global;
-use std::marker::Brand;
 use std::process::Abort;
 use std::sync::Wait;
 use std::test::*;
@@ -18,23 +16,21 @@ use tc_users::UserNo;
 
 #[test]
 fn a_refused_call_on_a_full_page_changes_nothing(rt: HostRuntime) -> Result<(), Fail> {
-    let alloc = rt.alloc();
-    let beginning = plain(alloc)?;
-    call_on_a_full_page::<_, Brand, _>(&rt, alloc, beginning)
+    play(&rt, rt.alloc(), 1, 3, Scene::FillsPage)
 }
 
-fn call_on_a_full_page<C: Cache, N: Naming, R: Wait + Abort>(
+/// Fills a page of three entries and calls once more.
+pub fn call_on_a_full_page<C: Cache, N: Naming, R: Wait + Abort>(
     rt: &R,
     alloc: Global,
-    beginning: Beginning<C>,
+    hall: Hall<C, N>,
+    mut seats: Vec<Seat<N>>,
+    all: usize,
 ) -> Result<(), Fail>
-    requires name { beginning.opened ≡ N.table }
-    requires begins { N.terms.begins ≡ map fresh_cache beginning.users }
-    requires terms { (N.terms.seats ≡ 1) × (N.terms.journal ≡ 3) }
+    requires { all ≡ N.terms.seats }
 {
-    let (hall, mut seats) = hall_of::<C, N>(alloc, beginning, 1, 3)?;
     let refused = fill_page_and_call(rt, alloc, &hall, first(rt, &mut seats))?;
-    close_after(rt, alloc, hall, seats, refused)
+    close_after(rt, alloc, hall, seats, all, refused)
 }
 
 /// Fills a page, and says whether one call more is refused.
@@ -80,15 +76,14 @@ fn close_after<C: Cache, N: Naming, R: Abort>(
     alloc: Global,
     hall: Hall<C, N>,
     seats: Vec<Seat<N>>,
+    all: usize,
     refused: bool,
 ) -> Result<(), Fail>
-    requires { N.terms.seats ≡ 1 }
+    requires { all ≡ N.terms.seats }
 {
-    let Ok(closed) = hall.close(seats) else {
-        panic!(rt; "not closed")
-    };
-    let (count, entries) = if refused { (3, 3) } else { (4, 1) };
-    assert!(rt; closed.count(0, UserNo::new(1)) == count);
+    let (counted, entries) = if refused { (3, 3) } else { (4, 1) };
+    let closed = closed(rt, hall, seats);
+    assert!(rt; count(rt, &closed, all, 0, 1) == counted);
     assert!(rt; has_page(alloc, &closed, 1, entries)?);
     Ok(())
 }

@@ -1,17 +1,15 @@
 //! One or two seats: what a call comes to, at which moment, and how a hall ends.
-ghost use Rattle.std.specs.Prelude.{◌≡◌, map};
-ghost use Rattle.tc_fresh.specs.Beginning.{fresh_cache};
+ghost use Rattle.std.specs.Prelude.{◌≡◌};
 
 use super::commands::{get, set, shows, shows_nothing};
-use super::stage::{Beginning, call, first, hall_of, is_entered_at, plain};
+use crate::stage::{Scene, call, closed, count, first, play};
 use std::alloc::Global;
-use std::marker::Brand;
 use std::process::Abort;
 use std::sync::Wait;
 use std::test::*;
 use tc_grammar::Command;
 use tc_item::Moment;
-use tc_locked::{CallFault, Clock, Hall, Naming, Seat};
+use tc_locked::{CallFault, Clock, Hall, Missing, Naming, Receipt, Seat};
 use tc_plain::Cache;
 use tc_users::UserNo;
 
@@ -26,26 +24,11 @@ fn the_clock_takes_the_later_moment(rt: HostRuntime) {
 
 #[test]
 fn a_seat_reads_its_own_set_back(rt: HostRuntime) -> Result<(), Fail> {
-    let alloc = rt.alloc();
-    let beginning = plain(alloc)?;
-    set_and_get::<_, Brand, _>(&rt, alloc, beginning)
-}
-
-fn set_and_get<C: Cache, N: Naming, R: Wait + Abort>(
-    rt: &R,
-    alloc: Global,
-    beginning: Beginning<C>,
-) -> Result<(), Fail>
-    requires name { beginning.opened ≡ N.table }
-    requires begins { N.terms.begins ≡ map fresh_cache beginning.users }
-    requires terms { (N.terms.seats ≡ 1) × (N.terms.journal ≡ 16) }
-{
-    let (hall, mut seats) = hall_of::<C, N>(alloc, beginning, 1, 16)?;
-    one_reads_back(rt, alloc, &hall, first(rt, &mut seats))
+    play(&rt, rt.alloc(), 1, 16, Scene::ReadsBack)
 }
 
 /// What the first user set, the first user gets, and the second does not.
-fn one_reads_back<C: Cache, N: Naming, R: Wait + Abort>(
+pub fn read_back<C: Cache, N: Naming, R: Wait + Abort>(
     rt: &R,
     alloc: Global,
     hall: &Hall<C, N>,
@@ -54,8 +37,8 @@ fn one_reads_back<C: Cache, N: Naming, R: Wait + Abort>(
     assert!(rt; hall.users() == 2);
     store_for_one(rt, alloc, hall, seat)?;
     let get = get(alloc)?;
-    assert!(rt; finds(rt, alloc, hall, seat, 1, &get)?);
-    assert!(rt; !finds(rt, alloc, hall, seat, 2, &get)?);
+    let (one, other) = find_both(rt, alloc, hall, seat, &get)?;
+    assert!(rt; one && !other);
     Ok(())
 }
 
@@ -70,6 +53,19 @@ fn store_for_one<C: Cache, N: Naming, R: Wait + Abort>(
     Ok(())
 }
 
+/// Whether a look-up shows the data to each user.
+fn find_both<C: Cache, N: Naming, R: Wait + Abort>(
+    rt: &R,
+    alloc: Global,
+    hall: &Hall<C, N>,
+    seat: &mut Seat<N>,
+    get: &Command,
+) -> Result<(bool, bool), Fail> {
+    let one = finds(rt, alloc, hall, seat, 1, get)?;
+    let other = finds(rt, alloc, hall, seat, 2, get)?;
+    Ok((one, other))
+}
+
 /// Whether a look-up for a user shows the data, or nothing.
 fn finds<C: Cache, N: Naming, R: Wait + Abort>(
     rt: &R,
@@ -81,8 +77,9 @@ fn finds<C: Cache, N: Naming, R: Wait + Abort>(
 ) -> Result<bool, Fail> {
     let receipt = call(rt, alloc, hall, seat, user, 5, get)?;
     let outcome = &receipt.slip.outcome;
-    assert!(rt; shows(outcome, b"abc") || shows_nothing(outcome));
-    Ok(shows(outcome, b"abc"))
+    let finds = shows(outcome, b"abc");
+    assert!(rt; finds || shows_nothing(outcome));
+    Ok(finds)
 }
 
 /// A call on a user at a second, and the second at which it is entered.
@@ -121,25 +118,11 @@ const LATE: [Late; 2] = [
 
 #[test]
 fn a_late_call_is_entered_at_the_books_moment(rt: HostRuntime) -> Result<(), Fail> {
-    let alloc = rt.alloc();
-    let beginning = plain(alloc)?;
-    call_late::<_, Brand, _>(&rt, alloc, beginning)
+    play(&rt, rt.alloc(), 1, 16, Scene::CallsLate)
 }
 
-fn call_late<C: Cache, N: Naming, R: Wait + Abort>(
-    rt: &R,
-    alloc: Global,
-    beginning: Beginning<C>,
-) -> Result<(), Fail>
-    requires name { beginning.opened ≡ N.table }
-    requires begins { N.terms.begins ≡ map fresh_cache beginning.users }
-    requires terms { (N.terms.seats ≡ 1) × (N.terms.journal ≡ 16) }
-{
-    let (hall, mut seats) = hall_of::<C, N>(alloc, beginning, 1, 16)?;
-    call_around_maintenance(rt, alloc, &hall, first(rt, &mut seats))
-}
-
-fn call_around_maintenance<C: Cache, N: Naming, R: Wait + Abort>(
+/// Calls around a maintenance of the second user's book.
+pub fn call_late<C: Cache, N: Naming, R: Wait + Abort>(
     rt: &R,
     alloc: Global,
     hall: &Hall<C, N>,
@@ -160,45 +143,35 @@ fn call_all<C: Cache, N: Naming, R: Wait + Abort>(
     calls: &[Late],
 ) -> Result<(), Fail> {
     for late in calls {
-        call_once(rt, alloc, hall, seat, command, late)?;
+        let second = entered_at(rt, alloc, hall, seat, command, late)?;
+        assert!(rt; second == late.entered);
     }
     Ok(())
 }
 
-fn call_once<C: Cache, N: Naming, R: Wait + Abort>(
+/// The second at which a call is entered.
+fn entered_at<C: Cache, N: Naming, R: Wait + Abort>(
     rt: &R,
     alloc: Global,
     hall: &Hall<C, N>,
     seat: &mut Seat<N>,
     command: &Command,
     late: &Late,
-) -> Result<(), Fail> {
+) -> Result<u64, Fail> {
     let receipt = call(rt, alloc, hall, seat, late.user, late.second, command)?;
-    assert!(rt; is_entered_at(&receipt, late.entered));
-    Ok(())
+    Ok(second_of(&receipt))
+}
+
+fn second_of<N: Naming>(receipt: &Receipt<N>) -> u64 {
+    receipt.slip.moment.seconds()
 }
 
 #[test]
 fn a_call_on_no_user_is_refused(rt: HostRuntime) -> Result<(), Fail> {
-    let alloc = rt.alloc();
-    let beginning = plain(alloc)?;
-    call_nobody::<_, Brand, _>(&rt, alloc, beginning)
+    play(&rt, rt.alloc(), 1, 16, Scene::CallsNobody)
 }
 
-fn call_nobody<C: Cache, N: Naming, R: Wait + Abort>(
-    rt: &R,
-    alloc: Global,
-    beginning: Beginning<C>,
-) -> Result<(), Fail>
-    requires name { beginning.opened ≡ N.table }
-    requires begins { N.terms.begins ≡ map fresh_cache beginning.users }
-    requires terms { (N.terms.seats ≡ 1) × (N.terms.journal ≡ 16) }
-{
-    let (hall, mut seats) = hall_of::<C, N>(alloc, beginning, 1, 16)?;
-    nobody_answers(rt, alloc, &hall, first(rt, &mut seats))
-}
-
-fn nobody_answers<C: Cache, N: Naming, R: Wait + Abort>(
+pub fn call_nobody<C: Cache, N: Naming, R: Wait + Abort>(
     rt: &R,
     alloc: Global,
     hall: &Hall<C, N>,
@@ -219,58 +192,56 @@ fn has_no_user<C: Cache, N: Naming, R: Wait>(
     user: u32,
     command: &Command,
 ) -> bool {
-    let called = hall.call(
-        rt,
-        alloc,
-        seat,
-        UserNo::new(user),
-        Moment::FIRST,
-        1,
-        command,
-    );
+    let user = UserNo::new(user);
+    let called = hall.call(rt, alloc, seat, user, Moment::FIRST, 1, command);
     matches!(called, Err(CallFault::NoUser))
 }
 
 #[test]
 fn a_hall_that_lacks_a_seat_is_not_closed(rt: HostRuntime) -> Result<(), Fail> {
-    let alloc = rt.alloc();
-    let beginning = plain(alloc)?;
-    close_twice::<_, Brand, _>(&rt, alloc, beginning)
+    play(&rt, rt.alloc(), 2, 16, Scene::ClosesTwice)
 }
 
-fn close_twice<C: Cache, N: Naming, R: Wait + Abort>(
+/// Stores by the first of two seats, and closes the hall without the last and then with it.
+pub fn close_twice<C: Cache, N: Naming, R: Wait + Abort>(
     rt: &R,
     alloc: Global,
-    beginning: Beginning<C>,
-) -> Result<(), Fail>
-    requires name { beginning.opened ≡ N.table }
-    requires begins { N.terms.begins ≡ map fresh_cache beginning.users }
-    requires terms { (N.terms.seats ≡ 2) × (N.terms.journal ≡ 16) }
-{
-    let (hall, mut seats) = hall_of::<C, N>(alloc, beginning, 2, 16)?;
-    store_for_one(rt, alloc, &hall, first(rt, &mut seats))?;
-    close_without_the_last(rt, hall, seats)
-}
-
-/// Closes a hall of two seats with the first alone, and then with both.
-fn close_without_the_last<C: Cache, N: Naming, R: Abort>(
-    rt: &R,
     hall: Hall<C, N>,
     mut seats: Vec<Seat<N>>,
+    all: usize,
 ) -> Result<(), Fail>
-    requires { N.terms.seats ≡ 2 }
+    requires { all ≡ N.terms.seats }
 {
-    let last = seats.pop();
-    let Err(missing) = hall.close(seats) else {
-        panic!(rt; "closed without the last seat")
-    };
-    let mut seats = missing.seats;
-    if let Some(seat) = last {
-        seats.push(seat)?;
+    store_for_one(rt, alloc, &hall, first(rt, &mut seats))?;
+    let last = seats.pop().ok_or("no seat")?;
+    let missing = refused(rt, hall, seats);
+    close_with(rt, missing, last, all)
+}
+
+/// What comes back of a hall that is closed with too few seats.
+fn refused<C: Cache, N: Naming, R: Abort>(
+    rt: &R,
+    hall: Hall<C, N>,
+    seats: Vec<Seat<N>>,
+) -> Missing<C, N> {
+    match hall.close(seats) {
+        Err(missing) => missing,
+        Ok(_) => panic!(rt; "closed without the last seat"),
     }
-    let Ok(closed) = missing.hall.close(seats) else {
-        panic!(rt; "not closed with both")
-    };
-    assert!(rt; closed.count(0, UserNo::new(1)) == 1 && closed.count(1, UserNo::new(1)) == 0);
+}
+
+/// Closes a hall with the seat that was missing.
+fn close_with<C: Cache, N: Naming, R: Abort>(
+    rt: &R,
+    missing: Missing<C, N>,
+    last: Seat<N>,
+    all: usize,
+) -> Result<(), Fail>
+    requires { all ≡ N.terms.seats }
+{
+    let Missing { hall, mut seats } = missing;
+    seats.push(last)?;
+    let closed = closed(rt, hall, seats);
+    assert!(rt; count(rt, &closed, all, 0, 1) == 1 && count(rt, &closed, all, 1, 1) == 0);
     Ok(())
 }

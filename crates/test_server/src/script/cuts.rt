@@ -161,12 +161,12 @@ fn push_byte(script: &mut Vec<u8>, byte: u8) -> Result<(), AllocError> {
 }
 
 /// Appends a line that brings these bytes to connection 1, and one that does all that it can.
-fn push_piece(script: &mut Vec<u8>, bytes: &[u8]) -> Result<(), AllocError> {
+pub(super) fn push_piece(script: &mut Vec<u8>, bytes: &[u8]) -> Result<(), AllocError> {
     script.extend_from_slice(b"piece 1 ")?;
     for byte in bytes {
         push_byte(script, *byte)?;
     }
-    script.extend_from_slice(b"\nact 1 9\n")
+    script.extend_from_slice(b"\nact 1 99\n")
 }
 
 /// The script that brings a stream in two pieces.

@@ -1,12 +1,11 @@
 //! Crews: a user who is held up holds up no other, and all calls are counted.
-ghost use Rattle.std.specs.Prelude.{◌≡◌, map};
-ghost use Rattle.tc_fresh.specs.Beginning.{fresh_cache};
+ghost use Rattle.std.specs.Prelude.{◌≡◌};
 
 use super::table::{COUNTED, HELD, PASSES};
+use super::talks::worker_of;
 use super::wires::{Memory, Plan, Seen};
-use crate::hall::stage::{Beginning, plain};
+use crate::stage::{self, Scene, closed, play};
 use std::alloc::Global;
-use std::marker::Brand;
 use std::process::Abort;
 use std::sync::atomic::AtomicU64;
 use std::sync::atomic::Ordering::SeqCst;
@@ -16,9 +15,9 @@ use std::thread;
 use std::thread::Threads;
 use std::time::{Clock as Time, Duration};
 use tc_item::Moment;
-use tc_locked::{Clock, Hall, Naming, Seat};
-use tc_plain::Plain;
-use tc_users::UserNo;
+use tc_locked::{Clock, Closed, Hall, Naming, Seat};
+use tc_plain::Cache;
+use tc_users::{UserNo, Users};
 use tc_workers::{Gate, Inlet, Keeper, Open, Patience, Place, Source, Taken, Worker, run_crew};
 
 /// So often one thread looks for what another does, a millisecond apart.
@@ -76,7 +75,7 @@ impl<R: Time + Drop> Gate for Holding<R> {
 
 /// When an inlet gives its wire.
 #[derive(Clone, Copy, Debug, PartialEq, Eq)]
-enum When {
+pub enum When {
     AtOnce,
     /// Once alice's worker is held.
     OnceHeld,
@@ -162,7 +161,7 @@ impl<R: Time + Drop> Source for Still<R> {
 
 /// Where alice's worker is held, and when bob comes.
 #[derive(Clone, Copy, Debug)]
-struct Hold {
+pub struct Hold {
     place: Place,
     when: When,
 }
@@ -186,165 +185,225 @@ const HOLDS: &[Hold] = &[
     },
 ];
 
-/// A worker over one wire.
-fn worker_over<N: Naming, R: Time + Abort + Copy + Drop>(
+/// What is seen of a crew of two from outside.
+#[derive(Drop)]
+struct Sights {
+    signs: Arc<Signs, Global>,
+    alice: Arc<Seen, Global>,
+    bob: Arc<Seen, Global>,
+}
+
+impl Sights {
+    fn new(alloc: Global) -> Result<Sights, Fail> {
+        Ok(Sights {
+            signs: Arc::new(alloc, Signs::new())?,
+            alice: Arc::new(alloc, Seen::new())?,
+            bob: Arc::new(alloc, Seen::new())?,
+        })
+    }
+}
+
+/// Gives one wire, when it is time.
+fn inlet_over<R: Time + Copy + Drop>(
     rt: &R,
-    alloc: Global,
-    seat: Seat<N>,
     when: When,
     signs: &Arc<Signs, Global>,
     plan: &Plan,
     seen: &Arc<Seen, Global>,
-) -> Result<(Worker<Memory, N>, One<R>), Fail> {
-    let Ok(worker) = Worker::new(alloc, seat) else {
-        panic!(rt; "no memory")
-    };
-    let inlet = One {
+) -> Result<One<R>, Fail> {
+    let wire = Memory::new(*plan, Arc::try_clone(seen)?);
+    Ok(One {
         rt: *rt,
         when,
         signs: Arc::try_clone(signs)?,
-        wire: Some(Memory::new(*plan, Arc::try_clone(seen)?)),
-    };
-    Ok((worker, inlet))
+        wire: Some(wire),
+    })
 }
 
-/// Whether a wire heard all that it expects, and nothing else.
-fn has_heard(seen: &Seen, plan: &Plan) -> bool {
-    seen.odd.load(SeqCst) == 0 && seen.told.load(SeqCst) == plan.expects.len() as u64
-}
+/// Workers, and the inlet of each.
+type Crew<N, R> = Vec<(Worker<Memory, N>, One<R>)>;
 
-fn hold_on<N: Naming + Send + Sync, R: Threads + Wait + Abort + Time + Copy + Send + Sync + Drop>(
+/// Alice's worker and bob's.
+fn crew_of_two<N: Naming, R: Time + Abort + Copy + Drop>(
     rt: &R,
     alloc: Global,
-    beginning: Beginning<Plain>,
-    hold: Hold,
-) -> Result<(), Fail>
-    requires name { beginning.opened ≡ N.table }
-    requires begins { N.terms.begins ≡ map fresh_cache beginning.users }
-    requires terms { (N.terms.seats ≡ 2) × (N.terms.journal ≡ 16) }
-{
-    let Beginning {
-        opened,
-        users,
-        caches,
-    } = beginning;
-    let (hall, mut seats) = Hall::<Plain, N>::new(alloc, opened, &users, caches, 2, 16)?;
-    let (Some(last), Some(first)) = (seats.pop(), seats.pop()) else {
-        panic!(rt; "no seats")
-    };
-    let signs = Arc::new(alloc, Signs::new())?;
-    let (alice, bob) = (Arc::new(alloc, Seen::new())?, Arc::new(alloc, Seen::new())?);
+    seats: &mut Vec<Seat<N>>,
+    when: When,
+    sights: &Sights,
+) -> Result<Crew<N, R>, Fail> {
+    let alice = inlet_over(rt, When::AtOnce, &sights.signs, &HELD, &sights.alice)?;
+    let bob = inlet_over(rt, when, &sights.signs, &PASSES, &sights.bob)?;
     let mut crew = Vec::new(alloc);
-    crew.push(worker_over(rt, alloc, first, When::AtOnce, &signs, &HELD, &alice)?)?;
-    crew.push(worker_over(rt, alloc, last, hold.when, &signs, &PASSES, &bob)?)?;
-    let gate = Holding {
+    crew.push((worker_of(rt, alloc, seats), alice))?;
+    crew.push((worker_of(rt, alloc, seats), bob))?;
+    Ok(crew)
+}
+
+fn gate_of<R: Time + Copy + Drop>(
+    rt: &R,
+    place: Place,
+    sights: &Sights,
+) -> Result<Holding<R>, Fail> {
+    Ok(Holding {
         rt: *rt,
-        place: hold.place,
-        signs: Arc::try_clone(&signs)?,
-        bob: Arc::try_clone(&bob)?,
+        place,
+        signs: Arc::try_clone(&sights.signs)?,
+        bob: Arc::try_clone(&sights.bob)?,
         all: PASSES.expects.len() as u64,
-    };
-    let source = Still {
+    })
+}
+
+fn source_of<R: Time + Copy + Drop>(rt: &R, signs: &Arc<Signs, Global>) -> Result<Still<R>, Fail> {
+    Ok(Still {
         rt: *rt,
-        signs: Arc::try_clone(&signs)?,
-    };
+        signs: Arc::try_clone(signs)?,
+    })
+}
+
+/// The seats of a crew that has ended.
+fn run<
+    C: Cache + Send + Sync,
+    N: Naming + Send + Sync,
+    G: Gate + Sync,
+    R: Threads + Wait + Abort + Time + Copy + Send + Sync + Drop,
+>(
+    rt: &R,
+    alloc: Global,
+    hall: &Hall<C, N>,
+    users: &Users,
+    gate: &G,
+    crew: Crew<N, R>,
+    source: Still<R>,
+) -> Vec<Seat<N>> {
     let clock = Clock::new();
-    let ended = run_crew(
-        rt,
-        alloc,
-        &hall,
-        &users,
-        &clock,
-        &gate,
-        Keeper::new(),
-        crew,
-        source,
-    );
-    assert!(rt; ended.is_ok());
+    let keeper = Keeper::new();
+    match run_crew(rt, alloc, hall, users, &clock, gate, keeper, crew, source) {
+        Ok(seats) => seats,
+        Err(_) => panic!(rt; "no crew"),
+    }
+}
+
+/// Alice's worker was held, and both heard all that they were to hear.
+fn expect_passed(rt: &impl Abort, sights: &Sights) {
+    let signs = &sights.signs;
     assert!(rt; signs.held.load(SeqCst) == 1 && signs.in_vain.load(SeqCst) == 0);
-    assert!(rt; has_heard(&alice, &HELD) && has_heard(&bob, &PASSES));
+    assert!(rt; sights.alice.has_heard(&HELD) && sights.bob.has_heard(&PASSES));
+}
+
+/// Runs a crew of two whose gate holds alice's worker.
+fn run_held<
+    C: Cache + Send + Sync,
+    N: Naming + Send + Sync,
+    R: Threads + Wait + Abort + Time + Copy + Send + Sync + Drop,
+>(
+    rt: &R,
+    alloc: Global,
+    hall: &Hall<C, N>,
+    users: &Users,
+    crew: Crew<N, R>,
+    place: Place,
+    sights: &Sights,
+) -> Result<(), Fail> {
+    let gate = gate_of(rt, place, sights)?;
+    let source = source_of(rt, &sights.signs)?;
+    run(rt, alloc, hall, users, &gate, crew, source);
     Ok(())
 }
 
 /// Bob is answered while alice's worker is held.
-fn hold_alice<R: Threads + Wait + Abort + Time + Copy + Send + Sync + Drop>(
+pub fn hold_alice<
+    C: Cache + Send + Sync,
+    N: Naming + Send + Sync,
+    R: Threads + Wait + Abort + Time + Copy + Send + Sync + Drop,
+>(
     rt: &R,
     alloc: Global,
+    hall: &Hall<C, N>,
+    users: &Users,
+    seats: &mut Vec<Seat<N>>,
     hold: Hold,
 ) -> Result<(), Fail> {
-    let beginning = plain(alloc)?;
-    hold_on::<Brand, _>(rt, alloc, beginning, hold)
+    let sights = Sights::new(alloc)?;
+    let crew = crew_of_two(rt, alloc, seats, hold.when, &sights)?;
+    run_held(rt, alloc, hall, users, crew, hold.place, &sights)?;
+    expect_passed(rt, &sights);
+    Ok(())
 }
 
 #[test]
 fn one_is_answered_while_another_is_held(rt: HostRuntime) -> Result<(), Fail> {
     for hold in HOLDS {
-        hold_alice(&rt, rt.alloc(), *hold)?;
+        play(&rt, rt.alloc(), 2, 16, Scene::Holds(*hold))?;
     }
     Ok(())
 }
 
-fn count_on<N: Naming + Send + Sync, R: Threads + Wait + Abort + Time + Copy + Send + Sync + Drop>(
+/// Workers over one wire each, all alike.
+fn crew_of_all<N: Naming, R: Time + Abort + Copy + Drop>(
     rt: &R,
     alloc: Global,
-    beginning: Beginning<Plain>,
-) -> Result<(), Fail>
-    requires name { beginning.opened ≡ N.table }
-    requires begins { N.terms.begins ≡ map fresh_cache beginning.users }
-    requires terms { (N.terms.seats ≡ 8) × (N.terms.journal ≡ 16) }
-{
-    let Beginning {
-        opened,
-        users,
-        caches,
-    } = beginning;
-    let (hall, seats) = Hall::<Plain, N>::new(alloc, opened, &users, caches, 8, 16)?;
-    let signs = Arc::new(alloc, Signs::new())?;
-    let seen = Arc::new(alloc, Seen::new())?;
+    mut seats: Vec<Seat<N>>,
+    signs: &Arc<Signs, Global>,
+    seen: &Arc<Seen, Global>,
+) -> Result<Crew<N, R>, Fail> {
     let mut crew = Vec::new(alloc);
-    for seat in seats {
-        crew.push(worker_over(rt, alloc, seat, When::AtOnce, &signs, &COUNTED, &seen)?)?;
+    for _ in 0..seats.len() {
+        let inlet = inlet_over(rt, When::AtOnce, signs, &COUNTED, seen)?;
+        crew.push((worker_of(rt, alloc, &mut seats), inlet))?;
     }
-    let source = Still { rt: *rt, signs };
-    let clock = Clock::new();
-    let ended = run_crew(
-        rt,
-        alloc,
-        &hall,
-        &users,
-        &clock,
-        &Open,
-        Keeper::new(),
-        crew,
-        source,
-    );
-    let Ok(seats) = ended else {
-        panic!(rt; "no crew")
-    };
-    assert!(rt; seen.odd.load(SeqCst) == 0);
-    count_all(rt, hall, seats)
+    Ok(crew)
 }
 
-/// Closes a hall whose eight seats each made a hundred calls for alice.
-fn count_all<N: Naming, R: Abort>(
+/// The seats of a crew whose workers each made a hundred calls for alice.
+fn run_counted<
+    C: Cache + Send + Sync,
+    N: Naming + Send + Sync,
+    R: Threads + Wait + Abort + Time + Copy + Send + Sync + Drop,
+>(
     rt: &R,
-    hall: Hall<Plain, N>,
+    alloc: Global,
+    hall: &Hall<C, N>,
+    users: &Users,
     seats: Vec<Seat<N>>,
+    sights: &Sights,
+) -> Result<Vec<Seat<N>>, Fail> {
+    let crew = crew_of_all(rt, alloc, seats, &sights.signs, &sights.alice)?;
+    let source = source_of(rt, &sights.signs)?;
+    Ok(run(rt, alloc, hall, users, &Open, crew, source))
+}
+
+/// A hundred calls by each of eight workers, all counted.
+pub fn count<
+    C: Cache + Send + Sync,
+    N: Naming + Send + Sync,
+    R: Threads + Wait + Abort + Time + Copy + Send + Sync + Drop,
+>(
+    rt: &R,
+    alloc: Global,
+    hall: Hall<C, N>,
+    users: &Users,
+    seats: Vec<Seat<N>>,
+    all: usize,
 ) -> Result<(), Fail>
-    requires { N.terms.seats ≡ 8 }
+    requires { all ≡ N.terms.seats }
 {
-    let Ok(closed) = hall.close(seats) else {
-        panic!(rt; "not closed")
-    };
-    for seat_no in 0..8 {
-        assert!(rt; closed.count(seat_no, UserNo::new(1)) == 100);
-    }
+    let sights = Sights::new(alloc)?;
+    let seats = run_counted(rt, alloc, &hall, users, seats, &sights)?;
+    assert!(rt; sights.alice.odd.load(SeqCst) == 0);
+    let closed = closed(rt, hall, seats);
+    expect_hundred_each(rt, &closed, all);
     Ok(())
+}
+
+fn expect_hundred_each<C: Cache, N: Naming, R: Abort>(rt: &R, closed: &Closed<C, N>, all: usize)
+    requires { all ≡ N.terms.seats }
+{
+    for seat_no in 0..8 {
+        assert!(rt; stage::count(rt, closed, all, seat_no, 1) == 100);
+    }
 }
 
 #[test]
 fn eight_workers_make_eight_hundred_calls(rt: HostRuntime) -> Result<(), Fail> {
-    let alloc = rt.alloc();
-    let beginning = plain(alloc)?;
-    count_on::<Brand, _>(&rt, alloc, beginning)
+    play(&rt, rt.alloc(), 8, 16, Scene::Counts)
 }

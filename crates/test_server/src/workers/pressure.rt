@@ -1,18 +1,16 @@
 //! Back pressure: a client that sends on and never reads is read no more, and others of its worker are
 //! served.
-ghost use Rattle.std.specs.Prelude.{◌≡◌, ◌≤◌, length, map};
-ghost use Rattle.tc_fresh.specs.Beginning.{fresh_cache};
 
-use crate::hall::stage::{Beginning, plain};
+use super::talks::worker_of;
+use crate::stage::{Scene, play};
 use std::alloc::Global;
-use std::marker::Brand;
 use std::process::Abort;
 use std::sync::atomic::AtomicU64;
 use std::sync::atomic::Ordering::SeqCst;
 use std::sync::{Arc, Wait};
 use std::test::*;
-use tc_locked::{Clock, Hall, Naming};
-use tc_plain::Plain;
+use tc_locked::{Clock, Hall, Naming, Seat};
+use tc_plain::Cache;
 use tc_users::Users;
 use tc_workers::{Got, Open, Put, Wire, Worker};
 
@@ -121,9 +119,9 @@ fn join<N: Naming, R: Abort>(
     Ok(seen)
 }
 
-fn turn_often<N: Naming, R: Wait>(
+fn turn_often<C: Cache, N: Naming, R: Wait>(
     rt: &R,
-    hall: &Hall<Plain, N>,
+    hall: &Hall<C, N>,
     users: &Users,
     worker: &mut Worker<Flood, N>,
     turns: u32,
@@ -134,52 +132,45 @@ fn turn_often<N: Naming, R: Wait>(
     }
 }
 
-/// Serves both until much waits for the one that never reads, and then as long again.
-fn serve_both<N: Naming, R: Wait + Abort>(
-    rt: &R,
-    alloc: Global,
-    hall: &Hall<Plain, N>,
-    users: &Users,
-    worker: &mut Worker<Flood, N>,
-) -> Result<(), Fail> {
-    let deaf = join(rt, alloc, worker, Client::NeverReads)?;
-    let other = join(rt, alloc, worker, Client::Reads)?;
-    turn_often(rt, hall, users, worker, FILLING);
-    let (given, taken) = (deaf.given.load(SeqCst), other.taken.load(SeqCst));
-    turn_often(rt, hall, users, worker, FULL);
-    assert!(rt; given > 0 && deaf.given.load(SeqCst) == given);
-    assert!(rt; taken > 0 && other.taken.load(SeqCst) > taken);
-    assert!(rt; worker.kept(0).is_some() && worker.kept(1).is_some());
-    Ok(())
+/// What the one that never reads gave, and what the other took.
+fn levels(deaf: &Seen, other: &Seen) -> (u64, u64) {
+    (deaf.given.load(SeqCst), other.taken.load(SeqCst))
 }
 
-fn serve_on<N: Naming, R: Wait + Abort>(
+/// Serves both until much waits for the one that never reads, and then as long again.
+fn serve_both<C: Cache, N: Naming, R: Wait + Abort>(
+    rt: &R,
+    hall: &Hall<C, N>,
+    users: &Users,
+    worker: &mut Worker<Flood, N>,
+    deaf: &Seen,
+    other: &Seen,
+) {
+    turn_often(rt, hall, users, worker, FILLING);
+    let (given, taken) = levels(deaf, other);
+    turn_often(rt, hall, users, worker, FULL);
+    let (given_later, taken_later) = levels(deaf, other);
+    assert!(rt; given > 0 && given_later == given);
+    assert!(rt; taken > 0 && taken_later > taken);
+    assert!(rt; worker.kept(0).is_some() && worker.kept(1).is_some());
+}
+
+/// One who never reads and one who does, of one worker.
+pub fn serve_flood<C: Cache, N: Naming, R: Wait + Abort>(
     rt: &R,
     alloc: Global,
-    beginning: Beginning<Plain>,
-) -> Result<(), Fail>
-    requires name { beginning.opened ≡ N.table }
-    requires begins { N.terms.begins ≡ map fresh_cache beginning.users }
-    requires terms { (N.terms.seats ≡ 1) × (N.terms.journal ≡ 16) }
-{
-    let Beginning {
-        opened,
-        users,
-        caches,
-    } = beginning;
-    let (hall, mut seats) = Hall::<Plain, N>::new(alloc, opened, &users, caches, 1, 16)?;
-    let Some(seat) = seats.pop() else {
-        panic!(rt; "no seat")
-    };
-    let Ok(mut worker) = Worker::new(alloc, seat) else {
-        panic!(rt; "no memory")
-    };
-    serve_both(rt, alloc, &hall, &users, &mut worker)
+    hall: &Hall<C, N>,
+    users: &Users,
+    seats: &mut Vec<Seat<N>>,
+) -> Result<(), Fail> {
+    let mut worker = worker_of(rt, alloc, seats);
+    let deaf = join(rt, alloc, &mut worker, Client::NeverReads)?;
+    let other = join(rt, alloc, &mut worker, Client::Reads)?;
+    serve_both(rt, hall, users, &mut worker, &deaf, &other);
+    Ok(())
 }
 
 #[test]
 fn one_who_never_reads_is_read_no_more_and_another_goes_on(rt: HostRuntime) -> Result<(), Fail> {
-    let alloc = rt.alloc();
-    let beginning = plain(alloc)?;
-    serve_on::<Brand, _>(&rt, alloc, beginning)
+    play(&rt, rt.alloc(), 1, 16, Scene::Floods)
 }

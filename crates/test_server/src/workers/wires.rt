@@ -56,6 +56,11 @@ impl Seen {
             reads: AtomicU64::new(0),
         }
     }
+
+    /// Whether a wire was sent all that it was to be, and nothing else.
+    pub fn has_heard(&self, plan: &Plan) -> bool {
+        self.odd.load(SeqCst) == 0 && self.told.load(SeqCst) == plan.expects.len() as u64
+    }
 }
 
 #[derive(Drop)]

@@ -1,0 +1,225 @@
+//! Two users, a hall over their caches, and the scenes that are played in it.
+ghost use Rattle.std.specs.Prelude.{◌≡◌, ◌<◌, map};
+ghost use Rattle.tc_fresh.specs.Beginning.{fresh_cache};
+
+use crate::hall::{crowd, pages, refusals, scenes};
+use crate::workers::crews::{self, Hold};
+use crate::workers::wires::Plan;
+use crate::workers::{pressure, talks};
+use std::alloc::Global;
+use std::hash::RandomState;
+use std::marker::Brand;
+use std::process::Abort;
+use std::random::RandomSource;
+use std::sync::Wait;
+use std::test::*;
+use std::thread::Threads;
+use std::time::Clock as Time;
+use tc_grammar::Command;
+use tc_item::Moment;
+use tc_kinds::{Kind, begin_all};
+use tc_locked::{Closed, Hall, Naming, Opened, Receipt, Seat};
+use tc_partition::Fast;
+use tc_plain::{Cache, Plain};
+use tc_users::{Text, UserNo, UserSpec, Users};
+
+/// What is played in a hall.
+#[derive(Clone, Copy)]
+pub enum Scene {
+    /// A seat reads back what it set.
+    ReadsBack,
+    /// Calls at moments that have passed in a user's book.
+    CallsLate,
+    CallsNobody,
+    /// The hall is closed without its last seat, and then with it.
+    ClosesTwice,
+    /// One call more than a page holds.
+    FillsPage,
+    /// A set and 39 gets.
+    TurnsPages,
+    /// Fifty calls by each of four threads.
+    FourThreads,
+    /// A hundred calls by each of eight threads, beside a keeper.
+    EightThreads,
+    /// Two connections of one worker, one after the other.
+    Talks(Plan, Plan),
+    /// A client that never reads beside one that does.
+    Floods,
+    /// Bob is served while alice's worker is held.
+    Holds(Hold),
+    /// A hundred calls by each of eight workers.
+    Counts,
+}
+
+/// Users, an empty cache for each, and a table for their hall.
+#[derive(Drop)]
+pub struct Beginning<C: Cache> {
+    pub opened: Opened,
+    pub users: Users,
+    pub caches: Vec<C>,
+    ghost fresh: { map C.settled caches.items ≡ map fresh_cache users },
+}
+
+fn row(alloc: Global, name: &[u8]) -> Result<UserSpec, Fail> {
+    Ok(UserSpec {
+        name: Text::copy(alloc, name)?,
+        token: Text::copy(alloc, b"one")?,
+        second: None,
+        budget: 65_536,
+        largest: 1_024,
+    })
+}
+
+fn two_users(alloc: Global) -> Result<Users, Fail> {
+    let mut users = Users::new(alloc);
+    users.push(row(alloc, b"alice")?)?;
+    users.push(row(alloc, b"bob")?)?;
+    Ok(users)
+}
+
+/// Two users with empty caches of a kind.
+fn begin<C: Kind>(alloc: Global, hasher: RandomState) -> Result<Beginning<C>, Fail> {
+    let users = two_users(alloc)?;
+    let caches = begin_all(alloc, &users, hasher)?;
+    Ok(Beginning {
+        opened: Opened::new(alloc)?,
+        users,
+        caches,
+    })
+}
+
+/// A scene in a hall of `all` seats.
+fn perform<
+    C: Cache + Send + Sync,
+    N: Naming + Send + Sync,
+    R: Threads + Wait + Abort + Time + Copy + Send + Sync + Drop,
+>(
+    rt: &R,
+    alloc: Global,
+    hall: Hall<C, N>,
+    users: &Users,
+    mut seats: Vec<Seat<N>>,
+    all: usize,
+    scene: &Scene,
+) -> Result<(), Fail>
+    requires { all ≡ N.terms.seats }
+{
+    match scene {
+        Scene::ReadsBack => scenes::read_back(rt, alloc, &hall, first(rt, &mut seats)),
+        Scene::CallsLate => scenes::call_late(rt, alloc, &hall, first(rt, &mut seats)),
+        Scene::CallsNobody => scenes::call_nobody(rt, alloc, &hall, first(rt, &mut seats)),
+        Scene::ClosesTwice => scenes::close_twice(rt, alloc, hall, seats, all),
+        Scene::FillsPage => refusals::call_on_a_full_page(rt, alloc, hall, seats, all),
+        Scene::TurnsPages => pages::turn_two_pages(rt, alloc, hall, seats, all),
+        Scene::FourThreads => crowd::four_threads(rt, alloc, hall, seats, all),
+        Scene::EightThreads => crowd::eight_threads(rt, alloc, hall, seats),
+        Scene::Talks(one, other) => talks::talk(rt, alloc, &hall, users, &mut seats, one, other),
+        Scene::Floods => pressure::serve_flood(rt, alloc, &hall, users, &mut seats),
+        Scene::Holds(hold) => crews::hold_alice(rt, alloc, &hall, users, &mut seats, *hold),
+        Scene::Counts => crews::count(rt, alloc, hall, users, seats, all),
+    }
+}
+
+/// A scene in the hall N of a beginning.
+fn perform_on<
+    C: Cache + Send + Sync,
+    N: Naming + Send + Sync,
+    R: Threads + Wait + Abort + Time + Copy + Send + Sync + Drop,
+>(
+    rt: &R,
+    alloc: Global,
+    beginning: Beginning<C>,
+    seats: usize,
+    journal: usize,
+    scene: &Scene,
+) -> Result<(), Fail>
+    requires name { beginning.opened ≡ N.table }
+    requires begins { N.terms.begins ≡ map fresh_cache beginning.users }
+    requires seats { (seats ≡ N.terms.seats) × (0 < seats) }
+    requires journal { (journal ≡ N.terms.journal) × (0 < journal) }
+{
+    let Beginning {
+        opened,
+        users,
+        caches,
+    } = beginning;
+    let (hall, given) = Hall::<C, N>::new(alloc, opened, &users, caches, seats, journal)?;
+    perform(rt, alloc, hall, &users, given, seats, scene)
+}
+
+/// A scene over a kind of cache.
+fn play_over<C: Kind + Send + Sync, R: Threads + Wait + Abort + Time + Copy + Send + Sync + Drop>(
+    rt: &R,
+    alloc: Global,
+    hasher: RandomState,
+    seats: usize,
+    journal: usize,
+    scene: &Scene,
+) -> Result<(), Fail>
+    requires { (0 < seats) × (0 < journal) }
+{
+    let beginning = begin::<C>(alloc, hasher)?;
+    perform_on::<C, Brand, R>(rt, alloc, beginning, seats, journal, scene)
+}
+
+/// A scene over each kind of cache, in a hall of so many seats and with so many entries a page.
+pub fn play<R: Threads + Wait + Abort + Time + RandomSource + Copy + Send + Sync + Drop>(
+    rt: &R,
+    alloc: Global,
+    seats: usize,
+    journal: usize,
+    scene: Scene,
+) -> Result<(), Fail>
+    requires { (0 < seats) × (0 < journal) }
+{
+    let hasher = RandomState::new(rt)?;
+    play_over::<Plain, R>(rt, alloc, hasher, seats, journal, &scene)?;
+    play_over::<Fast, R>(rt, alloc, hasher, seats, journal, &scene)
+}
+
+/// The first seat.
+pub fn first<'a, N: Naming, R: Abort>(rt: &R, seats: &'a mut Vec<Seat<N>>) -> &'a mut Seat<N> {
+    assert!(rt; !seats.is_empty());
+    &mut seats[0]
+}
+
+/// One call of the first connection, at a second below 2^40.
+pub fn call<C: Cache, N: Naming, R: Wait + Abort>(
+    rt: &R,
+    alloc: Global,
+    hall: &Hall<C, N>,
+    seat: &mut Seat<N>,
+    user: u32,
+    second: u64,
+    command: &Command,
+) -> Result<Receipt<N>, Fail> {
+    assert!(rt; second < 1 << 40);
+    let now = Moment::new(second);
+    Ok(hall.call(rt, alloc, seat, UserNo::new(user), now, 1, command)?)
+}
+
+/// A hall that is closed with all its seats.
+pub fn closed<C: Cache, N: Naming, R: Abort>(
+    rt: &R,
+    hall: Hall<C, N>,
+    seats: Vec<Seat<N>>,
+) -> Closed<C, N> {
+    match hall.close(seats) {
+        Ok(closed) => closed,
+        Err(_) => panic!(rt; "not closed"),
+    }
+}
+
+/// How many entries one of `all` seats wrote for a user.
+pub fn count<C: Cache, N: Naming, R: Abort>(
+    rt: &R,
+    closed: &Closed<C, N>,
+    all: usize,
+    seat_no: usize,
+    user: u32,
+) -> u64
+    requires { all ≡ N.terms.seats }
+{
+    assert!(rt; seat_no < all);
+    closed.count(seat_no, UserNo::new(user))
+}

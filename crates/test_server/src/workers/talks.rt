@@ -1,0 +1,176 @@
+//! Two connections of one worker, one after the other.
+
+use super::table::{
+    ENDS_SHORT, Failing, LONG_LINE, NOTHING, READS, ROWS, SILENT, WRITES, asking, first_over,
+};
+use super::wires::{Cut, Ending, Memory, Plan, Seen};
+use crate::stage::{Scene, play};
+use std::alloc::Global;
+use std::process::Abort;
+use std::random::RandomSource;
+use std::sync::atomic::Ordering::SeqCst;
+use std::sync::{Arc, Wait};
+use std::test::*;
+use std::thread::Threads;
+use std::time::Clock as Time;
+use tc_locked::{Clock, Hall, Naming, Seat};
+use tc_plain::Cache;
+use tc_users::Users;
+use tc_workers::{Open, Wire, Worker};
+
+/// So many turns are enough for each stream of the tables, a byte at a time.
+const TURNS: u64 = 256;
+
+/// A worker with the last seat.
+pub fn worker_of<W: Wire + Drop, N: Naming, R: Abort>(
+    rt: &R,
+    alloc: Global,
+    seats: &mut Vec<Seat<N>>,
+) -> Worker<W, N> {
+    let Some(seat) = seats.pop() else {
+        panic!(rt; "no seat")
+    };
+    match Worker::new(alloc, seat) {
+        Ok(worker) => worker,
+        Err(_) => panic!(rt; "no memory"),
+    }
+}
+
+/// A connection over a wire, for so many turns.
+fn serve<C: Cache, N: Naming, R: Wait + Abort>(
+    rt: &R,
+    hall: &Hall<C, N>,
+    users: &Users,
+    worker: &mut Worker<Memory, N>,
+    wire: Memory,
+) {
+    let clock = Clock::new();
+    assert!(rt; worker.add(1, wire).is_ok());
+    for _ in 0..TURNS {
+        worker.turn(rt, hall, users, &clock, &Open);
+    }
+}
+
+/// Whether a wire heard all that it was to be sent, and no more, and its connection was dropped if it
+/// was to be.
+fn expect_heard(rt: &impl Abort, seen: &Seen, plan: &Plan, idle: bool) {
+    assert!(rt; seen.has_heard(plan));
+    match plan.ending {
+        Ending::Stays => assert!(rt; !idle && seen.reads.load(SeqCst) == TURNS),
+        _ => assert!(rt; idle),
+    }
+}
+
+/// One connection, from its first byte on.
+fn talk_once<C: Cache, N: Naming, R: Wait + Abort>(
+    rt: &R,
+    alloc: Global,
+    hall: &Hall<C, N>,
+    users: &Users,
+    worker: &mut Worker<Memory, N>,
+    plan: &Plan,
+) -> Result<(), Fail> {
+    let seen = Arc::new(alloc, Seen::new())?;
+    let wire = Memory::new(*plan, Arc::try_clone(&seen)?);
+    serve(rt, hall, users, worker, wire);
+    expect_heard(rt, &seen, plan, worker.is_idle());
+    Ok(())
+}
+
+/// Two connections: what each is sent, and whether it is dropped.
+pub fn talk<C: Cache, N: Naming, R: Wait + Abort>(
+    rt: &R,
+    alloc: Global,
+    hall: &Hall<C, N>,
+    users: &Users,
+    seats: &mut Vec<Seat<N>>,
+    one: &Plan,
+    other: &Plan,
+) -> Result<(), Fail> {
+    let mut worker = worker_of(rt, alloc, seats);
+    talk_once(rt, alloc, hall, users, &mut worker, one)?;
+    talk_once(rt, alloc, hall, users, &mut worker, other)
+}
+
+/// Two connections on a hall of their own, over each kind of cache.
+fn expect<R: Threads + Wait + Abort + Time + RandomSource + Copy + Send + Sync + Drop>(
+    rt: &R,
+    alloc: Global,
+    first: Plan,
+    second: Plan,
+) -> Result<(), Fail> {
+    play(rt, alloc, 1, 16, Scene::Talks(first, second))
+}
+
+/// A wire that fails at its nth read, and a connection that asks what then stands.
+fn expect_after_reads<R: Threads + Wait + Abort + Time + RandomSource + Copy + Send + Sync + Drop>(
+    rt: &R,
+    alloc: Global,
+    row: &Failing,
+) -> Result<(), Fail> {
+    for n in row.from..=row.to {
+        let first = first_over(Ending::FailsAtRead(n), row.expects);
+        expect(rt, alloc, first, asking(row.then))?;
+    }
+    Ok(())
+}
+
+#[test]
+fn what_was_done_before_a_wire_failed_stays_done(rt: HostRuntime) -> Result<(), Fail> {
+    for row in READS {
+        expect_after_reads(&rt, rt.alloc(), row)?;
+    }
+    Ok(())
+}
+
+#[test]
+fn what_was_done_stays_done_though_its_reply_is_lost(rt: HostRuntime) -> Result<(), Fail> {
+    for row in WRITES {
+        let first = first_over(Ending::FailsAtWrite(row.from), row.expects);
+        expect(&rt, rt.alloc(), first, asking(row.then))?;
+    }
+    Ok(())
+}
+
+#[test]
+fn a_wire_that_ends_in_a_block_stores_nothing(rt: HostRuntime) -> Result<(), Fail> {
+    expect(&rt, rt.alloc(), ENDS_SHORT, asking(NOTHING))
+}
+
+#[test]
+fn a_wire_that_has_nothing_yet_is_kept_and_asked_each_turn(rt: HostRuntime) -> Result<(), Fail> {
+    expect(&rt, rt.alloc(), asking(NOTHING), SILENT)
+}
+
+#[test]
+fn a_line_too_long_is_told_and_its_connection_dropped(rt: HostRuntime) -> Result<(), Fail> {
+    expect(&rt, rt.alloc(), LONG_LINE, asking(NOTHING))
+}
+
+/// A row's stream, cut in two at each byte.
+fn cut_each<R: Threads + Wait + Abort + Time + RandomSource + Copy + Send + Sync + Drop>(
+    rt: &R,
+    alloc: Global,
+    sends: &'static [u8],
+    expects: &'static [u8],
+) -> Result<(), Fail> {
+    for at in 0..sends.len() {
+        let plan = Plan {
+            sends,
+            fill: 0,
+            cut: Cut::At(at),
+            ending: Ending::Ends,
+            expects,
+        };
+        expect(rt, alloc, plan, ENDS_SHORT)?;
+    }
+    Ok(())
+}
+
+#[test]
+fn streams_are_answered_alike_wherever_they_are_cut(rt: HostRuntime) -> Result<(), Fail> {
+    for (sends, expects) in ROWS {
+        cut_each(&rt, rt.alloc(), sends, expects)?;
+    }
+    Ok(())
+}
