@@ -1,7 +1,7 @@
 use Rattle.std.specs.Prelude.{IfOk}
-use Rattle.std.proofs.Common.{◌≡◌, sym, ap, ◌∙◌, subst}
+use Rattle.std.proofs.Common.{◌≡◌, ap, ◌∙◌, subst}
 use Rattle.tc_plain.specs.UserCache.{UserCache}
-use Rattle.tc_locked.specs.Books.{BookState, IsBook}
+use Rattle.tc_locked.specs.Books.{BookState}
 use Rattle.tc_locked.proofs.Books.{is_settled}
 use Rattle.tc_locked.proofs.book.Book.copy_settled.Goals as goal
 
