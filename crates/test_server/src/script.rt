@@ -1,5 +1,6 @@
 //! Scripts and what they print, by hand from the protocol's text.
 
+mod alone;
 mod cuts;
 mod drawn;
 mod rows;
