@@ -6,8 +6,11 @@ usage: bench/sizing.py PROGRAM [--port N] [--most ITEMS]
 It starts `PROGRAM serve` once for each row, with 4 workers, fills each user's partition over
 loopback, and reads the process's resident memory from /proc. A row's last column is what an item
 takes beside its key and its data, once the empty server of that row is taken off. Memory of the
-journal stands in it: the entries of a page, and the data that they keep alive."""
+journal stands in it: the entries of a page, and the data that they keep alive. A budget is twice
+what the items weigh, but in the last row, where each user has 64 MiB and the items just fit. Then it
+says what a connection takes that has logged in and asked for a key, by a thousand of them."""
 import argparse
+import resource
 import socket
 import subprocess
 import sys
@@ -16,13 +19,14 @@ import time
 from pathlib import Path
 
 KIB, MIB = 1024, 1024 * 1024
-# users, journal, items a user, data bytes an item
+# users, journal, items a user, data bytes an item, each user's budget where it is said
 ROWS = [
-    (1, 16, 0, 0), (20, 16, 0, 0), (1, 4096, 0, 0), (1, 65536, 0, 0),
-    (1, 4096, 1_000, 64), (1, 65536, 100_000, 64), (1, 65536, 1_000_000, 64),
-    (1, 65536, 100_000, 1_000), (1, 65536, 500_000, 1_000), (1, 4096, 5_000, 100_000),
-    (1, 4096, 100_000, 64),
-    (20, 4096, 50_000, 1_000),
+    (1, 16, 0, 0, None), (20, 16, 0, 0, None),
+    (1, 4096, 1_000, 64, None), (1, 65536, 100_000, 64, None), (1, 65536, 1_000_000, 64, None),
+    (1, 65536, 100_000, 1_000, None), (1, 65536, 500_000, 1_000, None), (1, 4096, 5_000, 100_000, None),
+    (1, 4096, 100_000, 64, None),
+    (20, 4096, 50_000, 1_000, None),
+    (20, 4096, 61_000, 1_000, 64 * MIB),
 ]
 
 
@@ -65,8 +69,8 @@ def resident(process):
     return next(int(line.split()[1]) * KIB for line in lines if line.startswith("VmRSS"))
 
 
-def measure(program, port, users, journal, items, size):
-    budget = min(max(65_536, 2 * items * (12 + size + 64)), 1 << 30)
+def measure(program, port, users, journal, items, size, budget):
+    budget = budget or min(max(65_536, 2 * items * (12 + size + 64)), 1 << 30)
     with tempfile.NamedTemporaryFile("w", suffix=".toml") as file:
         file.write(settings(port, users, journal, budget))
         file.flush()
@@ -84,7 +88,33 @@ def measure(program, port, users, journal, items, size):
             process.wait()
 
 
+def connection(program, port, count=1_000):
+    """The bytes that a connection takes."""
+    with tempfile.NamedTemporaryFile("w", suffix=".toml") as file:
+        file.write(settings(port, 1, 4096, 1 << 20))
+        file.flush()
+        process = subprocess.Popen([program, "serve", "--config", file.name], preexec_fn=descriptors)
+        try:
+            links = [connect(port, 0) for _ in range(20)]
+            before = resident(process)
+            links += [connect(port, 0) for _ in range(count)]
+            for link in links[20:]:
+                link.sendall(b"get nothing\r\n")
+                assert link.recv(100) == b"END\r\n"
+            return (resident(process) - before) / count
+        finally:
+            process.kill()
+            process.wait()
+
+
+def descriptors():
+    """As many as the server wants for a thousand connections, and as many for those at this end."""
+    most = resource.getrlimit(resource.RLIMIT_NOFILE)[1]
+    resource.setrlimit(resource.RLIMIT_NOFILE, (most, most))
+
+
 def main():
+    descriptors()
     words = argparse.ArgumentParser(description=__doc__.splitlines()[0])
     words.add_argument("program")
     words.add_argument("--port", type=int, default=21300)
@@ -92,14 +122,15 @@ def main():
     asked = words.parse_args()
     print("| Users | Journal | Items a user | Data bytes | Empty server, MiB | Full, MiB | Bytes an item beside key and data |")
     print("|---|---|---|---|---|---|---|")
-    for users, journal, items, size in ROWS:
+    for users, journal, items, size, budget in ROWS:
         if items > asked.most:
             continue
-        empty, full, held = measure(asked.program, asked.port, users, journal, items, size)
+        empty, full, held = measure(asked.program, asked.port, users, journal, items, size, budget)
         beside = f"{(full - empty) / held - 12 - size:.0f}" if held else "-"
         print(f"| {users} | {journal:,} | {items:,} | {size:,} | {empty / MIB:.1f} | {full / MIB:.1f} | {beside} |", flush=True)
         if held != users * items:
             print(f"held {held} of {users * items}", file=sys.stderr)
+    print(f"\na connection: {connection(asked.program, asked.port):,.0f} bytes")
 
 
 if __name__ == "__main__":
