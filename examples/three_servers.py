@@ -30,7 +30,7 @@ class Servers(HashClient):
 def main():
     user, token, *addresses = sys.argv[1:]
     LoggedIn.login = f"{user} {token}".encode()
-    servers = Servers(addresses, ignore_exc=True, retry_attempts=1, dead_timeout=60, default_noreply=False)
+    servers = Servers(addresses, ignore_exc=True, retry_attempts=0, dead_timeout=60, default_noreply=False)
     keys = [f"key{n}" for n in range(1000)]
     before = sum(servers.get(key) is not None for key in keys)
     stored = sum(bool(servers.set(key, "x" * 100)) for key in keys)
