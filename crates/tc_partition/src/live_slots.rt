@@ -1,5 +1,5 @@
 //! What look-ups touch of one user's cache.
-ghost use Rattle.std.specs.Prelude.{◌≡◌, ℕ, max, false, None, IsSome, slice_index_or, ◌<◌, ◌≤◌, ◌+◌, ◌^◌, true, is_some, length, Some, IfOk, OnOk, ⊤};
+ghost use Rattle.std.specs.Prelude.{◌≡◌, ℕ, max, false, None, IsSome, slice_index_or, ◌<◌, ◌≤◌, ◌+◌, ◌^◌, true, is_some, length, Some, IfOk, OnOk, MatchOption, List, ⊤};
 ghost use Rattle.tc_model.specs.Areas.{total, settle};
 ghost use Rattle.tc_stats.specs.Counting.{more};
 ghost use Rattle.tc_plain.specs.declared.entry.Entry.{Entry};
@@ -12,7 +12,7 @@ ghost use Rattle.tc_plain.specs.Soundness.{AreSound};
 ghost use Rattle.tc_plain.specs.UserCache.{UserCache};
 ghost use Rattle.tc_plain.specs.Plans.{outcome_of, planned, IsLightPlan};
 ghost use Rattle.tc_partition.specs.Held.{IsFound};
-ghost use Rattle.tc_partition.specs.Deferred.{Miss, hit, do_note};
+ghost use Rattle.tc_partition.specs.Deferred.{Miss, hit, do_note, peeked};
 ghost use Rattle.tc_partition.specs.WaitingSlots.{SeeksSlot};
 ghost use Rattle.tc_partition.specs.LiveSlots.{live_of, plan_of, IsKeyed};
 
@@ -111,6 +111,18 @@ impl LiveSlots {
         }
     }
 
+    /// What is held at the place that was found for a key.
+    pub(crate) fn held_at(&self, place: Option<Slot>) -> Option<&Entry>
+        ensures { (moment : ℕ) (key : List ℕ) → SeeksSlot place moment key self.now
+            → MatchOption result (peeked moment key (live_of self.now) ≡ None)
+            (λ e. peeked moment key (live_of self.now) ≡ Some e.now) }
+    {
+        match place {
+            Some(slot) => self.held.entry(slot),
+            None => None,
+        }
+    }
+
     /// One look-up of the key of what a slot holds.
     pub(crate) fn hit_at(&mut self, slot: Slot)
         requires held { IsSome (slice_index_or self.old.held.slots slot.0 None) }
@@ -135,8 +147,9 @@ impl LiveSlots {
         self.sketch.record(hash);
     }
 
-    /// Puts an entry in the place of what its key holds.
-    fn use_new(&mut self, key: Key, entry: Entry)
+    /// Puts an entry in the place of what its key holds. The index is asked only where the key isn't
+    /// at this place.
+    fn use_new(&mut self, place: Option<Slot>, key: Key, entry: Entry)
         requires key { key ≡ entry.key }
         requires light { weight entry ≤ self.old.held.limits.main }
         requires weight { total weight self.old.held.areas + weight entry < 2 ^ 64 }
@@ -145,7 +158,7 @@ impl LiveSlots {
     {
         self.sketch.record(hash(key.as_bytes()));
         let alive = alive(&entry.item, self.moment);
-        match self.held.find(&key) {
+        match self.held.find_from(place, &key) {
             Some(slot) => {
                 if alive {
                     self.held.replace(slot, entry);
@@ -161,9 +174,9 @@ impl LiveSlots {
         }
     }
 
-    /// Puts an entry in the place of what its key holds, and brings each area within its limit;
-    /// each entry that is dropped is counted.
-    fn change(&mut self, key: Key, entry: Entry, evictions: u64) -> u64
+    /// Puts an entry in the place of what its key holds, which was found at this place, and brings
+    /// each area within its limit; each entry that is dropped is counted.
+    fn change(&mut self, place: Option<Slot>, key: Key, entry: Entry, evictions: u64) -> u64
         requires key { key ≡ entry.key }
         requires light { weight entry ≤ self.old.held.limits.main }
         requires weight { total weight self.old.held.areas + weight entry < 2 ^ 64 }
@@ -177,7 +190,7 @@ impl LiveSlots {
             (live_of self.old))) self.old.held.limits (used entry
             (live_of self.old)).areas).dropped) }
     {
-        self.use_new(key, entry);
+        self.use_new(place, key, entry);
         self.held.settle(&self.sketch, evictions)
     }
 
@@ -224,9 +237,15 @@ impl LiveSlots {
         })
     }
 
-    /// Carries work out, for which there is room: an entry gets the next cas number after `last`,
-    /// and each entry that is dropped for it is counted.
-    pub(crate) fn carry_out(&mut self, work: Work, last: &mut u64, counters: &mut Counters) -> End
+    /// Carries work out on a key that was found at this place, for which there is room: an entry
+    /// gets the next cas number after `last`, and each entry that is dropped for it is counted.
+    pub(crate) fn carry_out(
+        &mut self,
+        place: Option<Slot>,
+        work: Work,
+        last: &mut u64,
+        counters: &mut Counters,
+    ) -> End
         requires weight { total weight self.old.held.areas < 2 ^ 63 }
         requires light { IsLightPlan self.old.held.limits (plan_of work) }
         requires main { self.old.held.limits.main < 2 ^ 63 }
@@ -247,7 +266,7 @@ impl LiveSlots {
         };
         entry.item.cas = cas;
         *last = cas;
-        counters.evictions = self.change(key, entry, counters.evictions);
+        counters.evictions = self.change(place, key, entry, counters.evictions);
         end
     }
 }
@@ -258,10 +277,7 @@ impl LookUps for LiveSlots {
     ghost has_room = { λ s. ⊤ };
 
     fn peek(&self, key: &Key, moment: Moment) -> Option<&Entry> {
-        match self.seek(key, moment) {
-            Some(slot) => self.held.entry(slot),
-            None => None,
-        }
+        self.held_at(self.seek(key, moment))
     }
 
     fn look(&mut self, key: &Key, due: Option<Due>) -> bool {

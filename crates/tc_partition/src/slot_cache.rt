@@ -3,7 +3,7 @@
 //! It is plain data: its contracts speak of the cache that it is, `cache_of`
 //! (`specs/SlotCaches.antt`), under the premise that this is sound, and `Fast`, whose base it is,
 //! keeps it so.
-ghost use Rattle.std.specs.Prelude.{◌≡◌, ◌≤◌, ◌<◌, ◌^◌, IfOk, OnOk, OnErr};
+ghost use Rattle.std.specs.Prelude.{◌≡◌, ◌≤◌, ◌<◌, ◌^◌, max, IfOk, OnOk, OnErr};
 ghost use Rattle.tc_stats.specs.Counting.{noted};
 ghost use Rattle.tc_plain.specs.Entries.{with_due, weight};
 ghost use Rattle.tc_plain.specs.Live.{held};
@@ -15,6 +15,7 @@ ghost use Rattle.tc_item.specs.Expiry.{due_of};
 ghost use Rattle.tc_plain.specs.AreaLists.{change_of, HasRoom, live_of as lists_live};
 ghost use Rattle.tc_partition.specs.LiveSlots.{live_of, plan_of, IsKeyed};
 ghost use Rattle.tc_partition.specs.SlotCaches.{cache_of, IsSlotCache};
+ghost use Rattle.tc_partition.specs.WaitingSlots.{SeeksSlot};
 ghost use Rattle.tc_model.specs.Areas.{total};
 
 use crate::live_slots::LiveSlots;
@@ -24,7 +25,7 @@ use std::alloc::Global;
 use std::hash::RandomState;
 use tc_grammar::{Command, Head, Way};
 use tc_item::exptime::due;
-use tc_item::{Blob, Due, Key, Keys, Moment, NoMemory};
+use tc_item::{Blob, Due, Key, Keys, Moment, NoMemory, Slot};
 use tc_plain::{
     Bid, End, Limits, Live, LookUps, Plan, look_all, look_up, offer, plan_count, plan_item,
 };
@@ -90,53 +91,65 @@ impl SlotCache {
         self.live.advance(now);
     }
 
-    /// What a storage line with its block will do at the moment.
+    /// Where what a key will hold at the moment is.
+    fn seek(&self, now: Moment, key: &Key) -> Option<Slot>
+        requires { IsSlotCache self.now }
+        ensures { SeeksSlot result (max self.now.live.moment now) key.now self.now.live }
+    {
+        self.live.seek(key, self.live.moment.later(now))
+    }
+
+    /// What a storage line with its block, whose key was found at this place, will do at the moment.
     fn plan_store(
         &self,
         alloc: Global,
         now: Moment,
+        place: Option<Slot>,
         head: &Head,
         blob: &Blob,
     ) -> Result<Plan, NoMemory>
-        requires { IsSlotCache self.now }
+        requires sound { IsSlotCache self.now }
+        requires place { SeeksSlot place (max self.now.live.moment now) head.now.key self.now.live }
         ensures plan { IfOk result (λ plan. planned (advance (cache_of self.now) now) plan
             ≡ stored (advance (cache_of self.now) now) head.now blob.now) }
         ensures light { IfOk result (λ plan. IsLightPlan (cache_of self.now).live.limits plan) }
     {
         let main = self.live.held.heaviest();
         let moment = self.live.moment.later(now);
-        let held = self.live.peek(&head.key, moment);
+        let held = self.live.held_at(place);
         match offer(alloc, held, head, blob, moment)? {
             Bid::Refused(end) => Ok(Plan::Ends(end)),
             Bid::Offered(item) => plan_item(alloc, self.largest, main, &head.key, item),
         }
     }
 
-    /// What counting what a key holds will do at the moment.
+    /// What counting what a key holds, which was found at this place, will do at the moment.
     fn plan_count(
         &self,
         alloc: Global,
         now: Moment,
+        place: Option<Slot>,
         way: Way,
         key: &Key,
         by: u64,
     ) -> Result<Plan, NoMemory>
-        requires { IsSlotCache self.now }
+        requires sound { IsSlotCache self.now }
+        requires place { SeeksSlot place (max self.now.live.moment now) key.now self.now.live }
         ensures plan { IfOk result (λ plan. planned (advance (cache_of self.now) now) plan
             ≡ counted_under way by (held key.now (advance (cache_of self.now) now).live.areas)
             (advance (cache_of self.now) now)) }
         ensures light { IfOk result (λ plan. IsLightPlan (cache_of self.now).live.limits plan) }
     {
-        let moment = self.live.moment.later(now);
         let _bytes = key.as_bytes();
-        match self.live.peek(key, moment) {
+        match self.live.held_at(place) {
             Some(entry) => plan_count(alloc, entry, way, by),
             None => Ok(Plan::Ends(End::NotFound)),
         }
     }
 
-    /// Carries work out at the moment. A refusal changes nothing.
-    fn change(&mut self, now: Moment, work: Work) -> Result<End, NoMemory>
+    /// Carries work out at the moment, on a key that was found at this place. A refusal changes
+    /// nothing.
+    fn change(&mut self, now: Moment, place: Option<Slot>, work: Work) -> Result<End, NoMemory>
         requires fast { IsSlotCache self.old }
         requires light { IsLightPlan (cache_of self.old).live.limits (plan_of work) }
         requires keyed { IsKeyed work }
@@ -150,7 +163,7 @@ impl SlotCache {
         self.live.advance(now);
         Ok(
             self.live
-                .carry_out(work, &mut self.last, &mut self.counters),
+                .carry_out(place, work, &mut self.last, &mut self.counters),
         )
     }
 
@@ -169,9 +182,10 @@ impl SlotCache {
             ≡ (stored (advance (cache_of self.old) now) head.now blob.now).1) }
         ensures unchanged_on_err { OnErr result (cache_of self.new ≡ cache_of self.old) }
     {
-        let plan = self.plan_store(alloc, now, head, blob)?;
+        let place = self.seek(now, &head.key);
+        let plan = self.plan_store(alloc, now, place, head, blob)?;
         let work = with_key(alloc, plan)?;
-        self.change(now, work)
+        self.change(now, place, work)
     }
 
     /// Counts what a key holds up or down. A refusal changes nothing.
@@ -192,9 +206,10 @@ impl SlotCache {
             (advance (cache_of self.old) now)).1) }
         ensures unchanged_on_err { OnErr result (cache_of self.new ≡ cache_of self.old) }
     {
-        let plan = self.plan_count(alloc, now, way, key, by)?;
+        let place = self.seek(now, key);
+        let plan = self.plan_count(alloc, now, place, way, key, by)?;
         let work = with_key(alloc, plan)?;
-        self.change(now, work)
+        self.change(now, place, work)
     }
 
     /// What a key holds has another due from now on.

@@ -1,4 +1,4 @@
-use Rattle.std.proofs.Common.{◌≡◌, ◌≤◌, ap, length, arith}
+use Rattle.std.proofs.Common.{◌≡◌, ◌≤◌, max, ap, length, arith}
 use Rattle.std.proofs.lemmas.Result.{IfOk-weaker}
 use Rattle.tc_model.specs.Areas.{Limits}
 use Rattle.tc_item.specs.Weight.{weight_of}
@@ -8,14 +8,11 @@ use Rattle.tc_partition.specs.LiveSlots.{live_of}
 use Rattle.tc_partition.specs.SlotCaches.{cache_of}
 use Rattle.tc_partition.proofs.slot_cache.SlotCache.plan_count.Goals as goal
 
-pub peek-requires : goal.peek-requires
-peek-requires c = c.requires.areas
-
 pub returns-in-Some-clause-light : goal.returns-in-Some-clause-light
 returns-in-Some-clause-light c =
     let i = c.args.self.now in
     let e = c.in-Some.entry.now in
-    let key : length e.key ≡ length c.args.key.now = ap length (held_key c.args.key.now (at_moment c.later-moment.result (live_of i.live)).areas e c.in-Some.ensures) in
-    let main : i.live.held.limits.main ≡ (limits_of i.budget).main = ap (λ (t : Limits). t.main) c.requires.limits in
-    let small : weight_of e.key 20 ≤ i.live.held.limits.main = omega (arith, key, main, c.as_bytes-bytes.ensures.short, c.requires.least_budget) in
+    let key : length e.key ≡ length c.args.key.now = ap length (held_key c.args.key.now (at_moment (max i.live.moment c.args.now) (live_of i.live)).areas e (c.in-Some.ensures _ _ c.requires.place)) in
+    let main : i.live.held.limits.main ≡ (limits_of i.budget).main = ap (λ (t : Limits). t.main) c.requires.sound.limits in
+    let small : weight_of e.key 20 ≤ i.live.held.limits.main = omega (arith, key, main, c.as_bytes-bytes.ensures.short, c.requires.sound.least_budget) in
     IfOk-weaker c.plan_count.result _ _ (λ plan h. h (cache_of i).live.limits small) c.plan_count.ensures.light
