@@ -14,11 +14,15 @@ use indexmap::IndexMap;
 use slab::Slab;
 use std::alloc::Global;
 use std::hash::RandomState;
+use std::sync::atomic::{AtomicU64, Ordering};
 use tc_item::{Due, Key, Moment, NoMemory, Slot};
 use tc_plain::Entry;
 use tc_sketch::{Sketch, hash};
 use tc_slru::Lists;
 use tc_wheel::Wheel;
+
+/// How many entries a copy reads at once, ahead of copying them.
+const AHEAD: usize = 16;
 
 /// Puts an entry into a free slot, and its key into the index.
 pub fn take_in(
@@ -172,12 +176,28 @@ pub fn add_copy(
     Ok(())
 }
 
+/// Reads what the next slots from a place on hold, and does nothing with it. To copy an entry is to
+/// wait for its memory, and then for its data's, whose holders are counted by an atomic that no
+/// later read overtakes; these reads wait together. What they come to is added to `read`, so that a
+/// compiler leaves them in.
+fn read_ahead(entries: &Slab<Entry>, slots: &[Slot], from: usize, read: &AtomicU64) {
+    let mut sum: u64 = 0;
+    for slot in slots.iter().skip(from).take(AHEAD) {
+        sum = sum.wrapping_add(weight_at(entries, *slot));
+    }
+    read.fetch_add(sum, Ordering::SeqCst);
+}
+
 /// The entries of slots, in order, over the same data.
 pub fn copy_at(alloc: Global, entries: &Slab<Entry>, slots: &[Slot]) -> Result<Vec<Entry>, NoMemory>
     ensures { IfOk result (λ copied. copied.items ≡ entries_at (slab_get entries.now) slots.now) }
 {
+    let read = AtomicU64::new(0);
     let mut copied = Vec::with_capacity(alloc, slots.len())?;
-    for slot in slots {
+    for (i, slot) in slots.iter().enumerate() {
+        if i % AHEAD == 0 {
+            read_ahead(entries, slots, i + AHEAD, &read);
+        }
         add_copy(alloc, entries, slot, &mut copied)?;
     }
     Ok(copied)

@@ -2,5 +2,5 @@ use Rattle.slab.specs.Slab.{get as slab_get}
 use Rattle.tc_partition.proofs.Copies.{copied_step}
 use Rattle.tc_partition.proofs.parts.copy_at.Goals as goal
 
-pub loop-slot-preserved : goal.loop-slot-preserved
-loop-slot-preserved c = copied_step (slab_get c.args.entries.now) c.args.slots.now c.loop-slot.slot-index _ _ _ c.loop-slot-test.true c.loop-slot.invariant c.in_ok-add_copy.ensures
+pub loop-i-preserved : goal.loop-i-preserved
+loop-i-preserved c = copied_step (slab_get c.args.entries.now) c.args.slots.now c.loop-i.i _ _ _ c.loop-i-test.true c.loop-i.invariant c.in_ok-add_copy.ensures
