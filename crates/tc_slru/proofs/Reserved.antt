@@ -1,12 +1,12 @@
--- More room changes no list.
+-- More room changes no list; and no lists, with the room that there was.
 use Rattle.std.specs.Prelude.{Option, None, replicate, map, max, sum_by, if◌then◌else◌}
-use Rattle.std.proofs.Common.{◌≡◌, ℕ, zero, suc, ◌+◌, ◌-◌, ◌<◌, Bool, true, false, List, [], ◌∷◌, ◌++◌, length, refl, sym, ◌∙◌, ap, subst, arith, length-append}
+use Rattle.std.proofs.Common.{◌≡◌, ℕ, zero, suc, ◌+◌, ◌-◌, ◌<◌, ◌≤◌, Bool, true, false, List, [], ◌∷◌, ◌++◌, length, refl, sym, ◌∙◌, ap, subst, arith, length-append}
 use Rattle.tc_model.specs.Areas.{Areas}
 use Rattle.tc_model.specs.Ring.{AreBelow}
 use Rattle.tc_model.proofs.Chained.{ring_grown, index-grown}
-use Rattle.tc_slru.specs.Links.{Links, area_at, grown}
+use Rattle.tc_slru.specs.Links.{Links, area_at, marks_alone, grown}
 use Rattle.tc_slru.specs.Slots.{Placed, Shown, weigh}
-use Rattle.tc_slru.specs.InAreas.{list_in}
+use Rattle.tc_slru.specs.InAreas.{list_in, no_areas}
 use Rattle.tc_slru.specs.Kept.{placed_of, placed_areas, nodes_by, shown_by, AreAt, AreKept, AreNodes}
 use Rattle.tc_slru.specs.declared.area.Area.{Area}
 use Rattle.tc_slru.specs.declared.area.Area.TheVariants.{Window, Probation, Protected}
@@ -92,3 +92,42 @@ reserved_if true slots l s v m e w k =
     (r.nodes, r.shows ∙ ap (λ (z : Shown). record z { slots = max z.slots slots }) w)
 reserved_if false slots l s v m e w k =
     (subst (λ (x : Links). AreNodes x s (nodes_by x.next s)) (sym e) k, ap (λ (x : Links). shown_by x s) e ∙ w)
+
+-- the sizes of empty lists
+abbrev none : Size
+none = record { count = 0; weight = 0 }
+
+abbrev pub no_sizes : Sizes
+no_sizes = record { window = none; probation = none; protected = none }
+
+alone_free : (n : ℕ) → 2 < n → area_at marks_alone.areas n ≡ None
+alone_free zero h = refl
+alone_free (suc zero) h = refl
+alone_free (suc (suc zero)) h = refl
+alone_free (suc (suc (suc n))) h = refl
+
+-- the marks alone are no lists
+nodes_alone : AreNodes marks_alone no_sizes (nodes_by marks_alone.next no_sizes)
+nodes_alone = record {
+  ring = record {
+    linked = (refl, refl, (refl, refl, (refl, refl)));
+    distinct = ((omega arith, (omega arith, tt)), ((omega arith, tt), (tt, tt)));
+    below = (omega arith, (omega arith, (omega arith, tt)));
+    long = refl;
+  };
+  window = record { count = refl; weight = refl; members = tt };
+  probation = record { count = refl; weight = refl; members = tt };
+  protected = record { count = refl; weight = refl; members = tt };
+  free = λ n big h. alone_free n big;
+  weights_long = refl;
+  areas_long = refl;
+}
+
+-- no lists are left, and the room
+pub cleared_by : (all : ℕ) (m : Links) → 3 ≤ all → m ≡ grown all marks_alone
+    → AreNodes m no_sizes (nodes_by m.next no_sizes) × (shown_by m no_sizes ≡ record { slots = all - 3; areas = no_areas })
+cleared_by all m h e =
+    let same : all ≡ all - 3 + 3 = omega arith in
+    let r : IsReserved (all - 3) marks_alone no_sizes m = reserved_by (all - 3) marks_alone no_sizes m (e ∙ ap (λ n. grown n marks_alone) same) nodes_alone in
+    let room : max (3 - 3) (all - 3) ≡ all - 3 = omega arith in
+    (r.nodes, r.shows ∙ same_shown _ _ _ _ room refl)

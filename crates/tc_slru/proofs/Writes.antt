@@ -1,7 +1,8 @@
 -- What a write to one node does to the lists of links.
 use Rattle.std.specs.Prelude.{Option, None, map, slice_set, slice_index_or, replicate}
 use Rattle.std.proofs.Common.{◌≡◌, ℕ, zero, suc, ◌+◌, ◌-◌, ◌<◌, ◌≤◌, List, [], ◌∷◌, ◌++◌, length, refl, sym, ◌∙◌, ap, arith, append_assoc, length-append}
-use Rattle.tc_slru.specs.Links.{Links, grown}
+use Rattle.std.proofs.lemmas.List.{append-nil}
+use Rattle.tc_slru.specs.Links.{Links, marks_alone, grown}
 use Rattle.tc_slru.specs.Nodes.{links}
 use Rattle.tc_slru.specs.declared.area.Area.{Area}
 use Rattle.tc_slru.specs.declared.nodes.Node.{Node}
@@ -116,3 +117,14 @@ links-grown ms rest slots x en ep ew ea m =
     (grown_field (λ n. n.prev) (ms ++ rest) k x ∙ ap (λ v. map (λ n. n.prev) (ms ++ rest) ++ replicate k v) ep)
     (grown_field (λ n. n.weight) (ms ++ rest) k x ∙ ap (λ v. map (λ n. n.weight) (ms ++ rest) ++ replicate k v) ew)
     (grown_field (λ n. n.area) (ms ++ rest) k x ∙ ap (λ v. map (λ n. n.area) (ms ++ rest) ++ replicate k v) ea)
+
+pub length-links : (ms rest : List Node) → length (links (ms ++ rest)).next ≡ length ms + length rest
+length-links ms rest = length-map_own (λ (n : Node). n.next) (ms ++ rest) ∙ length-append ms rest
+
+-- the marks alone, and before n nodes that are linked to nothing
+pub links-cleared : (ms : List Node) (n all : ℕ) (x : Node) → links ms ≡ marks_alone → length ms ≡ 3 → x.next ≡ 0 → x.prev ≡ 0 → x.weight ≡ 0 → x.area ≡ None → n + 3 ≡ all
+    → links (ms ++ replicate n x) ≡ grown all marks_alone
+links-cleared ms n all x alone m en ep ew ea e =
+    let same : n ≡ n - 0 = omega arith in
+    ap (λ k. links (ms ++ replicate k x)) same ∙ links-grown ms [] n x en ep ew ea m
+    ∙ ap (λ t. grown (n + 3) (links t)) (append-nil ms) ∙ ap (λ l. grown (n + 3) l) alone ∙ ap (λ k. grown k marks_alone) e

@@ -23,6 +23,10 @@ fresh window main protected = record {
 abbrev pub reserved : ℕ → SlotLists → SlotLists
 reserved slots l = record l { slots = max l.slots slots }
 
+-- all slots left their lists
+abbrev pub cleared : SlotLists → SlotLists
+cleared l = record l { areas = record { window = []; probation = []; protected = [] } }
+
 -- a slot came to the window's front
 abbrev pub pushed : ℕ → ℕ → SlotLists → SlotLists
 pushed slot weight l = record l { areas = record l.areas { window = placed slot weight ∷ l.areas.window } }

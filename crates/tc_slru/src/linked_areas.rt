@@ -20,7 +20,7 @@ ghost use Rattle.tc_slru.specs.Slots.{slot_of};
 ghost use Rattle.tc_slru.specs.InAreas.{list_in, put_in, area_of, IsLast, IsSize, no_areas, mark_of, end_of};
 ghost use Rattle.tc_slru.specs.Victims.{Counts, left_over};
 
-use crate::area::{Area, Size, Sizes};
+use crate::area::{Area, Sizes};
 use crate::nodes::{MARKS, Nodes};
 use std::alloc::Global;
 use std::marker::Model;
@@ -105,11 +105,7 @@ impl LinkedAreas {
     {
         LinkedAreas {
             nodes: Nodes::new(alloc),
-            sizes: Sizes {
-                window: Size::NONE,
-                probation: Size::NONE,
-                protected: Size::NONE,
-            },
+            sizes: Sizes::NONE,
         }
     }
 
@@ -120,6 +116,14 @@ impl LinkedAreas {
         ensures refused { OnErr result (self.old.slots < slots) }
     {
         self.nodes.reserve(slots)
+    }
+
+    /// Takes all slots out of their lists. The room stays.
+    pub fn clear(&mut self)
+        ensures { self.new ≡ record self.old { areas = no_areas } }
+    {
+        self.nodes.clear();
+        self.sizes = Sizes::NONE;
     }
 
     /// How many slots have room.

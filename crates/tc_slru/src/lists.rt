@@ -4,7 +4,7 @@ ghost use Rattle.tc_model.specs.Areas.{total};
 ghost use Rattle.tc_slru.specs.Slots.{weigh, holds, without_slot, slot_of};
 ghost use Rattle.tc_slru.specs.InAreas.{list_in};
 ghost use Rattle.tc_slru.specs.Victims.{Counts};
-ghost use Rattle.tc_slru.specs.SlotLists.{fresh, reserved, pushed, removed, accessed_at, weights_of, DropsNext};
+ghost use Rattle.tc_slru.specs.SlotLists.{fresh, reserved, cleared, pushed, removed, accessed_at, weights_of, DropsNext};
 
 use crate::area::Area;
 use crate::linked_areas::LinkedAreas;
@@ -63,6 +63,13 @@ impl Lists {
         ensures refused { OnErr result (self.old.slots < slots) }
     {
         self.areas.reserve(slots)
+    }
+
+    /// Takes all slots out of their lists. Limits and room stay.
+    pub fn clear(&mut self)
+        ensures { self.new ≡ cleared self.old }
+    {
+        self.areas.clear();
     }
 
     /// How many slots have room: all below this number.

@@ -79,6 +79,15 @@ impl Nodes {
         Ok(())
     }
 
+    /// The marks alone again, in their ring, and as many nodes as there were.
+    pub fn clear(&mut self)
+        ensures nodes { self.new ≡ grown (length self.old.next) marks_alone }
+        ensures marks { 3 ≤ length self.old.next }
+    {
+        self.marks = [alone(1, 2), alone(2, 0), alone(0, 1)];
+        self.rest.fill(alone(0, 0));
+    }
+
     /// How many slots have a node.
     pub fn slots(&self) -> usize
         ensures { result + 3 ≡ length self.now.next }

@@ -1,7 +1,8 @@
 -- The marks alone, and more room.
-use Rattle.std.specs.Prelude.{Option, None, Some, ◌-◌, ◌%◌, replicate, map, slice_index}
+use Rattle.std.specs.Prelude.{Option, None, Some, ◌-◌, ◌%◌, replicate, map, slice_index, slice_index_or, slice_set}
 use Rattle.std.proofs.Common.{◌≡◌, ◌⊎◌, inl, inr, ℕ, zero, suc, ◌+◌, ◌<◌, ◌≤◌, true, false, List, [], ◌∷◌, ◌++◌, length, refl, sym, ◌∙◌, ap, subst, arith, length-append}
 use Rattle.std.proofs.lemmas.Bool.{cases_lt}
+use Rattle.std.proofs.lemmas.List.{get_or-set_same, get_or-set_other}
 use Rattle.tc_model.specs.Ring.{Linked, IsAway, AreDistinct, AreBelow, IsRing}
 use Rattle.tc_model.specs.Chains.{marked, IsLoop, AreChained, is_among}
 use Rattle.tc_model.proofs.Chained.{ring_grown, index-grown}
@@ -10,7 +11,7 @@ use Rattle.tc_wheel.specs.Links.{Links, AreMarks, grown}
 use Rattle.tc_wheel.specs.Nodes.{links}
 use Rattle.tc_wheel.specs.Kept.{list_at, stands_in, AreKept, IsSwept}
 use Rattle.tc_wheel.specs.declared.nodes.Node.{Node}
-use Rattle.tc_wheel.proofs.Writes.{length-map_own}
+use Rattle.tc_wheel.proofs.Writes.{map-set, length-map_own}
 use Rattle.tc_wheel.proofs.Held.{stands_none}
 
 -- the marks from m on
@@ -34,9 +35,9 @@ upto_below : (b m n : ℕ) → m + n ≤ b → AreBelow b (upto m n)
 upto_below b m zero h = tt
 upto_below b m (suc n) h = (omega arith, upto_below b (suc m) n (omega arith))
 
-upto_linked : (k : ℕ) (l : Links) (a n : ℕ) → suc a + n ≡ k → AreMarks k l → Linked l.next l.prev a (upto (suc a) n) 0
-upto_linked k l a zero e h = (h.last a (omega arith), h.first a (omega arith))
-upto_linked k l a (suc n) e h = (h.next a (omega arith), h.prev a (omega arith), upto_linked k l (suc a) n (omega arith) h)
+upto_linked : (k m : ℕ) (l : Links) (a n : ℕ) → suc a + n ≡ k → AreMarks k m l → Linked l.next l.prev a (upto (suc a) n) 0
+upto_linked k m l a zero e h = (h.last a (omega arith), h.first a (omega arith))
+upto_linked k m l a (suc n) e h = (h.next a (omega arith), h.prev a (omega arith), upto_linked k m l (suc a) n (omega arith) h)
 
 list_at-alone : (i n : ℕ) → list_at i (replicate n []) ≡ []
 list_at-alone i zero = refl
@@ -47,18 +48,18 @@ length-alone : (n : ℕ) → length (replicate n (let none : List ℕ = [] in no
 length-alone zero = refl
 length-alone (suc n) = ap suc (length-alone n)
 
-marks_ring : (k : ℕ) (l : Links) → AreMarks (suc k) l → IsRing l.next l.prev 0 (upto 1 k)
-marks_ring k l h = record {
-  linked = upto_linked (suc k) l 0 k (omega arith) h;
+marks_ring : (k n : ℕ) (l : Links) → AreMarks (suc k) n l → IsRing l.next l.prev 0 (upto 1 k)
+marks_ring k n l h = record {
+  linked = upto_linked (suc k) n l 0 k (omega arith) h;
   distinct = upto_distinct 0 (suc k);
-  below = upto_below (length l.next) 0 (suc k) (omega (arith, h.next_long));
+  below = upto_below (length l.next) 0 (suc k) (omega (arith, h.next_long, h.within));
   long = h.prev_long ∙ sym h.next_long;
 }
 
-kept_alone : (k moment left : ℕ) (l : Links) → AreMarks (suc k) l → AreKept k moment left l (replicate (suc k) [])
-kept_alone k moment left l h = record {
+kept_alone : (k moment left m : ℕ) (l : Links) → AreMarks (suc k) m l → AreKept k moment left l (replicate (suc k) [])
+kept_alone k moment left m l h = record {
   count = length-alone (suc k);
-  ring = subst (λ xs. IsLoop l.next l.prev xs) (sym (marked_alone 0 (suc k))) (marks_ring k l h);
+  ring = subst (λ xs. IsLoop l.next l.prev xs) (sym (marked_alone 0 (suc k))) (marks_ring k m l h);
   dues_long = h.dues_long ∙ sym h.next_long;
   marks = λ n small. h.dues n;
   kept = λ i n small. none_at n i ∙ sym (ap (λ o. stands_in k i (is_among n (list_at k (replicate (suc k) []))) o) (h.dues n) ∙ stands_none k i (is_among n (list_at k (replicate (suc k) []))));
@@ -69,8 +70,8 @@ kept_alone k moment left l h = record {
     none_at : (n i : ℕ) → is_among n (list_at i (replicate (suc k) [])) ≡ false
     none_at n i = ap (λ xs. is_among n xs) (list_at-alone i (suc k))
 
-pub swept_alone : (k moment left : ℕ) (l : Links) → AreMarks (suc k) l → IsSwept k moment left l
-swept_alone k moment left l h = record { lists = replicate (suc k) []; kept = kept_alone k moment left l h }
+pub swept_alone : (k moment left m : ℕ) (l : Links) → AreMarks (suc k) m l → IsSwept k moment left l
+swept_alone k moment left m l h = record { lists = replicate (suc k) []; kept = kept_alone k moment left m l h }
 
 -- the first m marks of k, as they are made
 pub record AreFirst (k m : ℕ) (ns : List Node) : Type 0 where
@@ -110,17 +111,65 @@ first_pushed k m ns all x e en ep ed h = subst (λ ys. AreFirst k (m + 1) ys) (s
   dues = λ n. ap (λ ds. due_at ds n) (map-append (λ (y : Node). y.due) ns (x ∷ [])) ∙ ap (λ d. due_at (map (λ (y : Node). y.due) ns ++ d ∷ []) n) ed ∙ none_behind (map (λ (y : Node). y.due) ns) n h.dues;
 })
 
-pub marks_of : (ns : List Node) → AreFirst 4097 4097 ns → AreMarks 4097 (links ns)
-marks_of ns h = record {
+-- the first m of n nodes, as they are written
+pub record AreWritten (k m n : ℕ) (ns : List Node) : Type 0 where
+  pub long : length ns ≡ n
+  pub next : (i : ℕ) → i < m → slice_index (map (λ (x : Node). x.next) ns) i ≡ (i + 1) % k
+  pub prev : (i : ℕ) → i < m → slice_index (map (λ (x : Node). x.prev) ns) i ≡ (i + (k - 1)) % k
+  pub dues : (i : ℕ) → i < m → due_at (map (λ (x : Node). x.due) ns) i ≡ None
+
+field_written : {B : Type 0} (f : Node → B) (g : ℕ → B) (d : B) (m : ℕ) (ns : List Node) (x : Node) → m < length ns → f x ≡ g m → ((i : ℕ) → i < m → slice_index_or (map f ns) i d ≡ g i)
+    → (i : ℕ) → i < m + 1 → slice_index_or (map f (slice_set ns m x)) i d ≡ g i
+field_written f g d m ns x here e h i small = ap (λ ys. slice_index_or ys i d) (map-set f ns m x) ∙ go (cases_lt i m)
+  where
+    go : (i < m) ⊎ (m ≤ i) → slice_index_or (slice_set (map f ns) m (f x)) i d ≡ g i
+    go (inl less) = get_or-set_other (map f ns) m i (f x) d (omega arith) ∙ h i less
+    go (inr more) =
+        let same : m ≡ i = omega arith in
+        ap (λ j. slice_index_or (slice_set (map f ns) m (f x)) j d) (sym same) ∙ get_or-set_same (map f ns) m (f x) d (omega (arith, length-map_own f ns)) ∙ e ∙ ap g same
+
+pub none_written : (k n : ℕ) (ns : List Node) → length ns ≡ n → AreWritten k 0 n ns
+none_written k n ns e = record { long = e; next = λ i small. absurd (omega arith); prev = λ i small. absurd (omega arith); dues = λ i small. absurd (omega arith) }
+
+pub one_written : (k m n : ℕ) (ns : List Node) (x : Node) → m < n → x.next ≡ (m + 1) % k → x.prev ≡ (m + (k - 1)) % k → x.due ≡ None → AreWritten k m n ns → AreWritten k (m + 1) n (slice_set ns m x)
+one_written k m n ns x small en ep ed h =
+    let here : m < length ns = omega (arith, h.long) in
+    record {
+      long = length-set_own ns m x ∙ h.long;
+      next = field_written (λ (y : Node). y.next) (λ i. (i + 1) % k) 0 m ns x here en h.next;
+      prev = field_written (λ (y : Node). y.prev) (λ i. (i + (k - 1)) % k) 0 m ns x here ep h.prev;
+      dues = field_written (λ (y : Node). y.due) (λ i. None) None m ns x here ed h.dues;
+    }
+  where
+    length-set_own : {A : Type 0} (xs : List A) (i : ℕ) (y : A) → length (slice_set xs i y) ≡ length xs
+    length-set_own [] i y = refl
+    length-set_own (z ∷ zs) zero y = refl
+    length-set_own (z ∷ zs) (suc i) y = ap suc (length-set_own zs i y)
+
+pub marks_written : (n : ℕ) (ns : List Node) → 4097 ≤ n → AreWritten 4097 n n ns → AreMarks 4097 n (links ns)
+marks_written n ns all h = record {
+  within = all;
   next_long = length-map_own (λ (x : Node). x.next) ns ∙ h.long;
   prev_long = length-map_own (λ (x : Node). x.prev) ns ∙ h.long;
   dues_long = length-map_own (λ (x : Node). x.due) ns ∙ h.long;
-  next = λ n small. h.next n (omega arith) ∙ omega arith;
-  last = λ n e. h.next n (omega arith) ∙ omega arith;
-  prev = λ n small. h.prev (suc n) small ∙ omega arith;
-  first = λ n e. h.prev 0 (omega arith) ∙ omega arith;
-  dues = h.dues;
+  next = λ i small. h.next i (omega (arith, all)) ∙ omega arith;
+  last = λ i e. h.next i (omega (arith, all)) ∙ omega arith;
+  prev = λ i small. h.prev (suc i) (omega (arith, all)) ∙ omega arith;
+  first = λ i e. h.prev 0 (omega (arith, all)) ∙ omega arith;
+  dues = λ i. none_at i (cases_lt i n);
 }
+  where
+    beyond : (dues : List (Option ℕ)) (i : ℕ) → length dues ≤ i → due_at dues i ≡ None
+    beyond [] i h = refl
+    beyond (d ∷ dues) zero h = absurd (omega arith)
+    beyond (d ∷ dues) (suc i) h = beyond dues i (omega arith)
+
+    none_at : (i : ℕ) → (i < n) ⊎ (n ≤ i) → due_at (links ns).dues i ≡ None
+    none_at i (inl less) = h.dues i less
+    none_at i (inr more) = beyond (links ns).dues i (omega (arith, length-map_own (λ (x : Node). x.due) ns, h.long))
+
+pub marks_of : (ns : List Node) → AreFirst 4097 4097 ns → AreMarks 4097 4097 (links ns)
+marks_of ns h = marks_written 4097 ns (omega arith) (record { long = h.long; next = h.next; prev = h.prev; dues = λ i small. h.dues i })
 
 -- more room
 

@@ -6,7 +6,7 @@ use Rattle.tc_model.specs.Ring.{HasPlace}
 use Rattle.std.proofs.lemmas.Bool.{leb-true, leb-false}
 use Rattle.tc_model.specs.Chains.{fronted, without_node}
 use Rattle.tc_model.proofs.Chained.{mark_place}
-use Rattle.tc_wheel.specs.Dues.{Dues, due_at, is_due, holds, no_dues, reserved, added, removed, advanced, Gives}
+use Rattle.tc_wheel.specs.Dues.{Dues, due_at, is_due, holds, no_dues, reserved, cleared, added, removed, advanced, Gives}
 use Rattle.tc_wheel.specs.Links.{Links, AreMarks, grown, linked_behind, unlinked, noted, freed}
 use Rattle.tc_wheel.specs.Kept.{list_of, IsSwept, IsNext}
 use Rattle.tc_wheel.specs.Turning.{slot_dues}
@@ -128,12 +128,26 @@ free_again (d ∷ dues) (suc slot) h = ap (λ t. d ∷ t) (free_again dues slot 
 pub removed_free : (slot : ℕ) (w : Dues) → holds slot w ≡ false → w ≡ removed slot w
 removed_free slot w h = ap (λ ds. (let d : Dues = record { moment = w.moment; dues = ds } in d)) (sym (free_again w.dues slot h))
 
-pub fresh : (l : Links) → AreMarks 4097 l → IsSwept 4096 0 0 l × (shown l 0 ≡ no_dues)
-fresh l h = (swept_alone 4096 0 0 l h, ap (λ ds. (let d : Dues = record { moment = 0; dues = ds } in d)) (nothing (slot_dues l.dues) (omega (arith, length-slot_dues l.dues, h.dues_long))))
+pub fresh : (l : Links) → AreMarks 4097 4097 l → IsSwept 4096 0 0 l × (shown l 0 ≡ no_dues)
+fresh l h = (swept_alone 4096 0 0 4097 l h, ap (λ ds. (let d : Dues = record { moment = 0; dues = ds } in d)) (nothing (slot_dues l.dues) (omega (arith, length-slot_dues l.dues, h.dues_long))))
   where
     nothing : (ds : List (Option ℕ)) → length ds ≡ 0 → ds ≡ []
     nothing [] e = refl
     nothing (d ∷ ds) e = absurd (omega arith)
+
+none_all : (ds : List (Option ℕ)) → ((i : ℕ) → due_at ds i ≡ None) → ds ≡ replicate (length ds) None
+none_all [] h = refl
+none_all (d ∷ ds) h = ap (λ o. o ∷ ds) (h 0) ∙ ap (λ xs. None ∷ xs) (none_all ds (λ i. h (suc i)))
+
+-- nothing is held any longer
+pub cleared_by : {left : ℕ} (l m : Links) (moment : ℕ) (w : Dues) → AreMarks 4097 (length l.next) m → shown l moment ≡ w → IsSwept 4096 moment left l
+    → IsSwept 4096 moment left m × (shown m moment ≡ cleared w)
+cleared_by {left} l m moment w h v s =
+    let same : length (slot_dues m.dues) ≡ length (slot_dues l.dues) = omega (arith, length-slot_dues m.dues, length-slot_dues l.dues, h.dues_long, s.kept.dues_long) in
+    let none : slot_dues m.dues ≡ replicate (length (slot_dues m.dues)) None = none_all (slot_dues m.dues) (λ i. due_at-slot_dues m.dues i ∙ h.dues (i + 4097)) in (
+      swept_alone 4096 moment left (length l.next) m h,
+      ap (λ ds. (let d : Dues = record { moment = moment; dues = ds } in d)) (none ∙ ap (λ n. replicate n None) same) ∙ ap cleared v,
+    )
 
 -- the moment goes on
 

@@ -7,7 +7,7 @@ use Rattle.tc_wheel.specs.Nodes.{links}
 use Rattle.tc_wheel.specs.Turning.{slot_dues}
 use Rattle.tc_wheel.specs.declared.nodes.Node.{Node}
 
-map-set : {A B : Type 0} (f : A → B) (xs : List A) (i : ℕ) (x : A) → map f (slice_set xs i x) ≡ slice_set (map f xs) i (f x)
+pub map-set : {A B : Type 0} (f : A → B) (xs : List A) (i : ℕ) (x : A) → map f (slice_set xs i x) ≡ slice_set (map f xs) i (f x)
 map-set f [] i x = refl
 map-set f (y ∷ ys) zero x = refl
 map-set f (y ∷ ys) (suc i) x = ap (λ t. f y ∷ t) (map-set f ys i x)

@@ -36,6 +36,10 @@ added slot due w = record w { dues = slice_set w.dues slot (Some due) }
 abbrev pub removed : ℕ → Dues → Dues
 removed slot w = record w { dues = slice_set w.dues slot None }
 
+-- nothing is held any longer
+abbrev pub cleared : Dues → Dues
+cleared w = record w { dues = replicate (length w.dues) None }
+
 -- the wheel was advanced to a moment
 abbrev pub advanced : ℕ → Dues → Dues
 advanced moment w = record w { moment = max w.moment moment }

@@ -1,5 +1,5 @@
 -- The ring as lists by node: links forward and back, and when the slot of a node is due (a doubly linked list by index).
-use Rattle.std.specs.Prelude.{◌≡◌, Option, Some, None, slice_index, slice_set, ℕ, suc, ◌-◌, ◌<◌, List, ◌++◌, length, replicate}
+use Rattle.std.specs.Prelude.{◌≡◌, Option, Some, None, slice_index, slice_set, ℕ, suc, ◌-◌, ◌<◌, ◌≤◌, List, ◌++◌, length, replicate}
 use Rattle.tc_model.specs.Ring.{put_next, put_prev, cut_next, cut_prev}
 use Rattle.tc_wheel.specs.Dues.{due_at}
 
@@ -9,16 +9,17 @@ pub record Links : Type 0 where
   pub prev : List ℕ
   pub dues : List (Option ℕ)
 
--- k marks in a ring, with no list between them
-pub record AreMarks (k : ℕ) (l : Links) : Type 0 where
-  pub next_long : length l.next ≡ k
-  pub prev_long : length l.prev ≡ k
-  pub dues_long : length l.dues ≡ k
-  pub next : (n : ℕ) → suc n < k → slice_index l.next n ≡ suc n
-  pub last : (n : ℕ) → suc n ≡ k → slice_index l.next n ≡ 0
-  pub prev : (n : ℕ) → suc n < k → slice_index l.prev (suc n) ≡ n
-  pub first : (n : ℕ) → suc n ≡ k → slice_index l.prev 0 ≡ n
-  pub dues : (n : ℕ) → due_at l.dues n ≡ None
+-- k marks in a ring, with no list between them, and nothing held at any of n nodes
+pub record AreMarks (k n : ℕ) (l : Links) : Type 0 where
+  pub within : k ≤ n
+  pub next_long : length l.next ≡ n
+  pub prev_long : length l.prev ≡ n
+  pub dues_long : length l.dues ≡ n
+  pub next : (i : ℕ) → suc i < k → slice_index l.next i ≡ suc i
+  pub last : (i : ℕ) → suc i ≡ k → slice_index l.next i ≡ 0
+  pub prev : (i : ℕ) → suc i < k → slice_index l.prev (suc i) ≡ i
+  pub first : (i : ℕ) → suc i ≡ k → slice_index l.prev 0 ≡ i
+  pub dues : (i : ℕ) → due_at l.dues i ≡ None
 
 -- with n nodes at least: those that come are linked to nothing
 abbrev pub grown : ℕ → Links → Links

@@ -54,7 +54,7 @@ impl Model for Nodes {
 impl Nodes {
     /// The marks alone, in their ring.
     pub fn new(alloc: Global) -> Result<Nodes, NoMemory>
-        ensures { IfOk result (AreMarks 4097) }
+        ensures { IfOk result (AreMarks 4097 4097) }
     {
         let mut nodes = Vec::with_capacity(alloc, MARKS)?;
         for mark in 0..MARKS {
@@ -85,6 +85,20 @@ impl Nodes {
             let _all = count(&self.nodes);
         }
         Ok(())
+    }
+
+    /// The marks alone again, in their ring, and as many nodes as there were. What the nodes of slots
+    /// that are not held are linked to does not matter.
+    pub fn clear(&mut self)
+        ensures { AreMarks 4097 (length self.old.next) self.new }
+    {
+        for at in 0..count(&self.nodes) {
+            self.nodes[at] = Node {
+                next: (at + 1) % MARKS,
+                prev: (at + DUE) % MARKS,
+                due: None,
+            };
+        }
     }
 
     /// How many slots have a node.

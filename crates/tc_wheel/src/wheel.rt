@@ -12,7 +12,7 @@
 //! 5. `late`: what stands in the list of what is due is due at the wheel's moment.
 //! 6. `rest`: what stands in a bucket is due later, or awaits one of the last seconds, whose buckets are left to walk.
 ghost use Rattle.std.specs.Prelude.{◌≡◌, ◌<◌, length, false, is_ok, IfOk, OnErr, if◌then◌else◌};
-ghost use Rattle.tc_wheel.specs.Dues.{no_dues, reserved, added, removed, holds, Gives};
+ghost use Rattle.tc_wheel.specs.Dues.{no_dues, reserved, cleared, added, removed, holds, Gives};
 
 use crate::nodes::{BUCKETS, MARKS, Nodes};
 use crate::sweep::{find_due, link_behind, list_of, unlink};
@@ -61,6 +61,13 @@ impl Wheel {
         ensures refused { OnErr result (length self.old.dues < slots) }
     {
         self.nodes.reserve(slots)
+    }
+
+    /// Holds no slot any longer. The moment and the room stay.
+    pub fn clear(&mut self)
+        ensures { self.new ≡ cleared self.old }
+    {
+        self.nodes.clear();
     }
 
     /// How many slots have room: all below this number.
