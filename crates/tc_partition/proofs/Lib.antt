@@ -8,6 +8,7 @@ pub mod Drops
 pub mod Replaced
 pub mod Expired
 pub mod Kept
+pub mod Cleared
 pub mod Touched
 pub mod Limited
 pub mod Tally
