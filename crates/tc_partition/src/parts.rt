@@ -1,6 +1,7 @@
 //! Steps on index, entries, lists and wheel, each of which is told what it needs of the others.
 ghost use Rattle.std.specs.Prelude.{◌≡◌, ℕ, IfOk, OnOk, IsSome, length, option_to_list, ◌++◌, ◌<◌, ◌≤◌, Some, None};
-ghost use Rattle.indexmap.specs.IndexMap.{spare};
+ghost use Rattle.std.specs.Str.{bytes_eq};
+ghost use Rattle.indexmap.specs.IndexMap.{get as index_get, spare};
 ghost use Rattle.slab.specs.Slab.{get as slab_get, slab_len, HasRoomFor};
 ghost use Rattle.tc_slru.specs.SlotLists.{DropsNext};
 ghost use Rattle.tc_plain.specs.Entries.{weight, with_item, with_due};
@@ -50,6 +51,25 @@ pub fn vacate(index: &mut IndexMap<Key, Slot, RandomState>, entries: &mut Slab<E
     if let Some(entry) = entries.try_remove(slot.0) {
         let _slot = index.swap_remove(&entry.key);
     }
+}
+
+/// Takes what a key holds out of index and entries, and says in which slot it was.
+pub fn take_out(
+    index: &mut IndexMap<Key, Slot, RandomState>,
+    entries: &mut Slab<Entry>,
+    key: &Key,
+) -> Option<Slot>
+    ensures found { result ≡ index_get bytes_eq index.old key.now }
+    ensures missed { result ≡ None → index.new.entries ≡ index.old.entries }
+    ensures kept { result ≡ None → entries.new ≡ entries.old }
+    ensures spare { spare index.old ≤ spare index.new }
+    ensures gone { (slot : Slot) (e : Entry) → result ≡ Some slot
+        → slab_get entries.old slot.0 ≡ Some e → e.key ≡ key.now
+        → IsVacated e slot.0 index.old index.new entries.old entries.new }
+{
+    let slot = index.swap_remove(key)?;
+    let _entry = entries.try_remove(slot.0);
+    Some(slot)
 }
 
 /// The moment of a due that a moment can reach.

@@ -30,7 +30,7 @@ ghost use Rattle.tc_partition.specs.Agreement.{entry_or};
 ghost use Rattle.tc_partition.specs.Held.{filled, IsFound, FindsSlot, DropsEntry};
 
 use crate::parts::{
-    copy_at, drop_next, grow, put, put_due, reached, take_in, time, vacate, weight_at,
+    copy_at, drop_next, grow, put, put_due, reached, take_in, take_out, time, vacate, weight_at,
 };
 use indexmap::IndexMap;
 use slab::Slab;
@@ -296,9 +296,10 @@ impl Slots {
         ensures limits { self.new.limits ≡ self.old.limits }
         ensures room { self.old.has_room ≡ true → self.new.has_room ≡ true }
     {
-        match self.find(key) {
-            Some(slot) => {
-                self.empty(slot);
+        match take_out(&mut self.index, &mut self.entries, key) {
+            Some(found) => {
+                self.lists.remove(found);
+                self.wheel.remove(found);
                 true
             }
             None => false,
