@@ -202,8 +202,10 @@ pub fn add_copy(
 /// compiler leaves them in.
 fn read_ahead(entries: &Slab<Entry>, slots: &[Slot], from: usize, read: &AtomicU64) {
     let mut sum: u64 = 0;
-    for slot in slots.iter().skip(from).take(AHEAD) {
-        sum = sum.wrapping_add(weight_at(entries, *slot));
+    for place in from..from.saturating_add(AHEAD) {
+        if let Some(slot) = slots.get(place) {
+            sum = sum.wrapping_add(weight_at(entries, *slot));
+        }
     }
     read.fetch_add(sum, Ordering::SeqCst);
 }
