@@ -67,6 +67,8 @@ enum Move {
     /// An access, with the slot's new weight.
     Access(usize, u64),
     Remove(usize),
+    /// All slots are taken out.
+    Clear,
     /// From here on the slot was seen so often.
     Seen(usize, u8),
     /// What the next settle step drops.
@@ -90,6 +92,7 @@ fn make(rt: &impl Abort, lists: &mut Lists, seen: &mut [u8], step: &Move, place:
         Move::Push(slot, weight) => push(rt, lists, *slot, *weight),
         Move::Access(slot, weight) => access(rt, lists, *slot, *weight),
         Move::Remove(slot) => remove(rt, lists, *slot),
+        Move::Clear => lists.clear(),
         Move::Seen(slot, times) => note(seen, *slot, *times),
         Move::Settle(gone) => {
             assert!(rt; dropped(lists, seen) == *gone, "move {place}");
@@ -304,6 +307,24 @@ const REMOVAL: [Move; 12] = [
 #[test]
 fn a_removed_slot_is_free_and_weighs_nothing(rt: HostRuntime) -> Result<(), Fail> {
     play(&rt, rt.alloc(), 10, 100, 80, &REMOVAL)
+}
+
+/// A slot in the window and one in probation; then slot 0 anew.
+const CLEARED: [Move; 9] = [
+    Move::Push(0, 20),
+    Move::Push(1, 5),
+    Move::Settle(None),
+    Move::Clear,
+    Move::Holds(0, false),
+    Move::Holds(1, false),
+    Move::Weigh(0, 0, 0),
+    Move::Push(0, 30),
+    Move::Weigh(30, 0, 0),
+];
+
+#[test]
+fn cleared_lists_hold_nothing_and_take_slots_again(rt: HostRuntime) -> Result<(), Fail> {
+    play(&rt, rt.alloc(), 10, 100, 80, &CLEARED)
 }
 
 /// Asks for more room than there is memory, and for less than there is.

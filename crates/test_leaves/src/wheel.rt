@@ -11,6 +11,8 @@ enum Move {
     /// A slot is held until this second.
     Add(usize, u64),
     Remove(usize),
+    /// No slot is held any longer.
+    Clear,
     /// What the wheel gives at this second.
     Advance(u64, Option<usize>),
     /// Whether a slot is held.
@@ -38,6 +40,7 @@ fn make(rt: &impl Abort, wheel: &mut Wheel, step: &Move, place: usize) {
     match step {
         Move::Add(slot, second) => add(rt, wheel, *slot, *second),
         Move::Remove(slot) => wheel.remove(Slot(*slot)),
+        Move::Clear => wheel.clear(),
         Move::Advance(second, given) => {
             assert!(rt; due(wheel, *second) == *given, "move {place}");
         }
@@ -94,6 +97,23 @@ const REMOVED: [Move; 6] = [
 #[test]
 fn a_removed_slot_is_not_given(rt: HostRuntime) -> Result<(), Fail> {
     play(&rt, rt.alloc(), &REMOVED)
+}
+
+/// Slot 0 is due already when all are taken out, slot 1 later; then slot 1 anew.
+const CLEARED: [Move; 8] = [
+    Move::Advance(10, None),
+    Move::Add(0, 9),
+    Move::Add(1, 20),
+    Move::Clear,
+    Move::Holds(0, false),
+    Move::Advance(20, None),
+    Move::Add(1, 30),
+    Move::Advance(30, Some(1)),
+];
+
+#[test]
+fn a_cleared_wheel_gives_nothing_and_takes_slots_again(rt: HostRuntime) -> Result<(), Fail> {
+    play(&rt, rt.alloc(), &CLEARED)
 }
 
 const DUE_ALREADY: [Move; 6] = [
