@@ -67,7 +67,8 @@ impl<C: Cache> Book<C> {
         })
     }
 
-    /// One call of a seat, at the later of `now` and the book's moment. A refusal changes nothing.
+    /// One call of a seat, at the later of `now` and the book's moment; its entry keeps the copy of the
+    /// command. A refusal changes nothing.
     pub fn call(
         &mut self,
         alloc: Global,
@@ -75,8 +76,10 @@ impl<C: Cache> Book<C> {
         now: Moment,
         conn: u32,
         command: &Command,
+        kept: Command,
     ) -> Result<Slip, CallFault>
         requires seat { seat_no < length self.old.counts }
+        requires copy { kept ≡ command.now }
         ensures slip { IfOk result (λ slip. slip ≡ slip_of self.old (entry_of self.old seat_no now conn command.now)) }
         ensures entered { OnOk result (self.new ≡ after_call self.old (entry_of self.old seat_no now conn command.now)) }
         ensures worn { IfErr result (λ fault. (fault ≡ Worn → self.old.number ≡ 2 ^ 64 - 1) × (fault ≢ NoUser)) }
@@ -85,9 +88,6 @@ impl<C: Cache> Book<C> {
         if self.number == u64::MAX {
             return Err(CallFault::Worn);
         }
-        let Ok(kept) = command.copy(alloc) else {
-            return Err(CallFault::NoMemory);
-        };
         let Ok(()) = self.entries.reserve(1) else {
             return Err(CallFault::NoMemory);
         };
@@ -162,16 +162,18 @@ impl<C: Cache> Book<C> {
         now: Moment,
         conn: u32,
         command: &Command,
+        kept: Command,
     ) -> Result<Slip, CallFault>
         requires journal { 0 < journal }
         requires seat { seat_no < length self.old.counts }
+        requires copy { kept ≡ command.now }
         ensures slip { IfOk result (λ slip. slip ≡ slip_of (paged journal self.old) (entry_of self.old seat_no now conn command.now)) }
         ensures entered { OnOk result (self.new ≡ after_call (paged journal self.old) (entry_of self.old seat_no now conn command.now)) }
         ensures worn { IfErr result (λ fault. (fault ≡ Worn → self.old.number ≡ 2 ^ 64 - 1) × (fault ≢ NoUser)) }
         ensures unchanged_on_err { OnErr result (self.new ≡ self.old) }
     {
         if self.entries.len() < journal {
-            return self.call(alloc, seat_no, now, conn, command);
+            return self.call(alloc, seat_no, now, conn, command, kept);
         }
         let Ok(opening) = self.copy_settled(alloc) else {
             return Err(CallFault::NoMemory);
@@ -179,7 +181,7 @@ impl<C: Cache> Book<C> {
         let Ok(()) = self.make_room() else {
             return Err(CallFault::NoMemory);
         };
-        let mut slip = self.call(alloc, seat_no, now, conn, command)?;
+        let mut slip = self.call(alloc, seat_no, now, conn, command, kept)?;
         self.begin_page(opening);
         slip.page = self.turns();
         Ok(slip)

@@ -72,6 +72,10 @@ impl<C: Cache, N: Naming> Hall<C, N> {
         if number == 0 || number > self.users() {
             return Err(CallFault::NoUser);
         }
+        // Copied before the lock is got, so that nobody waits for it.
+        let Ok(copy) = command.copy(alloc) else {
+            return Err(CallFault::NoMemory);
+        };
         let at = (number - 1) as usize;
         let mut guard = self.books[at].lock(rt);
         held();
@@ -88,6 +92,7 @@ impl<C: Cache, N: Naming> Hall<C, N> {
             now,
             conn,
             command,
+            copy,
         )?;
         Ok(Receipt {
             user,

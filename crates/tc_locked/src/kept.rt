@@ -54,9 +54,11 @@ impl<C: Cache, N: Naming> Kept<C, N> {
         now: Moment,
         conn: u32,
         command: &Command,
+        kept: Command,
     ) -> Result<Slip, CallFault>
         requires table { (table.now.table_id ≡ N.table) × (0 < table.now.table_id.words) }
         requires journal { (journal ≡ N.terms.journal) × (0 < journal) }
+        requires copy { kept ≡ command.now }
         ensures slip { IfOk result (λ slip. slip ≡ slip_of (paged journal self.old.book) (entry_of self.old.book seat.old.number now conn command.now)) }
         ensures kept { OnOk result (self.new ≡ kept_after journal self.old seat.old.number now conn command.now) }
         ensures seat { OnOk result (seat.new ≡ seat_after journal self.old seat.old now conn command.now) }
@@ -66,7 +68,7 @@ impl<C: Cache, N: Naming> Kept<C, N> {
     {
         let slip = self
             .book
-            .call_paged(alloc, journal, seat.number, now, conn, command)?;
+            .call_paged(alloc, journal, seat.number, now, conn, command, kept)?;
         let badge = mem::replace(&mut self.badge, Badge::blank());
         self.badge = note_both(
             table,
