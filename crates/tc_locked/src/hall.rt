@@ -5,6 +5,7 @@ ghost use Rattle.tc_locked.specs.Calls.{IsUser, Wrote};
 ghost use Rattle.tc_locked.specs.declared.call_fault.CallFault.TheVariants.{NoUser};
 
 use crate::call_fault::CallFault;
+use crate::called::Called;
 use crate::closed::{Closed, Missing};
 use crate::closing::{Shut, compare, take_books, take_seats};
 use crate::kept::Kept;
@@ -84,7 +85,7 @@ impl<C: Cache, N: Naming> Hall<C, N> {
             // A lock doesn't know which place it has. No hall is made so.
             return Err(CallFault::Worn);
         }
-        let slip = kept.call(
+        let Called { slip, old_opening } = kept.call(
             alloc,
             &self.table.shared,
             seat,
@@ -94,6 +95,9 @@ impl<C: Cache, N: Naming> Hall<C, N> {
             command,
             copy,
         )?;
+        // It may be large, and others wait for the lock.
+        drop(guard);
+        drop(old_opening);
         Ok(Receipt {
             user,
             slip,
