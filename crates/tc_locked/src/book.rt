@@ -7,6 +7,7 @@ ghost use Rattle.tc_locked.specs.Closing.{HasLegalPage};
 ghost use Rattle.tc_locked.specs.declared.call_fault.CallFault.TheVariants.{Worn, NoUser};
 
 use crate::call_fault::CallFault;
+use crate::called::Called;
 use crate::entry::{Entry, Slip};
 use std::alloc::Global;
 use std::marker::Model;
@@ -67,7 +68,8 @@ impl<C: Cache> Book<C> {
         })
     }
 
-    /// One call of a seat, at the later of `now` and the book's moment. A refusal changes nothing.
+    /// One call of a seat, at the later of `now` and the book's moment; its entry keeps the copy of the
+    /// command. A refusal changes nothing.
     pub fn call(
         &mut self,
         alloc: Global,
@@ -75,8 +77,10 @@ impl<C: Cache> Book<C> {
         now: Moment,
         conn: u32,
         command: &Command,
+        kept: Command,
     ) -> Result<Slip, CallFault>
         requires seat { seat_no < length self.old.counts }
+        requires copy { kept ≡ command.now }
         ensures slip { IfOk result (λ slip. slip ≡ slip_of self.old (entry_of self.old seat_no now conn command.now)) }
         ensures entered { OnOk result (self.new ≡ after_call self.old (entry_of self.old seat_no now conn command.now)) }
         ensures worn { IfErr result (λ fault. (fault ≡ Worn → self.old.number ≡ 2 ^ 64 - 1) × (fault ≢ NoUser)) }
@@ -85,9 +89,6 @@ impl<C: Cache> Book<C> {
         if self.number == u64::MAX {
             return Err(CallFault::Worn);
         }
-        let Ok(kept) = command.copy(alloc) else {
-            return Err(CallFault::NoMemory);
-        };
         let Ok(()) = self.entries.reserve(1) else {
             return Err(CallFault::NoMemory);
         };
@@ -153,7 +154,7 @@ impl<C: Cache> Book<C> {
     }
 
     /// `call`, after a turn of the page where it has `journal` entries. A refusal of either changes
-    /// nothing.
+    /// nothing, and of a turn the old opening comes back.
     pub fn call_paged(
         &mut self,
         alloc: Global,
@@ -162,16 +163,22 @@ impl<C: Cache> Book<C> {
         now: Moment,
         conn: u32,
         command: &Command,
-    ) -> Result<Slip, CallFault>
+        kept: Command,
+    ) -> Result<Called, CallFault>
         requires journal { 0 < journal }
         requires seat { seat_no < length self.old.counts }
-        ensures slip { IfOk result (λ slip. slip ≡ slip_of (paged journal self.old) (entry_of self.old seat_no now conn command.now)) }
+        requires copy { kept ≡ command.now }
+        ensures slip { IfOk result (λ called. called.slip ≡ slip_of (paged journal self.old) (entry_of self.old seat_no now conn command.now)) }
         ensures entered { OnOk result (self.new ≡ after_call (paged journal self.old) (entry_of self.old seat_no now conn command.now)) }
         ensures worn { IfErr result (λ fault. (fault ≡ Worn → self.old.number ≡ 2 ^ 64 - 1) × (fault ≢ NoUser)) }
         ensures unchanged_on_err { OnErr result (self.new ≡ self.old) }
     {
         if self.entries.len() < journal {
-            return self.call(alloc, seat_no, now, conn, command);
+            let slip = self.call(alloc, seat_no, now, conn, command, kept)?;
+            return Ok(Called {
+                slip,
+                old_opening: None,
+            });
         }
         let Ok(opening) = self.copy_settled(alloc) else {
             return Err(CallFault::NoMemory);
@@ -179,10 +186,13 @@ impl<C: Cache> Book<C> {
         let Ok(()) = self.make_room() else {
             return Err(CallFault::NoMemory);
         };
-        let mut slip = self.call(alloc, seat_no, now, conn, command)?;
-        self.begin_page(opening);
+        let mut slip = self.call(alloc, seat_no, now, conn, command, kept)?;
+        let old_opening = self.begin_page(opening);
         slip.page = self.turns();
-        Ok(slip)
+        Ok(Called {
+            slip,
+            old_opening: Some(old_opening),
+        })
     }
 
     /// Makes room for one entry more than a page has, and for no other. The room stays from page to page.
@@ -193,14 +203,16 @@ impl<C: Cache> Book<C> {
         Ok(())
     }
 
-    /// Turns the page before its last entry: the new page begins with this state.
-    fn begin_page(&mut self, opening: Plain)
+    /// Turns the page before its last entry: the new page begins with this state. It gives the old
+    /// page's opening.
+    fn begin_page(&mut self, opening: Plain) -> Plain
         requires legal { IsBook (page_before_last opening self.old) }
         ensures { self.new ≡ page_before_last opening self.old }
     {
-        let _old_opening = mem::replace(&mut self.opening, opening);
+        let old_opening = mem::replace(&mut self.opening, opening);
         keep_last(&mut self.entries);
         self.turns += 1;
+        old_opening
     }
 
     /// The entry that was made last.

@@ -5,6 +5,7 @@ ghost use Rattle.tc_locked.specs.Calls.{IsUser, Wrote};
 ghost use Rattle.tc_locked.specs.declared.call_fault.CallFault.TheVariants.{NoUser};
 
 use crate::call_fault::CallFault;
+use crate::called::Called;
 use crate::closed::{Closed, Missing};
 use crate::closing::{Shut, compare, take_books, take_seats};
 use crate::kept::Kept;
@@ -72,6 +73,10 @@ impl<C: Cache, N: Naming> Hall<C, N> {
         if number == 0 || number > self.users() {
             return Err(CallFault::NoUser);
         }
+        // Copied before the lock is got, so that nobody waits for it.
+        let Ok(copy) = command.copy(alloc) else {
+            return Err(CallFault::NoMemory);
+        };
         let at = (number - 1) as usize;
         let mut guard = self.books[at].lock(rt);
         held();
@@ -80,7 +85,7 @@ impl<C: Cache, N: Naming> Hall<C, N> {
             // A lock doesn't know which place it has. No hall is made so.
             return Err(CallFault::Worn);
         }
-        let slip = kept.call(
+        let Called { slip, old_opening } = kept.call(
             alloc,
             &self.table.shared,
             seat,
@@ -88,7 +93,11 @@ impl<C: Cache, N: Naming> Hall<C, N> {
             now,
             conn,
             command,
+            copy,
         )?;
+        // It may be large, and others wait for the lock.
+        drop(guard);
+        drop(old_opening);
         Ok(Receipt {
             user,
             slip,

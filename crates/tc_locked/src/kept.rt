@@ -7,7 +7,7 @@ ghost use Rattle.tc_locked.specs.declared.call_fault.CallFault.TheVariants.{Worn
 
 use crate::book::Book;
 use crate::call_fault::CallFault;
-use crate::entry::Slip;
+use crate::called::Called;
 use crate::naming::{Naming, Shared};
 use crate::noting::note_both;
 use crate::seat::Seat;
@@ -54,19 +54,21 @@ impl<C: Cache, N: Naming> Kept<C, N> {
         now: Moment,
         conn: u32,
         command: &Command,
-    ) -> Result<Slip, CallFault>
+        kept: Command,
+    ) -> Result<Called, CallFault>
         requires table { (table.now.table_id ≡ N.table) × (0 < table.now.table_id.words) }
         requires journal { (journal ≡ N.terms.journal) × (0 < journal) }
-        ensures slip { IfOk result (λ slip. slip ≡ slip_of (paged journal self.old.book) (entry_of self.old.book seat.old.number now conn command.now)) }
+        requires copy { kept ≡ command.now }
+        ensures slip { IfOk result (λ called. called.slip ≡ slip_of (paged journal self.old.book) (entry_of self.old.book seat.old.number now conn command.now)) }
         ensures kept { OnOk result (self.new ≡ kept_after journal self.old seat.old.number now conn command.now) }
         ensures seat { OnOk result (seat.new ≡ seat_after journal self.old seat.old now conn command.now) }
-        ensures tally { IfOk result (λ slip. slip.tally ≡ length (of_user self.old.user seat.new.notes)) }
+        ensures tally { IfOk result (λ called. called.slip.tally ≡ length (of_user self.old.user seat.new.notes)) }
         ensures worn { IfErr result (λ fault. (fault ≡ Worn → self.old.book.number ≡ 2 ^ 64 - 1) × (fault ≢ NoUser)) }
         ensures unchanged_on_err { OnErr result ((self.new ≡ self.old) × (seat.new ≡ seat.old)) }
     {
-        let slip = self
+        let called = self
             .book
-            .call_paged(alloc, journal, seat.number, now, conn, command)?;
+            .call_paged(alloc, journal, seat.number, now, conn, command, kept)?;
         let badge = mem::replace(&mut self.badge, Badge::blank());
         self.badge = note_both(
             table,
@@ -74,10 +76,10 @@ impl<C: Cache, N: Naming> Kept<C, N> {
             seat.number,
             badge,
             self.user,
-            slip.page,
+            called.slip.page,
             self.book.last(),
         );
-        Ok(slip)
+        Ok(called)
     }
 
     /// Deferred work of the cache, at most `limit` pieces of it.

@@ -23,6 +23,7 @@
 
 mod book;
 mod call_fault;
+mod called;
 mod clock;
 mod closed;
 mod closing;
@@ -39,6 +40,7 @@ pub mod view;
 
 pub use book::Book;
 pub use call_fault::CallFault;
+pub use called::Called;
 pub use clock::Clock;
 pub use closed::{Closed, Missing};
 pub use entry::{Entry, Slip};

@@ -83,7 +83,8 @@ impl<W: Wire + Drop> Link<W> {
         self.session.kept()
     }
 
-    /// Reads, does requests and writes. Each command is one call of the hall, and there are 16 at most.
+    /// Reads, does requests, writes, and looks once more whether there is something to read. Each command
+    /// is one call of the hall, and there are 16 at most.
     pub(crate) fn turn<R: Wait, C: Cache, N: Naming, G: Gate>(
         &mut self,
         service: &Service<'_, R, C, N, G>,
@@ -102,13 +103,27 @@ impl<W: Wire + Drop> Link<W> {
         if self.is_starved(service.clock.now()) {
             return Onward::Done;
         }
+        let Some(pace) = self.look_again(came.and(served).and(went), buffer) else {
+            return Onward::Done;
+        };
         if self.session.is_closed() && self.session.out().is_empty() {
             return Onward::Done;
         }
-        match came.and(served).and(went) {
+        match pace {
             Pace::Rests if !self.is_watched => Onward::GoesOn(Pace::Tries),
             pace => Onward::GoesOn(pace),
         }
+    }
+
+    /// How far a turn of this pace came. One that got on and left nothing to do or to send reads once
+    /// more, so that a wire with nothing says so before its worker waits; `None` where it is over. What
+    /// this read gives is served in the next turn.
+    fn look_again(&mut self, pace: Pace, buffer: &mut [u8]) -> Option<Pace> {
+        let is_through = self.rests && self.session.out().is_empty();
+        if pace != Pace::GetsOn || !is_through || !self.is_watched {
+            return Some(pace);
+        }
+        self.read(buffer)
     }
 
     /// Whether memory was refused to its requests for a whole second, so that its client would hang.

@@ -152,7 +152,7 @@ impl<W: Wire + Drop, N: Naming> Worker<W, N> {
     }
 
     /// Goes over the listed connections once, and drops those that are done. How long the inlet may then
-    /// wait: not at all where one got on, and a moment where one is to be tried again. Each command of a
+    /// wait: not at all where one gets on, and a moment where one is to be tried again. Each command of a
     /// connection is one call of the hall, and a connection has 16 at most.
     pub fn turn<R: Wait, C: Cache, G: Gate>(
         &mut self,

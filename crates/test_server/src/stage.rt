@@ -43,6 +43,8 @@ pub enum Scene {
     EightThreads,
     /// Two connections of one worker, one after the other.
     Talks(Plan, Plan),
+    /// One turn of a connection that has nothing more to say.
+    Rests,
     /// A client that never reads beside one that does.
     Floods,
     /// Bob is served while alice's worker is held.
@@ -114,6 +116,7 @@ fn perform<
         Scene::FourThreads => crowd::four_threads(rt, alloc, hall, seats, all),
         Scene::EightThreads => crowd::eight_threads(rt, alloc, hall, seats),
         Scene::Talks(one, other) => talks::talk(rt, alloc, &hall, users, &mut seats, one, other),
+        Scene::Rests => talks::rest(rt, alloc, &hall, users, &mut seats),
         Scene::Floods => pressure::serve_flood(rt, alloc, &hall, users, &mut seats),
         Scene::Holds(hold) => crews::hold_alice(rt, alloc, &hall, users, &mut seats, *hold),
         Scene::Counts => crews::count(rt, alloc, hall, users, seats, all),

@@ -98,6 +98,15 @@ pub fn asking(then: &'static [u8]) -> Plan {
     }
 }
 
+/// Asks for the key, and then has nothing to say.
+pub const RESTS: Plan = Plan {
+    sends: ASKS,
+    fill: 0,
+    cut: Cut::At(0),
+    ending: Ending::Rests,
+    expects: NOTHING,
+};
+
 /// Ends two bytes into a block of three.
 pub const ENDS_SHORT: Plan = Plan {
     sends: b"set a 0 0 9\r\nalice one\r\nset k 5 0 3\r\nab",

@@ -1,7 +1,7 @@
 //! Two connections of one worker, one after the other.
 
 use super::table::{
-    ENDS_SHORT, Failing, LONG_LINE, NOTHING, READS, ROWS, SILENT, WRITES, asking, first_over,
+    ENDS_SHORT, Failing, LONG_LINE, NOTHING, READS, RESTS, ROWS, SILENT, WRITES, asking, first_over,
 };
 use super::wires::{Cut, Ending, Memory, Plan, Seen};
 use crate::stage::{Scene, play};
@@ -16,7 +16,7 @@ use std::time::Clock as Time;
 use tc_locked::{Clock, Hall, Naming, Seat};
 use tc_plain::Cache;
 use tc_users::Users;
-use tc_workers::{Open, Wire, Worker};
+use tc_workers::{Open, Patience, Wire, Worker};
 
 /// So many turns are enough for each stream of the tables, a byte at a time.
 const TURNS: u64 = 256;
@@ -92,6 +92,35 @@ pub fn talk<C: Cache, N: Naming, R: Wait + Abort>(
     talk_once(rt, alloc, hall, users, &mut worker, other)
 }
 
+/// A connection's first turn: it is answered, it is looked at once more, and its worker may wait.
+fn rest_once<C: Cache, N: Naming, R: Wait + Abort>(
+    rt: &R,
+    alloc: Global,
+    hall: &Hall<C, N>,
+    users: &Users,
+    worker: &mut Worker<Memory, N>,
+) -> Result<(), Fail> {
+    let seen = Arc::new(alloc, Seen::new())?;
+    let wire = Memory::new(RESTS, Arc::try_clone(&seen)?);
+    assert!(rt; worker.add(1, wire).is_ok());
+    let patience = worker.turn(rt, hall, users, &Clock::new(), &Open);
+    assert!(rt; patience == Patience::Long && !worker.is_idle());
+    assert!(rt; seen.has_heard(&RESTS) && seen.reads.load(SeqCst) == 2);
+    Ok(())
+}
+
+/// One connection whose wire is watched.
+pub fn rest<C: Cache, N: Naming, R: Wait + Abort>(
+    rt: &R,
+    alloc: Global,
+    hall: &Hall<C, N>,
+    users: &Users,
+    seats: &mut Vec<Seat<N>>,
+) -> Result<(), Fail> {
+    let mut worker = worker_of(rt, alloc, seats);
+    rest_once(rt, alloc, hall, users, &mut worker)
+}
+
 /// Two connections on a hall of their own, over each kind of cache.
 fn expect<R: Threads + Wait + Abort + Time + RandomSource + Copy + Send + Sync + Drop>(
     rt: &R,
@@ -140,6 +169,11 @@ fn a_wire_that_ends_in_a_block_stores_nothing(rt: HostRuntime) -> Result<(), Fai
 #[test]
 fn a_wire_that_has_nothing_yet_is_kept_and_asked_each_turn(rt: HostRuntime) -> Result<(), Fail> {
     expect(&rt, rt.alloc(), asking(NOTHING), SILENT)
+}
+
+#[test]
+fn a_watched_wire_rests_in_the_turn_that_answers_it(rt: HostRuntime) -> Result<(), Fail> {
+    play(&rt, rt.alloc(), 1, 16, Scene::Rests)
 }
 
 #[test]

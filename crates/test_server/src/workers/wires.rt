@@ -22,6 +22,8 @@ pub enum Ending {
     Ends,
     /// It answers that nothing is there, for ever.
     Stays,
+    /// The same, and an inlet would name it once more were there.
+    Rests,
     /// Its read of this number fails, from 1.
     FailsAtRead(u64),
     FailsAtWrite(u64),
@@ -164,6 +166,6 @@ impl Wire for Memory {
     }
 
     fn set_key(&mut self, _key: usize) -> bool {
-        false
+        self.plan.ending == Ending::Rests
     }
 }
