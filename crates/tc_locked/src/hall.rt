@@ -10,6 +10,7 @@ use crate::closed::{Closed, Missing};
 use crate::closing::{Shut, compare, take_books, take_seats};
 use crate::kept::Kept;
 use crate::naming::{HallTable, Naming};
+use crate::old_opening::let_go;
 use crate::receipt::Receipt;
 use crate::seat::Seat;
 use std::alloc::Global;
@@ -97,7 +98,9 @@ impl<C: Cache, N: Naming> Hall<C, N> {
         )?;
         // It may be large, and others wait for the lock.
         drop(guard);
-        drop(old_opening);
+        if let Some(opening) = old_opening {
+            let_go(opening);
+        }
         Ok(Receipt {
             user,
             slip,

@@ -32,6 +32,7 @@ mod hall;
 mod kept;
 pub mod naming;
 mod noting;
+mod old_opening;
 mod opening;
 mod receipt;
 mod replay;
