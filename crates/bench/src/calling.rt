@@ -44,7 +44,8 @@ pub(crate) fn begin<C: Kind>(
     users: &Users,
     seed: RandomState,
 ) -> Result<(Opened, Vec<C>), NoMemory>
-    ensures caches { IfOk result (λ begun. map C.settled begun.1.items ≡ map fresh_cache users.now) }
+    ensures caches { IfOk result (λ begun. map C.settled begun.1.items
+        ≡ map fresh_cache users.now) }
 {
     let caches = begin_all::<C>(alloc, users, seed)?;
     Ok((Opened::new(alloc)?, caches))

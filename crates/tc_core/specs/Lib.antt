@@ -1,4 +1,4 @@
-pub mod Serving
+pub mod ServerMachine
 pub mod Steps
 pub mod Refused
 pub mod Sending

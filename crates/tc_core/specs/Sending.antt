@@ -8,12 +8,12 @@ use Rattle.tc_grammar.specs.declared.command.Command.{Command}
 use Rattle.tc_stats.specs.declared.outcome.Outcome.{Outcome}
 use Rattle.tc_users.specs.declared.users.UserSpec.{UserSpec}
 use Rattle.tc_plain.specs.Freshness.{hits_in, IsCell}
-use Rattle.tc_session.specs.Talking.{talking}
-use Rattle.tc_core.specs.Serving.{serving}
+use Rattle.tc_session.specs.TextProtocol.{text_protocol}
+use Rattle.tc_core.specs.ServerMachine.{server_machine}
 use Rattle.tc_core.specs.declared.outputs.Output.{Output}
 
 -- what one connection was sent, and whether it is closed
-abbrev pub output_of : ℕ × Connection serving → Output
+abbrev pub output_of : ℕ × Connection server_machine → Output
 output_of e = record { connection = e.0; closed = is_closed e.1.endpoint.phase; bytes = e.1.out }
 
 -- whether a connection is closed and what it was sent, if it was opened
@@ -23,30 +23,30 @@ sent_by (o ∷ os) c = cond (o.connection == c) (Some (o.closed, o.bytes)) (sent
 
 -- what connections were sent is what the machine sends them, by rising number
 pub record IsRun (users : List UserSpec) (steps : List Step) (outputs : List Output) : Type 0 where
-  pub sent : outputs ≡ map output_of (run serving users steps).world.connections
+  pub sent : outputs ≡ map output_of (run server_machine users steps).world.connections
   pub rising : IsRising (map (λ o. o.connection) outputs)
 
 -- each user's connections are sent what the machine of that user alone sends on those connections' steps and the clock's
 abbrev pub IsIsolatedRun : List UserSpec → List Step → List Output → Type 0
 IsIsolatedRun users steps outputs =
     (user : ℕ) (row : UserSpec) → user_at users user ≡ Some row
-    → (c : ℕ) → binds talking users steps user c ≡ true
-    → sent_by outputs c ≡ sent serving (solo serving row (kept_steps talking users steps user)) c
+    → (c : ℕ) → binds text_protocol users steps user c ≡ true
+    → sent_by outputs c ≡ sent server_machine (solo server_machine row (kept_steps text_protocol users steps user)) c
 
 -- a connection that is bound to nobody is sent what its own steps alone have it sent
 abbrev pub IsUntouchedRun : List UserSpec → List Step → List Output → Type 0
 IsUntouchedRun users steps outputs =
-    (c : ℕ) → ((user : ℕ) → binds talking users steps user c ≡ false)
-    → sent_by outputs c ≡ sent serving (run serving users (filter (is_of c) steps)) c
+    (c : ℕ) → ((user : ℕ) → binds text_protocol users steps user c ≡ false)
+    → sent_by outputs c ≡ sent server_machine (run server_machine users (filter (is_of c) steps)) c
 
 -- a user with the same row in another table, and the same steps there, is sent the same
 abbrev pub IsIndifferentRun : List UserSpec → List Step → List Output → Type 0
 IsIndifferentRun users steps outputs =
     (others : List UserSpec) (ys : List Step) (user other : ℕ) (row : UserSpec)
     → user_at users user ≡ Some row → user_at others other ≡ Some row
-    → kept_steps talking users steps user ≡ kept_steps talking others ys other
-    → (c : ℕ) → binds talking users steps user c ≡ true → binds talking others ys other c ≡ true
-    → sent_by outputs c ≡ sent serving (run serving others ys) c
+    → kept_steps text_protocol users steps user ≡ kept_steps text_protocol others ys other
+    → (c : ℕ) → binds text_protocol users steps user c ≡ true → binds text_protocol others ys other c ≡ true
+    → sent_by outputs c ≡ sent server_machine (run server_machine others ys) c
 
 -- each hit of these calls shows what the calls before it last left under its key
 abbrev pub IsFreshHistory : List (Event Command Outcome) → Type 0
@@ -56,8 +56,8 @@ IsFreshHistory calls =
 
 -- these connections were sent what a course sends, which is the replies to the calls of its history and what needs no call;
 -- and that history is fresh
-pub record IsFreshCourse (course : Course serving) (is_mine : ℕ → Bool) (outputs : List Output) : Type 0 where
-  pub shown : (c : ℕ) → is_mine c ≡ true → sent_by outputs c ≡ sent serving course c
+pub record IsFreshCourse (course : Course server_machine) (is_mine : ℕ → Bool) (outputs : List Output) : Type 0 where
+  pub shown : (c : ℕ) → is_mine c ≡ true → sent_by outputs c ≡ sent server_machine course c
   pub hits : IsFreshHistory course.history
 
 -- a user's connections were sent what a fresh course of that user's machine alone sends:
@@ -65,7 +65,8 @@ pub record IsFreshCourse (course : Course serving) (is_mine : ℕ → Bool) (out
 abbrev pub IsFreshRun : List UserSpec → List Step → List Output → Type 0
 IsFreshRun users steps outputs =
     (user : ℕ) (row : UserSpec) → user_at users user ≡ Some row
-    → IsFreshCourse (solo serving row (kept_steps talking users steps user)) (binds talking users steps user) outputs
+    → IsFreshCourse (solo server_machine row (kept_steps text_protocol users steps user))
+    (binds text_protocol users steps user) outputs
 
 -- all that is promised of what connections were sent
 pub record IsPromised (users : List UserSpec) (steps : List Step) (outputs : List Output) : Type 0 where

@@ -4,8 +4,8 @@ ghost use Rattle.tc_model.specs.Connection.{turn, user_at};
 ghost use Rattle.tc_model.specs.Server.{call_effect, turn_effect, effect, numbered, with_some};
 ghost use Rattle.tc_plain.specs.Doing.{act};
 ghost use Rattle.tc_session.specs.Replies.{render};
-ghost use Rattle.tc_session.specs.Talking.{talking};
-ghost use Rattle.tc_core.specs.Serving.{serving};
+ghost use Rattle.tc_session.specs.TextProtocol.{text_protocol};
+ghost use Rattle.tc_core.specs.ServerMachine.{server_machine};
 ghost use Rattle.tc_core.specs.Steps.{connection_of, numbered_of, happening_of};
 ghost use Rattle.tc_core.specs.Refused.{refusal_of, IsLeftOver, IsRefusedCall, IsRefusedAct, IsRefusedThere, IsRefusedOn};
 
@@ -27,11 +27,14 @@ fn cache_step<C: Cache>(
     command: &Command,
 ) -> Result<(), NoMemory>
     requires { 64 ≤ session.old.room }
-    ensures cache { OnOk result (C.settled cache.new ≡ (act (C.settled cache.old) clock command.now).1) }
+    ensures cache { OnOk result (C.settled cache.new
+        ≡ (act (C.settled cache.old) clock command.now).1) }
     ensures endpoint { session.new.endpoint ≡ session.old.endpoint }
-    ensures said { OnOk result (session.new.out ≡ session.old.out ++ render command.now (act (C.settled cache.old) clock command.now).0) }
+    ensures said { OnOk result (session.new.out
+        ≡ session.old.out ++ render command.now (act (C.settled cache.old) clock command.now).0) }
     ensures told { OnErr result (session.new.out ≡ session.old.out ++ refusal_of command.now) }
-    ensures left { OnErr result (IsLeftOver clock (C.settled cache.old) command.now (C.settled cache.new)) }
+    ensures left { OnErr result (IsLeftOver clock (C.settled cache.old) command.now
+        (C.settled cache.new)) }
 {
     match cache.act(alloc, clock, command) {
         Ok((outcome, _kept)) => session.answer(command, &outcome),
@@ -52,12 +55,19 @@ fn call_step<C: Cache>(
     command: &Command,
 ) -> Result<(), NoMemory>
     requires { 64 ≤ session.old.room }
-    ensures caches { OnOk result (map C.settled caches.new.items ≡ (call_effect serving clock (map C.settled caches.old.items) user command.now session.old.endpoint session.old.out (user_at (map C.settled caches.old.items) user)).caches) }
-    ensures connection { OnOk result (Some (connection_of session.new) ≡ (call_effect serving clock (map C.settled caches.old.items) user command.now session.old.endpoint session.old.out (user_at (map C.settled caches.old.items) user)).connection) }
+    ensures caches { OnOk result (map C.settled caches.new.items
+        ≡ (call_effect server_machine clock (map C.settled caches.old.items) user command.now
+        session.old.endpoint session.old.out
+        (user_at (map C.settled caches.old.items) user)).caches) }
+    ensures connection { OnOk result (Some (connection_of session.new)
+        ≡ (call_effect server_machine clock (map C.settled caches.old.items) user command.now
+        session.old.endpoint session.old.out
+        (user_at (map C.settled caches.old.items) user)).connection) }
     ensures endpoint { session.new.endpoint ≡ session.old.endpoint }
     ensures told { OnErr result (session.new.out ≡ session.old.out ++ refusal_of command.now) }
     ensures refused { OnErr result
-        (IsRefusedCall clock (map C.settled caches.old.items) user command.now (map C.settled caches.new.items)) }
+        (IsRefusedCall clock (map C.settled caches.old.items) user command.now
+        (map C.settled caches.new.items)) }
 {
     let number = user.number() as usize;
     if number == 0 || number > caches.len() {
@@ -75,9 +85,15 @@ fn act_step<C: Cache>(
     clock: Moment,
     session: &mut Session,
 ) -> Result<(), NoMemory>
-    ensures caches { OnOk result (map C.settled caches.new.items ≡ (turn_effect serving clock (map C.settled caches.old.items) session.old.out (turn talking users.now session.old.endpoint)).caches) }
-    ensures connection { OnOk result (Some (connection_of session.new) ≡ (turn_effect serving clock (map C.settled caches.old.items) session.old.out (turn talking users.now session.old.endpoint)).connection) }
-    ensures refused { OnErr result (IsRefusedAct clock (map C.settled caches.old.items) (connection_of session.old) (turn talking users.now session.old.endpoint) (map C.settled caches.new.items) (connection_of session.new)) }
+    ensures caches { OnOk result (map C.settled caches.new.items
+        ≡ (turn_effect server_machine clock (map C.settled caches.old.items) session.old.out
+        (turn text_protocol users.now session.old.endpoint)).caches) }
+    ensures connection { OnOk result (Some (connection_of session.new)
+        ≡ (turn_effect server_machine clock (map C.settled caches.old.items) session.old.out
+        (turn text_protocol users.now session.old.endpoint)).connection) }
+    ensures refused { OnErr result (IsRefusedAct clock (map C.settled caches.old.items)
+        (connection_of session.old) (turn text_protocol users.now session.old.endpoint)
+        (map C.settled caches.new.items) (connection_of session.new)) }
 {
     match session.next(alloc, users)? {
         Want::Nothing | Want::Said | Want::Close => Ok(()),
@@ -94,9 +110,15 @@ fn opened_step<C: Cache>(
     session: &mut Session,
     happening: Happening,
 ) -> Result<(), NoMemory>
-    ensures caches { OnOk result (map C.settled caches.new.items ≡ (effect serving users.now clock (map C.settled caches.old.items) (happening_of happening.entry) (Some (connection_of session.old))).caches) }
-    ensures connection { OnOk result (Some (connection_of session.new) ≡ (effect serving users.now clock (map C.settled caches.old.items) (happening_of happening.entry) (Some (connection_of session.old))).connection) }
-    ensures refused { OnErr result (IsRefusedThere (happening_of happening.entry) users.now clock (map C.settled caches.old.items) (connection_of session.old) (map C.settled caches.new.items) (connection_of session.new)) }
+    ensures caches { OnOk result (map C.settled caches.new.items
+        ≡ (effect server_machine users.now clock (map C.settled caches.old.items)
+        (happening_of happening.entry) (Some (connection_of session.old))).caches) }
+    ensures connection { OnOk result (Some (connection_of session.new)
+        ≡ (effect server_machine users.now clock (map C.settled caches.old.items)
+        (happening_of happening.entry) (Some (connection_of session.old))).connection) }
+    ensures refused { OnErr result (IsRefusedThere (happening_of happening.entry) users.now clock
+        (map C.settled caches.old.items) (connection_of session.old)
+        (map C.settled caches.new.items) (connection_of session.new)) }
 {
     match happening {
         Happening::Open => Ok(()),
@@ -119,9 +141,19 @@ pub(crate) fn numbered_step<C: Cache>(
     number: ConnectionNo,
     happening: Happening,
 ) -> Result<(), NoMemory>
-    ensures caches { OnOk result (map C.settled caches.new.items ≡ (effect serving users.now clock (map C.settled caches.old.items) (happening_of happening.entry) (numbered number (map numbered_of sessions.old.entries))).caches) }
-    ensures connections { OnOk result (map numbered_of sessions.new.entries ≡ with_some number (effect serving users.now clock (map C.settled caches.old.items) (happening_of happening.entry) (numbered number (map numbered_of sessions.old.entries))).connection (map numbered_of sessions.old.entries)) }
-    ensures refused { OnErr result (IsRefusedOn (happening_of happening.entry) users.now clock number (map C.settled caches.old.items) (map numbered_of sessions.old.entries) (map C.settled caches.new.items) (map numbered_of sessions.new.entries)) }
+    ensures caches { OnOk result (map C.settled caches.new.items
+        ≡ (effect server_machine users.now clock (map C.settled caches.old.items)
+        (happening_of happening.entry)
+        (numbered number (map numbered_of sessions.old.entries))).caches) }
+    ensures connections { OnOk result (map numbered_of sessions.new.entries
+        ≡ with_some number
+        (effect server_machine users.now clock (map C.settled caches.old.items)
+        (happening_of happening.entry)
+        (numbered number (map numbered_of sessions.old.entries))).connection
+        (map numbered_of sessions.old.entries)) }
+    ensures refused { OnErr result (IsRefusedOn (happening_of happening.entry) users.now clock
+        number (map C.settled caches.old.items) (map numbered_of sessions.old.entries)
+        (map C.settled caches.new.items) (map numbered_of sessions.new.entries)) }
 {
     match sessions.get_mut(&number) {
         Some(session) => opened_step(alloc, users, caches, clock, session, happening),

@@ -85,7 +85,8 @@ pub(crate) fn outputs_of(
     alloc: Global,
     sessions: &BTreeMap<u32, Session>,
 ) -> Result<Outputs, NoMemory>
-    ensures { IfOk result (λ outputs. outputs ≡ map output_of (map numbered_of sessions.now.entries)) }
+    ensures { IfOk result (λ outputs. outputs
+        ≡ map output_of (map numbered_of sessions.now.entries)) }
 {
     let mut outputs = Vec::with_capacity(alloc, sessions.len())?;
     for (number, session) in sessions {

@@ -30,9 +30,12 @@ pub fn run<C: Cache>(
 ) -> Result<Outputs, NoMemory>
     requires { map C.settled caches.items ≡ map fresh_cache users }
     ensures sent { IfOk result (λ outputs. IsRun users (map step_of steps.now) outputs) }
-    ensures isolated { IfOk result (λ outputs. IsIsolatedRun users (map step_of steps.now) outputs) }
-    ensures untouched { IfOk result (λ outputs. IsUntouchedRun users (map step_of steps.now) outputs) }
-    ensures indifferent { IfOk result (λ outputs. IsIndifferentRun users (map step_of steps.now) outputs) }
+    ensures isolated { IfOk result (λ outputs. IsIsolatedRun users
+        (map step_of steps.now) outputs) }
+    ensures untouched { IfOk result (λ outputs. IsUntouchedRun users
+        (map step_of steps.now) outputs) }
+    ensures indifferent { IfOk result (λ outputs. IsIndifferentRun users
+        (map step_of steps.now) outputs) }
     ensures fresh { IfOk result (λ outputs. IsFreshRun users (map step_of steps.now) outputs) }
 {
     advancing();

@@ -2,7 +2,7 @@
 ghost use Rattle.std.specs.Prelude.{◌≡◌, ℕ, List, [], map, OnOk, OnErr, IfOk};
 ghost use Rattle.tc_model.specs.Connection.{user_at};
 ghost use Rattle.tc_model.specs.Server.{step as machine_step, maintained, On};
-ghost use Rattle.tc_core.specs.Serving.{State, serving};
+ghost use Rattle.tc_core.specs.ServerMachine.{State, server_machine};
 ghost use Rattle.tc_core.specs.Steps.{step_of, numbered_of, happening_of};
 ghost use Rattle.tc_core.specs.Refused.{IsRefusedStep};
 ghost use Rattle.tc_core.specs.Sending.{output_of};
@@ -29,17 +29,26 @@ pub struct Server<C: Cache> {
 
 impl<C: Cache> Model for Server<C> {
     ghost use Rattle.std.specs.Prelude.{map};
-    ghost use Rattle.tc_core.specs.Serving.{State};
+    ghost use Rattle.tc_core.specs.ServerMachine.{State};
     ghost use Rattle.tc_core.specs.Steps.{numbered_of};
 
     ghost Value = { State };
 
-    ghost view = { λ s. record { users = s.users; world = record { clock = s.clock; caches = map C.settled s.caches.items; connections = map numbered_of s.sessions.entries } } };
+    ghost view = { λ s. record {
+      users = s.users;
+      world = record {
+        clock = s.clock;
+        caches = map C.settled s.caches.items;
+        connections = map numbered_of s.sessions.entries;
+      };
+    } };
 }
 
 /// Maintains a user's cache.
 fn maintain<C: Cache>(caches: &mut Vec<C>, clock: Moment, user: u32, limit: u32)
-    ensures { map C.settled caches.new.items ≡ maintained serving clock (map C.settled caches.old.items) user (user_at (map C.settled caches.old.items) user) }
+    ensures { map C.settled caches.new.items
+        ≡ maintained server_machine clock (map C.settled caches.old.items) user
+        (user_at (map C.settled caches.old.items) user) }
 {
     if user == 0 || user as usize > caches.len() {
         return;
@@ -52,7 +61,10 @@ impl<C: Cache> Server<C> {
     /// A server of these users, each with the cache at its place; no connection is open, and the
     /// clock is at 0.
     pub fn new(alloc: Global, users: Users, caches: Vec<C>) -> Server<C>
-        ensures { result ≡ record { users = users; world = record { clock = 0; caches = map C.settled caches.items; connections = [] } } }
+        ensures { result ≡ record {
+          users = users;
+          world = record { clock = 0; caches = map C.settled caches.items; connections = [] };
+        } }
     {
         Server {
             users,
@@ -69,7 +81,8 @@ impl<C: Cache> Server<C> {
     /// `stats` was refused, and the command is done.
     pub fn step(&mut self, alloc: Global, step: &Step) -> Result<(), NoMemory>
         ensures users { self.new.users ≡ self.old.users }
-        ensures world { OnOk result (self.new.world ≡ machine_step serving self.old.users self.old.world (step_of step.now)) }
+        ensures world { OnOk result (self.new.world
+            ≡ machine_step server_machine self.old.users self.old.world (step_of step.now)) }
         ensures refused { OnErr result (IsRefusedStep self.old self.new (step_of step.now)) }
     {
         match step {
@@ -93,8 +106,10 @@ impl<C: Cache> Server<C> {
         happening: Happening,
     ) -> Result<(), NoMemory>
         ensures users { self.new.users ≡ self.old.users }
-        ensures world { OnOk result (self.new.world ≡ machine_step serving self.old.users self.old.world (On number (happening_of happening.entry))) }
-        ensures refused { OnErr result (IsRefusedStep self.old self.new (On number (happening_of happening.entry))) }
+        ensures world { OnOk result (self.new.world ≡ machine_step server_machine self.old.users
+            self.old.world (On number (happening_of happening.entry))) }
+        ensures refused { OnErr result (IsRefusedStep self.old self.new
+            (On number (happening_of happening.entry))) }
     {
         numbered_step(
             alloc,

@@ -3,7 +3,8 @@ use Rattle.std.specs.Prelude.{◌&&◌, nat_lt, nat_le, ◌==◌, take_while, Ma
 use Rattle.std.specs.Char.{is_ascii_digit, digit_value}
 use Rattle.std.specs.List.{list_all}
 use Rattle.std.specs.Str.Parse.{AllDigits, digits_value}
-use Rattle.std.proofs.Common.{◌≡◌, ℕ, zero, suc, ◌^◌, ◌<◌, Bool, true, false, cond, List, [], ◌∷◌, ◌++◌, length, drop, replicate, Option, Some, None, refl, sym, ap, ◌∙◌, arith}
+use Rattle.std.proofs.Common.{◌≡◌, ℕ, zero, suc, ◌^◌, ◌<◌, Bool, true, false, cond, List, [], ◌∷◌, ◌++◌, length, drop, replicate}
+use Rattle.std.proofs.Common.{Option, Some, None, refl, sym, ap, ◌∙◌, arith}
 use Rattle.std.proofs.lemmas.Bool.Decides.{nat_tests}
 use Rattle.std.proofs.lemmas.Fmt.{decimal_is_IsNumeral, length-decimal-le}
 use Rattle.std.proofs.lemmas.List.Sums.{take_while-cons}
@@ -20,10 +21,12 @@ take_while-spaces zero = refl
 take_while-spaces (suc n) = take_while-cons is_ascii_digit 32 (replicate n 32)
 
 -- the digits of a spelling are those in front
-take_while-spelled : (digits : List ℕ) (spaces : ℕ) → AllDigits 10 digits → take_while is_ascii_digit (digits ++ replicate spaces 32) ≡ digits
+take_while-spelled : (digits : List ℕ) (spaces : ℕ) → AllDigits 10 digits
+    → take_while is_ascii_digit (digits ++ replicate spaces 32) ≡ digits
 take_while-spelled [] spaces h = take_while-spaces spaces
 take_while-spelled (c ∷ digits) spaces h =
-    take_while-cons is_ascii_digit c (digits ++ replicate spaces 32) ∙ rw (digit_is_digit c h.0, take_while-spelled digits spaces h.1) refl
+    take_while-cons is_ascii_digit c (digits ++ replicate spaces 32)
+    ∙ rw (digit_is_digit c h.0, take_while-spelled digits spaces h.1) refl
 
 drop-spelled : (digits rest : List ℕ) → drop (length digits) (digits ++ rest) ≡ rest
 drop-spelled [] rest = refl
@@ -41,7 +44,8 @@ spaces-list_all (c ∷ rest) h =
 
 AllDigits-take_while : (text : List ℕ) → AllDigits 10 (take_while is_ascii_digit text)
 AllDigits-take_while [] = tt
-AllDigits-take_while (c ∷ text) = rw take_while-cons (go (take_while is_ascii_digit text) (AllDigits-take_while text) (is_ascii_digit c) refl)
+AllDigits-take_while (c ∷ text) =
+    rw take_while-cons (go (take_while is_ascii_digit text) (AllDigits-take_while text) (is_ascii_digit c) refl)
   where
     go : (front : List ℕ) → AllDigits 10 front → (b : Bool) → is_ascii_digit c ≡ b → AllDigits 10 (cond b (c ∷ front) [])
     go front all true e = (is_digit-digit c e, all)
@@ -49,9 +53,11 @@ AllDigits-take_while (c ∷ text) = rw take_while-cons (go (take_while is_ascii_
 
 take_while-append : (text : List ℕ) → take_while is_ascii_digit text ++ drop (length (take_while is_ascii_digit text)) text ≡ text
 take_while-append [] = refl
-take_while-append (c ∷ text) = rw take_while-cons (go (take_while is_ascii_digit text) (take_while-append text) (is_ascii_digit c))
+take_while-append (c ∷ text) =
+    rw take_while-cons (go (take_while is_ascii_digit text) (take_while-append text) (is_ascii_digit c))
   where
-    go : (front : List ℕ) → front ++ drop (length front) text ≡ text → (b : Bool) → cond b (c ∷ front) [] ++ drop (length (cond b (c ∷ front) [])) (c ∷ text) ≡ c ∷ text
+    go : (front : List ℕ) → front ++ drop (length front) text ≡ text → (b : Bool)
+        → cond b (c ∷ front) [] ++ drop (length (cond b (c ∷ front) [])) (c ∷ text) ≡ c ∷ text
     go front e true = ap (λ (xs : List ℕ). c ∷ xs) e
     go front e false = refl
 
@@ -73,9 +79,11 @@ both : (a b : Bool) → (a && b) ≡ true → (a ≡ true) × (b ≡ true)
 both true b h = (refl, h)
 both false b h = absurd (grind arith)
 
-spelled : (text digits rest : List ℕ) → digits ++ rest ≡ text → AllDigits 10 digits → is_counter_text digits rest ≡ true → Spells text (digits_value 10 digits)
+spelled : (text digits rest : List ℕ) → digits ++ rest ≡ text → AllDigits 10 digits → is_counter_text digits rest ≡ true
+    → Spells text (digits_value 10 digits)
 spelled text digits rest e all h =
-    let p = both (nat_le 1 (length digits) && nat_le (length digits) 20 && nat_lt (digits_value 10 digits) (2 ^ 64)) (list_all (λ c. c == 32) rest) h in
+    let p = both (nat_le 1 (length digits) && nat_le (length digits) 20 && nat_lt (digits_value 10 digits) (2 ^ 64))
+    (list_all (λ c. c == 32) rest) h in
     let q = both (nat_le 1 (length digits) && nat_le (length digits) 20) (nat_lt (digits_value 10 digits) (2 ^ 64)) p.0 in
     let r = both (nat_le 1 (length digits)) (nat_le (length digits) 20) q.0 in
     record {
@@ -94,9 +102,12 @@ different n e = cc
 
 found : (text : List ℕ) (n : ℕ) → number_in text ≡ Some n → Spells text n
 unfolding number_in
-found text n e = by_test (is_counter_text (take_while is_ascii_digit text) (drop (length (take_while is_ascii_digit text)) text)) refl e
+found text n e =
+    by_test (is_counter_text (take_while is_ascii_digit text) (drop (length (take_while is_ascii_digit text)) text)) refl e
   where
-    by_test : (b : Bool) → is_counter_text (take_while is_ascii_digit text) (drop (length (take_while is_ascii_digit text)) text) ≡ b → cond b (Some (digits_value 10 (take_while is_ascii_digit text))) None ≡ Some n → Spells text n
+    by_test : (b : Bool)
+        → is_counter_text (take_while is_ascii_digit text) (drop (length (take_while is_ascii_digit text)) text) ≡ b
+        → cond b (Some (digits_value 10 (take_while is_ascii_digit text))) None ≡ Some n → Spells text n
     by_test true t f =
         let v : digits_value 10 (take_while is_ascii_digit text) ≡ n = cc in
         rw v at (spelled text _ _ (take_while-append text) (AllDigits-take_while text) t)

@@ -1,5 +1,6 @@
 -- Numbers in data, as incr and decr of memcached read and write them (doc/protocol.txt).
-use Rattle.std.specs.Prelude.{◌≡◌, ℕ, ◌+◌, ◌-◌, ◌%◌, ◌^◌, ◌<◌, ◌≤◌, Bool, ◌&&◌, ◌==◌, nat_lt, nat_le, if◌then◌else◌, List, ◌++◌, length, drop, take_while, replicate, Option, Some, None, decimal}
+use Rattle.std.specs.Prelude.{◌≡◌, ℕ, ◌+◌, ◌-◌, ◌%◌, ◌^◌, ◌<◌, ◌≤◌, Bool, ◌&&◌, ◌==◌, nat_lt, nat_le, if◌then◌else◌, List, ◌++◌}
+use Rattle.std.specs.Prelude.{length, drop, take_while, replicate, Option, Some, None, decimal}
 use Rattle.std.specs.Char.{is_ascii_digit}
 use Rattle.std.specs.List.{list_all}
 use Rattle.std.specs.Str.Parse.{AllDigits, digits_value}
@@ -18,7 +19,8 @@ pub record Spells (text : List ℕ) (number : ℕ) : Type 0 where
 -- are these 1 to 20 digits of a value below 2^64, with only spaces after them
 abbrev pub is_counter_text : List ℕ → List ℕ → Bool
 is_counter_text digits rest =
-    nat_le 1 (length digits) && nat_le (length digits) 20 && nat_lt (digits_value 10 digits) (2 ^ 64) && list_all (λ c. c == 32) rest
+    nat_le 1 (length digits) && nat_le (length digits) 20 && nat_lt (digits_value 10 digits) (2 ^ 64)
+    && list_all (λ c. c == 32) rest
 
 -- the number that a text spells, or none where it is no counter text
 unfoldable pub number_in : List ℕ → Option ℕ

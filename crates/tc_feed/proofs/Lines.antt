@@ -1,6 +1,8 @@
 -- Where a line ends, what a request takes, and what a longer stream begins with.
 use Rattle.std.specs.Prelude.{◌==◌, option_map, nat_lt, min, IfSome}
-use Rattle.std.proofs.Common.{◌≡◌, ◌≢◌, ℕ, zero, suc, ◌+◌, ◌-◌, ◌<◌, ◌≤◌, Bool, true, false, cond, List, [], ◌∷◌, ◌++◌, length, get_or, take, drop, Option, Some, None, refl, sym, ◌∙◌, ap, subst, inl, inr, arith, append_assoc, length-append, length-take, length-drop}
+use Rattle.std.proofs.Common.{◌≡◌, ◌≢◌, ℕ, zero, suc, ◌+◌, ◌-◌, ◌<◌, ◌≤◌, Bool, true, false, cond, List, [], ◌∷◌, ◌++◌, length}
+use Rattle.std.proofs.Common.{get_or, take, drop, Option, Some, None, refl, sym, ◌∙◌, ap, subst, inl, inr, arith, append_assoc}
+use Rattle.std.proofs.Common.{length-append, length-take, length-drop}
 use Rattle.std.proofs.lemmas.Bool.Decides.{nat_tests}
 use Rattle.std.proofs.Math.Nat.{zero-sub, sub-zero, zero-min, min-zero, suc-min-suc}
 use Rattle.std.proofs.lemmas.Bool.{ltb-true, ltb-false, le-ltb, lt-ltb, eqb-true}
@@ -26,21 +28,24 @@ no_line true o e = grind arith
 no_line false None e = (refl, refl)
 no_line false (Some n) e = grind arith
 
-pub line_found : (xs : List ℕ) (i : ℕ) → i < length xs → line_length (take i xs) ≡ None → get_or xs i 0 ≡ 10 → line_length xs ≡ Some i
+pub line_found : (xs : List ℕ) (i : ℕ) → i < length xs → line_length (take i xs) ≡ None → get_or xs i 0 ≡ 10
+    → line_length xs ≡ Some i
 line_found [] i lt none at = absurd (omega arith)
 line_found (x ∷ xs) zero lt none at = grind (arith, nat_tests)
 line_found (x ∷ xs) (suc i) lt none at =
     let h : ((x == 10) ≡ false) × (line_length (take i xs) ≡ None) = no_line _ _ none in
     rw (h.0, line_found xs i (omega arith) h.1 at)
 
-pub line_more : (xs : List ℕ) (i : ℕ) → i < length xs → line_length (take i xs) ≡ None → get_or xs i 0 ≢ 10 → line_length (take (suc i) xs) ≡ None
+pub line_more : (xs : List ℕ) (i : ℕ) → i < length xs → line_length (take i xs) ≡ None → get_or xs i 0 ≢ 10
+    → line_length (take (suc i) xs) ≡ None
 line_more [] i lt none at = refl
 line_more (x ∷ xs) zero lt none at = grind (arith, nat_tests)
 line_more (x ∷ xs) (suc i) lt none at =
     let h : ((x == 10) ≡ false) × (line_length (take i xs) ≡ None) = no_line _ _ none in
     rw (h.0, line_more xs i (omega arith) h.1 at)
 
-some_line : (b : Bool) (o : Option ℕ) (n m : ℕ) → ((k : ℕ) → o ≡ Some k → k < m) → cond b (Some 0) (option_map suc o) ≡ Some n → n < suc m
+some_line : (b : Bool) (o : Option ℕ) (n m : ℕ) → ((k : ℕ) → o ≡ Some k → k < m) → cond b (Some 0) (option_map suc o) ≡ Some n
+    → n < suc m
 some_line true o n m h e = let q : 0 ≡ n = (grind arith) in omega arith
 some_line false None n m h e = absurd (grind arith)
 some_line false (Some k) n m h e = let q : suc k ≡ n = (grind arith) in let lt : k < m = h k refl in omega arith
@@ -52,14 +57,17 @@ line_within (x ∷ xs) n e = some_line (x == 10) (line_length xs) n (length xs) 
 
 -- and is so among the first bytes
 pub line_front : (m : ℕ) (xs : List ℕ) (n : ℕ) → line_length (take m xs) ≡ Some n → (n < m) × (n < length xs)
-line_front m xs n e = let h : n < length (take m xs) = line_within (take m xs) n e in let k : length (take m xs) ≡ min m (length xs) = length-take m xs in (omega arith, omega arith)
+line_front m xs n e =
+    let h : n < length (take m xs) = line_within (take m xs) n e in
+    let k : length (take m xs) ≡ min m (length xs) = length-take m xs in (omega arith, omega arith)
 
 -- the line that ends in some bytes ends there in them and more
 pub line_append : (xs ys : List ℕ) (n : ℕ) → line_length xs ≡ Some n → line_length (xs ++ ys) ≡ Some n
 line_append [] ys n e = absurd (grind arith)
 line_append (x ∷ xs) ys n e = go (x == 10) (line_length xs) (λ k h. line_append xs ys k h) e
   where
-    go : (b : Bool) (o : Option ℕ) → ((k : ℕ) → o ≡ Some k → line_length (xs ++ ys) ≡ Some k) → cond b (Some 0) (option_map suc o) ≡ Some n → cond b (Some 0) (option_map suc (line_length (xs ++ ys))) ≡ Some n
+    go : (b : Bool) (o : Option ℕ) → ((k : ℕ) → o ≡ Some k → line_length (xs ++ ys) ≡ Some k)
+        → cond b (Some 0) (option_map suc o) ≡ Some n → cond b (Some 0) (option_map suc (line_length (xs ++ ys))) ≡ Some n
     go true o h e = e
     go false None h e = absurd (grind arith)
     go false (Some k) h e = rw (h k refl) e
@@ -75,24 +83,35 @@ whole_block : Head → ℕ → ℕ → List ℕ → Option Taken
 whole_block head line n bytes = Some (record { request = block_request head n bytes; length = line + (n + 2); skip = 0 })
 
 -- a block is within its bytes
-block_within : (head : Head) (line n : ℕ) (bytes : List ℕ) (t : Taken) → block_of head line n bytes ≡ Some t → t.length ≤ line + length bytes
+block_within : (head : Head) (line n : ℕ) (bytes : List ℕ) (t : Taken) → block_of head line n bytes ≡ Some t
+    → t.length ≤ line + length bytes
 unfolding whole_block
 block_within head line n bytes t e = go (nat_lt (length bytes) (n + 2)) refl e
   where
-    go : (b : Bool) → nat_lt (length bytes) (n + 2) ≡ b → cond b None (whole_block head line n bytes) ≡ Some t → t.length ≤ line + length bytes
+    go : (b : Bool) → nat_lt (length bytes) (n + 2) ≡ b → cond b None (whole_block head line n bytes) ≡ Some t
+        → t.length ≤ line + length bytes
     go true h f = absurd (none_some t f)
-    go false h f = let q : line + (n + 2) ≡ t.length = ap (λ r. r.length) (same_some _ t f) in let w : n + 2 ≤ length bytes = ltb-false _ _ h in omega arith
+    go false h f =
+        let q : line + (n + 2) ≡ t.length = ap (λ r. r.length) (same_some _ t f) in
+        let w : n + 2 ≤ length bytes = ltb-false _ _ h in omega arith
 
-line_within_bytes : (line : ℕ) (bytes : List ℕ) (said : Line) (t : Taken) → line_request line bytes said ≡ Some t → t.length ≤ line + length bytes
+line_within_bytes : (line : ℕ) (bytes : List ℕ) (said : Line) (t : Taken) → line_request line bytes said ≡ Some t
+    → t.length ≤ line + length bytes
 line_within_bytes line bytes (Ready command) t e = let q : line ≡ t.length = ap (λ r. r.length) (same_some _ t e) in omega arith
-line_within_bytes line bytes (RefusedLine fault quiet skip) t e = let q : line ≡ t.length = ap (λ r. r.length) (same_some _ t e) in omega arith
+line_within_bytes line bytes (RefusedLine fault quiet skip) t e =
+    let q : line ≡ t.length = ap (λ r. r.length) (same_some _ t e) in omega arith
 line_within_bytes line bytes (NeedsBlock head n) t e = block_within head line n bytes t e
 
-first_by_within : (limit : ℕ) (u : List ℕ) (end : Option ℕ) (t : Taken) → line_length (take line_room u) ≡ end → first_by limit u end ≡ Some t → t.length ≤ length u
+first_by_within : (limit : ℕ) (u : List ℕ) (end : Option ℕ) (t : Taken) → line_length (take line_room u) ≡ end
+    → first_by limit u end ≡ Some t → t.length ≤ length u
 first_by_within limit u None t h e = go (nat_lt 65536 (length u)) refl e
   where
-    go : (b : Bool) → nat_lt 65536 (length u) ≡ b → cond b (Some (record { request = Refused LineTooLong false; length = 65537; skip = 0 })) None ≡ Some t → t.length ≤ length u
-    go true k f = let q : 65537 ≡ t.length = ap (λ r. r.length) (same_some _ t f) in let lt : 65536 < length u = ltb-true _ _ k in omega arith
+    go : (b : Bool) → nat_lt 65536 (length u) ≡ b
+        → cond b (Some (record { request = Refused LineTooLong false; length = 65537; skip = 0 })) None ≡ Some t
+        → t.length ≤ length u
+    go true k f =
+        let q : 65537 ≡ t.length = ap (λ r. r.length) (same_some _ t f) in
+        let lt : 65536 < length u = ltb-true _ _ k in omega arith
     go false k f = absurd (none_some t f)
 first_by_within limit u (Some n) t h e =
     let in_front : n < length u = (line_front line_room u n h).1 in
@@ -111,12 +130,15 @@ drop_two zero a b = rw zero-sub refl
 drop_two (suc n) [] b = rw sub-zero refl
 drop_two (suc n) (x ∷ a) b = let e : suc n - suc (length a) ≡ n - length a = omega arith in rw e (drop_two n a b)
 
-same_reader : (u v : List ℕ) (m n : ℕ) → u ≡ v → m ≡ n → ◌≡◌ {A = Reader} (record { unread = u; owed = m }) (record { unread = v; owed = n })
+same_reader : (u v : List ℕ) (m n : ℕ) → u ≡ v → m ≡ n
+    → ◌≡◌ {A = Reader} (record { unread = u; owed = m }) (record { unread = v; owed = n })
 same_reader u v m n e f = cc
 
 pub cut_anywhere : IsCutAnywhere
 cut_anywhere r a b =
-    same_reader _ _ _ _ (append_assoc r.unread (drop r.owed a) (drop (r.owed - length a) b) ∙ ap (λ xs. r.unread ++ xs) (drop_two r.owed a b)) (omega (arith, length-append a b))
+    same_reader _ _ _ _
+    (append_assoc r.unread (drop r.owed a) (drop (r.owed - length a) b) ∙ ap (λ xs. r.unread ++ xs) (drop_two r.owed a b))
+    (omega (arith, length-append a b))
 
 -- the first m bytes of more are the first of them, where there are as many, and else some of them
 pub take_front : (m : ℕ) (u v : List ℕ) → (ws : List ℕ) × (take m (u ++ v) ≡ take m u ++ ws)
@@ -129,31 +151,39 @@ get_append [] v i lt = absurd (omega arith)
 get_append (x ∷ u) v zero lt = refl
 get_append (x ∷ u) v (suc i) lt = get_append u v i (omega arith)
 
-block_more : (head : Head) (line n : ℕ) (u v : List ℕ) (t : Taken) → block_of head line n u ≡ Some t → block_of head line n (u ++ v) ≡ Some t
+block_more : (head : Head) (line n : ℕ) (u v : List ℕ) (t : Taken) → block_of head line n u ≡ Some t
+    → block_of head line n (u ++ v) ≡ Some t
 unfolding whole_block
 block_more head line n u v t e = go (nat_lt (length u) (n + 2)) refl e
   where
-    go : (b : Bool) → nat_lt (length u) (n + 2) ≡ b → cond b None (whole_block head line n u) ≡ Some t → block_of head line n (u ++ v) ≡ Some t
+    go : (b : Bool) → nat_lt (length u) (n + 2) ≡ b → cond b None (whole_block head line n u) ≡ Some t
+        → block_of head line n (u ++ v) ≡ Some t
     go true h f = absurd (none_some t f)
     go false h f =
         let w : n + 2 ≤ length u = ltb-false _ _ h in
         let long : nat_lt (length (u ++ v)) (n + 2) ≡ false = le-ltb _ _ (omega (arith, length-append u v)) in
         rw (long, take-append-le n u v (omega arith), get_append u v n (omega arith), get_append u v (n + 1) (omega arith)) f
 
-line_request_more : (line : ℕ) (u v : List ℕ) (said : Line) (t : Taken) → line_request line u said ≡ Some t → line_request line (u ++ v) said ≡ Some t
+line_request_more : (line : ℕ) (u v : List ℕ) (said : Line) (t : Taken) → line_request line u said ≡ Some t
+    → line_request line (u ++ v) said ≡ Some t
 line_request_more line u v (Ready command) t e = e
 line_request_more line u v (RefusedLine fault quiet skip) t e = e
 line_request_more line u v (NeedsBlock head n) t e = block_more head line n u v t e
 
-first_more : (limit : ℕ) (u v : List ℕ) (end : Option ℕ) (t : Taken) → line_length (take line_room u) ≡ end → first_by limit u end ≡ Some t → first limit (u ++ v) ≡ Some t
+first_more : (limit : ℕ) (u v : List ℕ) (end : Option ℕ) (t : Taken) → line_length (take line_room u) ≡ end
+    → first_by limit u end ≡ Some t → first limit (u ++ v) ≡ Some t
 first_more limit u v (Some n) t h e =
     let ws = take_front line_room u v in
     let lt : n < length u = (line_front line_room u n h).1 in
-    let in_more : line_length (take line_room (u ++ v)) ≡ Some n = ap line_length ws.1 ∙ line_append (take line_room u) ws.0 n h in
-    rw (in_more, drop-append-le (n + 1) u v (omega arith), take-append-le n u v (omega arith)) (line_request_more (n + 1) (drop (n + 1) u) v _ t e)
+    let in_more : line_length (take line_room (u ++ v)) ≡ Some n =
+    ap line_length ws.1 ∙ line_append (take line_room u) ws.0 n h in
+    rw (in_more, drop-append-le (n + 1) u v (omega arith), take-append-le n u v (omega arith))
+    (line_request_more (n + 1) (drop (n + 1) u) v _ t e)
 first_more limit u v None t h e = go (nat_lt 65536 (length u)) refl e
   where
-    go : (b : Bool) → nat_lt 65536 (length u) ≡ b → cond b (Some (record { request = Refused LineTooLong false; length = 65537; skip = 0 })) None ≡ Some t → first limit (u ++ v) ≡ Some t
+    go : (b : Bool) → nat_lt 65536 (length u) ≡ b
+        → cond b (Some (record { request = Refused LineTooLong false; length = 65537; skip = 0 })) None ≡ Some t
+        → first limit (u ++ v) ≡ Some t
     go false k f = absurd (none_some t f)
     go true k f =
         let lt : 65536 < length u = ltb-true _ _ k in
@@ -177,7 +207,8 @@ pub line_before : (xs : List ℕ) (n : ℕ) → line_length xs ≡ Some n → li
 line_before [] n e = absurd (grind arith)
 line_before (x ∷ xs) n e = go (x == 10) refl (line_length xs) n (λ k h. line_before xs k h) e
   where
-    go : (b : Bool) → (x == 10) ≡ b → (o : Option ℕ) (n : ℕ) → ((k : ℕ) → o ≡ Some k → line_length (take k xs) ≡ None) → cond b (Some 0) (option_map suc o) ≡ Some n → line_length (take n (x ∷ xs)) ≡ None
+    go : (b : Bool) → (x == 10) ≡ b → (o : Option ℕ) (n : ℕ) → ((k : ℕ) → o ≡ Some k → line_length (take k xs) ≡ None)
+        → cond b (Some 0) (option_map suc o) ≡ Some n → line_length (take n (x ∷ xs)) ≡ None
     go true f o zero h e = refl
     go true f o (suc n) h e = absurd (grind arith)
     go false f None n h e = absurd (grind arith)
@@ -185,28 +216,35 @@ line_before (x ∷ xs) n e = go (x == 10) refl (line_length xs) n (λ k h. line_
     go false f (Some k) (suc n) h e = let same : k ≡ n = grind arith in rw (f, h n (ap Some same)) refl
 
 -- a request of which nothing was found needs more bytes than there are
-pub needed_more : (line : ℕ) (bytes : List ℕ) (said : Line) → line_request line bytes said ≡ None → line + length bytes < needed_of line said
+pub needed_more : (line : ℕ) (bytes : List ℕ) (said : Line) → line_request line bytes said ≡ None
+    → line + length bytes < needed_of line said
 unfolding whole_block
 needed_more line bytes (Ready command) e = absurd (grind arith)
 needed_more line bytes (RefusedLine fault quiet skip) e = absurd (grind arith)
 needed_more line bytes (NeedsBlock head n) e = go (nat_lt (length bytes) (n + 2)) refl e
   where
-    go : (b : Bool) → nat_lt (length bytes) (n + 2) ≡ b → cond b None (whole_block head line n bytes) ≡ None → line + length bytes < line + (n + 2)
+    go : (b : Bool) → nat_lt (length bytes) (n + 2) ≡ b → cond b None (whole_block head line n bytes) ≡ None
+        → line + length bytes < line + (n + 2)
     go true h f = let lt = ltb-true (length bytes) (n + 2) h in omega (arith, lt)
     go false h f = absurd (grind arith)
 
-lacking_line : (line : ℕ) (bytes : List ℕ) (said : Line) → line + length bytes < needed_of line said → line_request line bytes said ≡ None
+lacking_line : (line : ℕ) (bytes : List ℕ) (said : Line) → line + length bytes < needed_of line said
+    → line_request line bytes said ≡ None
 lacking_line line bytes (Ready command) h = absurd (omega arith)
 lacking_line line bytes (RefusedLine fault quiet skip) h = absurd (omega arith)
-lacking_line line bytes (NeedsBlock head n) h = let lt : nat_lt (length bytes) (n + 2) ≡ true = lt-ltb _ _ (omega arith) in rw lt refl
+lacking_line line bytes (NeedsBlock head n) h =
+    let lt : nat_lt (length bytes) (n + 2) ≡ true = lt-ltb _ _ (omega arith) in rw lt refl
 
 -- with fewer bytes than the line's request needs there is none, whatever comes
-pub lacking_more : (limit : ℕ) (u v : List ℕ) (n : ℕ) → line_length (take line_room u) ≡ Some n → length (u ++ v) < needed_of (n + 1) (reading limit (trimmed (take n u))) → first limit (u ++ v) ≡ None
+pub lacking_more : (limit : ℕ) (u v : List ℕ) (n : ℕ) → line_length (take line_room u) ≡ Some n
+    → length (u ++ v) < needed_of (n + 1) (reading limit (trimmed (take n u))) → first limit (u ++ v) ≡ None
 lacking_more limit u v n h lt =
     let ws = take_front line_room u v in
     let here : n < length u = (line_front line_room u n h).1 in
-    let in_more : line_length (take line_room (u ++ v)) ≡ Some n = ap line_length ws.1 ∙ line_append (take line_room u) ws.0 n h in
-    rw (in_more, take-append-le n u v (omega arith)) (lacking_line (n + 1) (drop (n + 1) (u ++ v)) _ (omega (arith, lt, length-drop (n + 1) (u ++ v), length-append u v)))
+    let in_more : line_length (take line_room (u ++ v)) ≡ Some n =
+    ap line_length ws.1 ∙ line_append (take line_room u) ws.0 n h in
+    rw (in_more, take-append-le n u v (omega arith))
+    (lacking_line (n + 1) (drop (n + 1) (u ++ v)) _ (omega (arith, lt, length-drop (n + 1) (u ++ v), length-append u v)))
 
 -- where a line ends among its first bytes
 pub end_short : (u : List ℕ) (n : ℕ) → line_length (take line_room u) ≡ Some n → n ≤ 65536
@@ -218,16 +256,20 @@ end_within u seen None e = tt
 end_within u seen (Some n) e = (line_front seen u n e).1
 
 -- and one of the first 65,537
-pub end_below : (u : List ℕ) (seen : ℕ) (o : Option ℕ) → line_length (take seen u) ≡ o → seen ≡ min (length u) 65537 → IfSome o (λ n. n ≤ 65536)
+pub end_below : (u : List ℕ) (seen : ℕ) (o : Option ℕ) → line_length (take seen u) ≡ o → seen ≡ min (length u) 65537
+    → IfSome o (λ n. n ≤ 65536)
 end_below u seen None e h = tt
 end_below u seen (Some n) e h = let lt = (line_front seen u n e).0 in omega (arith, lt)
 
 -- bytes that were looked through in vain
-pub scanned_none : (u : List ℕ) (seen : ℕ) → seen ≡ min (length u) 65537 → line_length (take line_room u) ≡ None → IsScanned 0 seen 0 u
+pub scanned_none : (u : List ℕ) (seen : ℕ) → seen ≡ min (length u) 65537 → line_length (take line_room u) ≡ None
+    → IsScanned 0 seen 0 u
 scanned_none u seen h none = record {
   within = omega arith;
   short = omega arith;
-  none = ap (λ n. line_length (take n u)) (h ∙ ap (λ n. min (length u) n) (sym line_room-is)) ∙ (ap line_length (take_seen line_room u) ∙ none);
+  none =
+      ap (λ n. line_length (take n u)) (h ∙ ap (λ n. min (length u) n) (sym line_room-is))
+      ∙ (ap line_length (take_seen line_room u) ∙ none);
   nothing = λ owed. absurd (omega arith);
 }
 
@@ -245,7 +287,8 @@ scanned_line u n e =
     }
 
 -- what a line's request needs is awaited
-pub awaited_line : (limit : ℕ) (u : List ℕ) (n needed : ℕ) → line_length (take line_room u) ≡ Some n → needed ≡ needed_of (n + 1) (reading limit (trimmed (take n u))) → needed ≤ limit + 65539 → IsAwaited limit needed u
+pub awaited_line : (limit : ℕ) (u : List ℕ) (n needed : ℕ) → line_length (take line_room u) ≡ Some n
+    → needed ≡ needed_of (n + 1) (reading limit (trimmed (take n u))) → needed ≤ limit + 65539 → IsAwaited limit needed u
 awaited_line limit u n needed e same bounded = record {
   lacking = λ later lt. lacking_more limit u later n e (omega (arith, same));
   bounded = bounded;
@@ -253,10 +296,12 @@ awaited_line limit u n needed e same bounded = record {
 
 -- with fewer bytes than are needed there is no whole request
 pub lacking_now : (limit needed : ℕ) (u : List ℕ) → IsAwaited limit needed u → length u < needed → first limit u ≡ None
-lacking_now limit needed u h lt = subst (λ v. first limit v ≡ None) (append-nil u) (h.lacking [] (omega (arith, length-append u [])))
+lacking_now limit needed u h lt =
+    subst (λ v. first limit v ≡ None) (append-nil u) (h.lacking [] (omega (arith, length-append u [])))
 
 -- bytes without a line feed, fewer than a longest line has, need one more
-pub awaited_none : (limit : ℕ) (u : List ℕ) → line_length (take line_room u) ≡ None → length u ≤ 65536 → IsAwaited limit (length u + 1) u
+pub awaited_none : (limit : ℕ) (u : List ℕ) → line_length (take line_room u) ≡ None → length u ≤ 65536
+    → IsAwaited limit (length u + 1) u
 awaited_none limit u none short = record {
   lacking = λ later lt. go later lt;
   bounded = omega arith;
@@ -274,7 +319,8 @@ at_line : (xs : List ℕ) (n : ℕ) → line_length xs ≡ Some n → get_or xs 
 at_line [] n e = absurd (grind arith)
 at_line (x ∷ xs) n e = go (x == 10) refl (line_length xs) n (λ k h. at_line xs k h) e
   where
-    go : (b : Bool) → (x == 10) ≡ b → (o : Option ℕ) (n : ℕ) → ((k : ℕ) → o ≡ Some k → get_or xs k 0 ≡ 10) → cond b (Some 0) (option_map suc o) ≡ Some n → get_or (x ∷ xs) n 0 ≡ 10
+    go : (b : Bool) → (x == 10) ≡ b → (o : Option ℕ) (n : ℕ) → ((k : ℕ) → o ≡ Some k → get_or xs k 0 ≡ 10)
+        → cond b (Some 0) (option_map suc o) ≡ Some n → get_or (x ∷ xs) n 0 ≡ 10
     go true f o zero h e = eqb-true x 10 f
     go true f o (suc n) h e = absurd (grind arith)
     go false f None n h e = absurd (grind arith)
@@ -288,7 +334,8 @@ get_take (suc m) (x ∷ xs) zero lt = refl
 get_take (suc m) (x ∷ xs) (suc n) lt = get_take m xs n (omega arith)
 
 -- a line whose request is not whole is remembered by its end
-pub remembered_line : (u : List ℕ) (n needed : ℕ) (said : Line) → line_length (take line_room u) ≡ Some n → needed ≡ needed_of (n + 1) said → line_request (n + 1) (drop (n + 1) u) said ≡ None → IsRemembered needed n u
+pub remembered_line : (u : List ℕ) (n needed : ℕ) (said : Line) → line_length (take line_room u) ≡ Some n
+    → needed ≡ needed_of (n + 1) said → line_request (n + 1) (drop (n + 1) u) said ≡ None → IsRemembered needed n u
 remembered_line u n needed said e same none =
     let lt = line_front line_room u n e in
     let more = needed_more (n + 1) (drop (n + 1) u) said none in
@@ -298,4 +345,5 @@ remembered_line u n needed said e same none =
 pub remembered_more : (needed scanned : ℕ) (u v : List ℕ) → IsRemembered needed scanned u → IsRemembered needed scanned (u ++ v)
 remembered_more needed scanned u v (inl h) = inl h
 remembered_more needed scanned u v (inr (inl h)) = inr (inl h)
-remembered_more needed scanned u v (inr (inr h)) = inr (inr (h.0, omega (arith, h.1, length-append u v), get_append u v scanned h.1 ∙ h.2))
+remembered_more needed scanned u v (inr (inr h)) =
+    inr (inr (h.0, omega (arith, h.1, length-append u v), get_append u v scanned h.1 ∙ h.2))

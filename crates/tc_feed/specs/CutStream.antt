@@ -5,7 +5,8 @@ use Rattle.tc_feed.specs.Stream.{Reader, more, first}
 
 -- what is found in some bytes is found in them whatever comes after
 abbrev pub IsFoundInMore : Type 0
-IsFoundInMore = (limit : ℕ) (unread later : List ℕ) (t : Taken) → first limit unread ≡ Some t → first limit (unread ++ later) ≡ Some t
+IsFoundInMore =
+    (limit : ℕ) (unread later : List ℕ) (t : Taken) → first limit unread ≡ Some t → first limit (unread ++ later) ≡ Some t
 
 -- two pieces are as good as one
 abbrev pub IsCutAnywhere : Type 0

@@ -1,5 +1,7 @@
--- A stream of requests. Source: memcached's doc/protocol.txt (lines, and blocks that their length alone ends); what is skipped is this project's own.
-use Rattle.std.specs.Prelude.{ℕ, suc, ◌+◌, ◌-◌, false, cond, nat_lt, ◌&&◌, Bool, slice_index, List, [], ◌∷◌, ◌++◌, length, take, drop, Option, Some, None, ◌==◌, option_map}
+-- A stream of requests. Source: memcached's doc/protocol.txt (lines, and blocks that
+-- their length alone ends); what is skipped is this project's own.
+use Rattle.std.specs.Prelude.{ℕ, suc, ◌+◌, ◌-◌, false, cond, nat_lt, ◌&&◌, Bool, slice_index, List, [], ◌∷◌, ◌++◌, length, take}
+use Rattle.std.specs.Prelude.{drop, Option, Some, None, ◌==◌, option_map}
 use Rattle.tc_grammar.specs.declared.command.Head.{Head}
 use Rattle.tc_grammar.specs.declared.command.Command.TheVariants.{Store}
 use Rattle.tc_grammar.specs.declared.fault.Fault.TheVariants.{BadChunk, LineTooLong}
@@ -46,17 +48,21 @@ block_request head n bytes = cond (ends_line n bytes) (Ask (Store head (take n b
 
 -- the block among the bytes after its line, which is `line` bytes long with its end; nothing where they don't reach
 abbrev pub block_of : Head → ℕ → ℕ → List ℕ → Option Taken
-block_of head line n bytes = cond (nat_lt (length bytes) (n + 2)) None (Some (record { request = block_request head n bytes; length = line + (n + 2); skip = 0 }))
+block_of head line n bytes =
+    cond (nat_lt (length bytes) (n + 2)) None
+    (Some (record { request = block_request head n bytes; length = line + (n + 2); skip = 0 }))
 
 -- the request of a line, by what it spells and by the bytes after it
 abbrev pub line_request : ℕ → List ℕ → Line → Option Taken
 line_request line bytes (Ready command) = Some (record { request = Ask command; length = line; skip = 0 })
-line_request line bytes (RefusedLine fault quiet skip) = Some (record { request = Refused fault quiet; length = line; skip = skip })
+line_request line bytes (RefusedLine fault quiet skip) =
+    Some (record { request = Refused fault quiet; length = line; skip = skip })
 line_request line bytes (NeedsBlock head n) = block_of head line n bytes
 
 -- the first request, by where the first 65,537 bytes hold a line feed: with none among them the line is too long
 abbrev pub first_by : ℕ → List ℕ → Option ℕ → Option Taken
-first_by limit unread None = cond (nat_lt 65536 (length unread)) (Some (record { request = Refused LineTooLong false; length = 65537; skip = 0 })) None
+first_by limit unread None =
+    cond (nat_lt 65536 (length unread)) (Some (record { request = Refused LineTooLong false; length = 65537; skip = 0 })) None
 first_by limit unread (Some n) = line_request (n + 1) (drop (n + 1) unread) (reading limit (trimmed (take n unread)))
 
 -- the first whole request of unread bytes, where blocks of at most `limit` bytes are taken

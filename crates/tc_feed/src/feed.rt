@@ -36,7 +36,9 @@ impl Model for Feed {
 
     ghost use Rattle.tc_feed.specs.Scanned.{IsScanned, IsAwaited, IsRemembered};
 
-    ghost invariant = { λ f. IsScanned f.start f.scanned f.owed f.bytes.items × (IsAwaited f.limit f.needed (drop f.start f.bytes.items) × IsRemembered f.needed f.scanned (drop f.start f.bytes.items)) };
+    ghost invariant = { λ f. IsScanned f.start f.scanned f.owed f.bytes.items
+        × (IsAwaited f.limit f.needed (drop f.start f.bytes.items)
+        × IsRemembered f.needed f.scanned (drop f.start f.bytes.items)) };
 }
 
 impl Feed {
@@ -57,7 +59,8 @@ impl Feed {
     /// Takes the next piece of the stream. A refusal leaves the unread bytes as they were.
     pub fn push(&mut self, piece: &[u8]) -> Result<(), NoMemory>
         ensures more { OnOk result (self.new ≡ more self.old piece.now) }
-        ensures longer { list_length self.new.unread ≤ list_length self.old.unread + list_length piece.now }
+        ensures longer { list_length self.new.unread
+            ≤ list_length self.old.unread + list_length piece.now }
         ensures unchanged_on_err { OnErr result (self.new ≡ self.old) }
     {
         let n = piece.len();
@@ -95,7 +98,8 @@ impl Feed {
     pub fn next(&mut self, alloc: Global, limit: u32) -> Result<Option<Request>, NoMemory>
         ensures found { IfOk result (λ request. request ≡ found limit self.old) }
         ensures after { OnOk result (self.new ≡ after_first limit self.old) }
-        ensures bounded { IfOk result (λ request. request ≡ None → list_length self.new.unread ≤ limit + 65538) }
+        ensures bounded { IfOk result (λ request. request ≡ None
+            → list_length self.new.unread ≤ limit + 65538) }
         ensures no_longer { list_length self.new.unread ≤ list_length self.old.unread }
         ensures unchanged_on_err { OnErr result (self.new ≡ self.old) }
     {
@@ -133,7 +137,8 @@ impl Feed {
     /// Goes past the bytes of a request, and past more of those that came or are to come.
     fn pass(&mut self, alloc: Global, length: usize, skip: usize)
         requires { length ≤ list_length self.old.unread }
-        ensures after { self.new ≡ more (record { unread = []; owed = skip }) (drop length self.old.unread) }
+        ensures after { self.new
+            ≡ more (record { unread = []; owed = skip }) (drop length self.old.unread) }
         ensures no_longer { list_length self.new.unread ≤ list_length self.old.unread }
     {
         let there = self.bytes.len() - self.start - length;

@@ -106,8 +106,10 @@ fn look_at_line(
 ) -> Result<(Option<Taken>, usize), NoMemory>
     requires within { n < length unread.now }
     requires short { n ≤ 65536 }
-    ensures taken { IfOk result (λ r. r.0 ≡ line_request (n + 1) (drop (n + 1) unread.now) (reading limit (trimmed (take n unread.now)))) }
-    ensures needed { IfOk result (λ r. r.1 ≡ needed_of (n + 1) (reading limit (trimmed (take n unread.now)))) }
+    ensures taken { IfOk result (λ r. r.0 ≡ line_request (n + 1) (drop (n + 1) unread.now)
+        (reading limit (trimmed (take n unread.now)))) }
+    ensures needed { IfOk result (λ r. r.1 ≡ needed_of (n + 1)
+        (reading limit (trimmed (take n unread.now)))) }
     ensures bounded { IfOk result (λ r. r.1 ≤ limit + 65539) }
 {
     let said = parse_line(alloc, trim_line(&unread[..n]), limit)?;
@@ -122,7 +124,8 @@ fn look_for_line(unread: &[u8]) -> Finding
     ensures first { result.taken ≡ first_by 0 unread.now None }
     ensures scanned { IsScanned 0 result.scanned 0 unread.now }
     ensures awaited { (limit : ℕ) → IsAwaited limit result.needed unread.now }
-    ensures remembered { result.taken ≡ None → IsRemembered result.needed result.scanned unread.now }
+    ensures remembered { result.taken ≡ None
+        → IsRemembered result.needed result.scanned unread.now }
 {
     if unread.len() <= LONGEST_LINE {
         return Finding {
@@ -171,7 +174,8 @@ pub(crate) fn look(
     requires none { line_length (take scanned unread.now) ≡ None }
     ensures first { IfOk result (λ r. r.taken ≡ first limit unread.now) }
     ensures scanned { IfOk result (λ r. IsScanned 0 r.scanned 0 unread.now) }
-    ensures remembered { IfOk result (λ r. r.taken ≡ None → IsRemembered r.needed r.scanned unread.now) }
+    ensures remembered { IfOk result (λ r. r.taken ≡ None
+        → IsRemembered r.needed r.scanned unread.now) }
     ensures awaited { IfOk result (λ r. IsAwaited limit r.needed unread.now) }
     ensures short { IfOk result (λ r. r.taken ≡ None → length unread.now ≤ limit + 65538) }
 {

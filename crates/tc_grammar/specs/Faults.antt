@@ -1,7 +1,10 @@
--- The faults, their numbers and their texts. Source: memcached's doc/protocol.txt, 'Error strings'; the texts behind the first words are this project's own.
+-- The faults, their numbers and their texts. Source: memcached's doc/protocol.txt, 'Error
+-- strings'; the texts behind the first words are this project's own.
 use Rattle.std.specs.Prelude.{ℕ, List, codes}
 use Rattle.tc_grammar.specs.declared.fault.Fault.{Fault}
-use Rattle.tc_grammar.specs.declared.fault.Fault.TheVariants.{UnknownCommand, BadFormat, BadChunk, LineTooLong, TooLarge, NoMemory, NotNumeric, BadDelta, Unauthenticated, AuthenticationFailure, CasWorn}
+use Rattle.tc_grammar.specs.declared.fault.Fault.TheVariants.{UnknownCommand, BadFormat, BadChunk, LineTooLong, TooLarge}
+use Rattle.tc_grammar.specs.declared.fault.Fault.TheVariants.{NoMemory, NotNumeric, BadDelta, Unauthenticated}
+use Rattle.tc_grammar.specs.declared.fault.Fault.TheVariants.{AuthenticationFailure, CasWorn}
 
 -- the number of a fault, from 1
 abbrev pub fault_number : Fault → ℕ

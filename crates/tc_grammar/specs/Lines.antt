@@ -1,4 +1,5 @@
--- What a line can come to, and the bounds that each keeps. Source: memcached's doc/protocol.txt, 'Error strings'; skipping is this project's own.
+-- What a line can come to, and the bounds that each keeps. Source: memcached's
+-- doc/protocol.txt, 'Error strings'; skipping is this project's own.
 use Rattle.std.specs.Prelude.{◌≡◌, ℕ, ◌+◌, ◌^◌, ◌≤◌, true, false, Option, Some, None, option_and_then}
 use Rattle.tc_grammar.specs.declared.command.Command.{Command}
 use Rattle.tc_grammar.specs.declared.fault.Fault.TheVariants.{UnknownCommand, BadFormat, TooLarge}

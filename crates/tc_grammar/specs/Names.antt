@@ -5,7 +5,8 @@ use Rattle.tc_grammar.specs.declared.command.StoreKind.TheVariants.{Set, Add, Re
 use Rattle.tc_grammar.specs.declared.command.Form.TheVariants.{Bare, WithCas}
 use Rattle.tc_grammar.specs.declared.command.Way.TheVariants.{Incr, Decr}
 use Rattle.tc_grammar.specs.declared.verb.Verb.{Verb}
-use Rattle.tc_grammar.specs.declared.verb.Verb.TheVariants.{Store, Get, Gat, Delete, Count, Touch, FlushAll, Stats, Version, Verbosity, Quit}
+use Rattle.tc_grammar.specs.declared.verb.Verb.TheVariants.{Store, Get, Gat, Delete, Count, Touch, FlushAll, Stats, Version}
+use Rattle.tc_grammar.specs.declared.verb.Verb.TheVariants.{Verbosity, Quit}
 
 -- the row of a name in a table
 abbrev pub named : List ℕ → List (List ℕ × Verb) → Option Verb

@@ -1,5 +1,7 @@
--- Number tokens. Source: memcached's doc/protocol.txt, 'Storage commands'; the greatest length and the ranges are this project's own.
-use Rattle.std.specs.Prelude.{ℕ, ◌+◌, ◌*◌, ◌-◌, ◌^◌, Bool, ◌&&◌, nat_lt, nat_le, ◌==◌, if◌then◌else◌, List, [], ◌∷◌, length, Option, Some, None, option_map, ℤ, pos, neg_ℤ}
+-- Number tokens. Source: memcached's doc/protocol.txt, 'Storage commands'; the
+-- greatest length and the ranges are this project's own.
+use Rattle.std.specs.Prelude.{ℕ, ◌+◌, ◌*◌, ◌-◌, ◌^◌, Bool, ◌&&◌, nat_lt, nat_le, ◌==◌, if◌then◌else◌, List, [], ◌∷◌, length}
+use Rattle.std.specs.Prelude.{Option, Some, None, option_map, ℤ, pos, neg_ℤ}
 use Rattle.std.specs.Str.{all_ascii_digits}
 
 -- the number that the digits of n and then these digits spell, in base ten
@@ -9,7 +11,8 @@ value_after n (digit ∷ digits) = value_after (10 * n + (digit - 48)) digits
 
 -- whether a token is 1 to 20 digits that spell at most the greatest number allowed
 abbrev pub is_number : ℕ → List ℕ → Bool
-is_number greatest token = nat_lt 0 (length token) && nat_le (length token) 20 && all_ascii_digits token && nat_le (value_after 0 token) greatest
+is_number greatest token =
+    nat_lt 0 (length token) && nat_le (length token) 20 && all_ascii_digits token && nat_le (value_after 0 token) greatest
 
 -- the number that a token spells, where it is one; leading zeros are allowed
 unfoldable pub number_of : ℕ → List ℕ → Option ℕ

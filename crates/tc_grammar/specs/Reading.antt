@@ -1,4 +1,5 @@
--- What a line says: its first token is a name, and the name says how the other tokens are read. Source: memcached's doc/protocol.txt.
+-- What a line says: its first token is a name, and the name says how the other
+-- tokens are read. Source: memcached's doc/protocol.txt.
 use Rattle.std.specs.Prelude.{ℕ, List, [], ◌∷◌, Option, Some, None}
 use Rattle.tc_grammar.specs.Counting.{count_line}
 use Rattle.tc_grammar.specs.Ending.{ended}

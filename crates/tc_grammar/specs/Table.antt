@@ -1,4 +1,5 @@
--- The table of lines, row by row: which tokens behind a name spell what. Source: memcached's doc/protocol.txt; skipping is this project's own.
+-- The table of lines, row by row: which tokens behind a name spell what. Source:
+-- memcached's doc/protocol.txt; skipping is this project's own.
 use Rattle.std.specs.Prelude.{◌≡◌, ℕ, ◌+◌, ◌-◌, ◌^◌, ◌<◌, ◌≤◌, Bool, true, false, bytes_eq, codes, List, [], ◌∷◌, Some, None, ℤ}
 use Rattle.std.specs.List.{list_all}
 use Rattle.std.specs.Option.{option_map_or}
@@ -87,4 +88,5 @@ pub data Spells (limit : ℕ) : List (List ℕ) → Line → Type 0 where
 -- each line spells its reading, and nothing else
 abbrev pub EachLineSpellsOneThing : Type 0
 EachLineSpellsOneThing = (limit : ℕ) (line : List ℕ) →
-    Spells limit (tokens line) (reading limit line) × ((other : Line) → Spells limit (tokens line) other → other ≡ reading limit line)
+    Spells limit (tokens line) (reading limit line)
+    × ((other : Line) → Spells limit (tokens line) other → other ≡ reading limit line)

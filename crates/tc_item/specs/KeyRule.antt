@@ -1,4 +1,5 @@
--- Which bytes are a key. Source: memcached's doc/protocol.txt, 'Commands' (at most 250 bytes, no control characters or whitespace).
+-- Which bytes are a key. Source: memcached's doc/protocol.txt, 'Commands' (at
+-- most 250 bytes, no control characters or whitespace).
 use Rattle.std.specs.Prelude.{ℕ, Bool, ◌&&◌, not, nat_lt, nat_le, ◌==◌, List, length}
 use Rattle.std.specs.List.{list_all}
 

@@ -14,7 +14,8 @@ pub fn begin_all<C: Kind>(
     users: &Users,
     hasher: RandomState,
 ) -> Result<Vec<C>, NoMemory>
-    ensures caches { IfOk result (λ caches. map C.settled caches.items ≡ map fresh_cache users.now) }
+    ensures caches { IfOk result (λ caches. map C.settled caches.items
+        ≡ map fresh_cache users.now) }
 {
     let mut caches = Vec::with_capacity(alloc, users.len())?;
     for row in users.rows() {

@@ -1,5 +1,6 @@
 -- What calls, maintenance and page turns keep of a book.
-use Rattle.std.proofs.Common.{zero, suc, ◌≡◌, ℕ, ◌+◌, ◌<◌, ◌≤◌, max, Bool, cond, List, [], ◌∷◌, ◌++◌, length, refl, sym, ap, ◌∙◌, subst, arith, replicate, length-append}
+use Rattle.std.proofs.Common.{zero, suc, ◌≡◌, ℕ, ◌+◌, ◌<◌, ◌≤◌, max, Bool, cond, List, [], ◌∷◌, ◌++◌, length, refl, sym, ap, ◌∙◌}
+use Rattle.std.proofs.Common.{subst, arith, replicate, length-append}
 use Rattle.std.specs.Prelude.{slice_index, slice_set}
 use Rattle.std.proofs.lemmas.List.{length-set, length-replicate, get_or-set_same, get_or-set_other}
 use Rattle.std.proofs.lemmas.Bool.{le-leb}
@@ -13,7 +14,9 @@ use Rattle.tc_plain.specs.Doing.{act}
 use Rattle.tc_plain.specs.Laws.{user_caching}
 use Rattle.tc_locked.specs.declared.entry.Entry.{Entry}
 use Rattle.tc_fresh.specs.Beginning.{IsEmptyCache}
-use Rattle.tc_locked.specs.Books.{BookState, events_of, Start, first_start, moment_after, counts_after, IsNext, AreNumbered, Stands, IsBook, entry_of, after_call, after_maintain, page_turned, turn_if, paged, fresh_book, last_alone, page_before_last, slip_of}
+use Rattle.tc_locked.specs.Books.{BookState, events_of, Start, first_start, moment_after, counts_after, IsNext, AreNumbered}
+use Rattle.tc_locked.specs.Books.{Stands, IsBook, entry_of, after_call, after_maintain, page_turned, turn_if, paged, fresh_book}
+use Rattle.tc_locked.specs.Books.{last_alone, page_before_last, slip_of}
 use Rattle.tc_locked.specs.Closing.{HasLegalPage}
 use Rattle.tc_plain.proofs.Left.{leaves_advanced, advance-earlier, advance-advance, act-advance, advance-empty}
 
@@ -22,7 +25,8 @@ use Rattle.tc_plain.proofs.Left.{leaves_advanced, advance-earlier, advance-advan
 abbrev pub left_by : UserCache → List Entry → UserCache
 left_by k es = state_after user_caching k (events_of es)
 
-replays_push : (from : ℕ) (k : UserCache) (es : List Entry) (e : Entry) → Replays user_caching from k (events_of es) → moment_after from es ≤ e.moment
+replays_push : (from : ℕ) (k : UserCache) (es : List Entry) (e : Entry) → Replays user_caching from k (events_of es)
+    → moment_after from es ≤ e.moment
     → (act (left_by k es) e.moment e.command).0 ≡ e.outcome → Replays user_caching from k (events_of (es ++ e ∷ []))
 replays_push from k [] e h le is = (le, is, tt)
 replays_push from k (x ∷ es) e h le is = (h.0, h.1, replays_push x.moment (act k x.moment x.command).1 es e h.2 le is)
@@ -35,24 +39,32 @@ moment_push : (from : ℕ) (es : List Entry) (e : Entry) → moment_after from (
 moment_push from [] e = refl
 moment_push from (x ∷ es) e = moment_push x.moment es e
 
-numbered_push : (number : ℕ) (counts : List ℕ) (es : List Entry) (e : Entry) → AreNumbered number counts es → IsNext (number + length es) (counts_after counts es) e → AreNumbered number counts (es ++ e ∷ [])
-numbered_push number counts [] e h is = (record { number_is = let n = is.number_is in omega arith; seat = is.seat; tally = is.tally }, tt)
-numbered_push number counts (x ∷ es) e h is =
-    (h.0, numbered_push (number + 1) (slice_set counts x.seat x.tally) es e h.1 (record { number_is = let n = is.number_is in omega arith; seat = is.seat; tally = is.tally }))
+numbered_push : (number : ℕ) (counts : List ℕ) (es : List Entry) (e : Entry) → AreNumbered number counts es
+    → IsNext (number + length es) (counts_after counts es) e → AreNumbered number counts (es ++ e ∷ [])
+numbered_push number counts [] e h is =
+    (record { number_is = let n = is.number_is in omega arith; seat = is.seat; tally = is.tally }, tt)
+numbered_push number counts (x ∷ es) e h is = (
+  h.0,
+  numbered_push (number + 1) (slice_set counts x.seat x.tally) es e h.1
+      (record { number_is = let n = is.number_is in omega arith; seat = is.seat; tally = is.tally }),
+)
 
-counts_push : (counts : List ℕ) (es : List Entry) (e : Entry) → counts_after counts (es ++ e ∷ []) ≡ slice_set (counts_after counts es) e.seat e.tally
+counts_push : (counts : List ℕ) (es : List Entry) (e : Entry)
+    → counts_after counts (es ++ e ∷ []) ≡ slice_set (counts_after counts es) e.seat e.tally
 counts_push counts [] e = refl
 counts_push counts (x ∷ es) e = counts_push (slice_set counts x.seat x.tally) es e
 
 -- ---- what leads to the book
 -- a call's entry goes on with any entries that led to the book
-pub stands_call : (start : Start) (es : List Entry) (b : BookState) (seat now conn : ℕ) (command : Command) → seat < length b.counts → Stands start es b
+pub stands_call : (start : Start) (es : List Entry) (b : BookState) (seat now conn : ℕ) (command : Command)
+    → seat < length b.counts → Stands start es b
     → Stands start (es ++ entry_of b seat now conn command ∷ []) (after_call b (entry_of b seat now conn command))
 stands_call start es b seat now conn command lt s =
     let e = entry_of b seat now conn command in
     let t : ℕ = max b.moment now in
     let before : UserCache = left_by start.cache es in
-    let was : act b.settled t command ≡ act before t command = ap (λ (k : UserCache). act k t command) (sym s.settled) ∙ act-advance before b.moment t command (omega arith) in
+    let was : act b.settled t command ≡ act before t command =
+    ap (λ (k : UserCache). act k t command) (sym s.settled) ∙ act-advance before b.moment t command (omega arith) in
     let le = s.moment in
     let same = s.number in
     let next : IsNext (start.number + length es) (counts_after start.counts es) e = record {
@@ -60,15 +72,19 @@ stands_call start es b seat now conn command lt s =
       seat = subst (λ (l : List ℕ). seat < length l) (sym s.counts) lt;
       tally = ap (λ (l : List ℕ). slice_index l seat + 1) (sym s.counts);
     } in record {
-      replays = replays_push start.moment start.cache es e s.replays (omega arith) (sym (ap (λ (r : Outcome × UserCache). r.0) was));
-      settled = ap (λ (k : UserCache). advance k t) (left_push start.cache es e) ∙ leaves_advanced before t command ∙ sym (ap (λ (r : Outcome × UserCache). r.1) was);
+      replays =
+          replays_push start.moment start.cache es e s.replays (omega arith) (sym (ap (λ (r : Outcome × UserCache). r.0) was));
+      settled =
+          ap (λ (k : UserCache). advance k t) (left_push start.cache es e) ∙ leaves_advanced before t command
+          ∙ sym (ap (λ (r : Outcome × UserCache). r.1) was);
       moment = let at = moment_push start.moment es e in omega arith;
       numbered = numbered_push start.number start.counts es e s.numbered next;
       number = omega (arith, length-append es (e ∷ []));
       counts = counts_push start.counts es e ∙ ap (λ (l : List ℕ). slice_set l seat (slice_index b.counts seat + 1)) s.counts;
     }
 
-pub stands_maintain : (start : Start) (es : List Entry) (b : BookState) (now : ℕ) → Stands start es b → Stands start es (after_maintain b now)
+pub stands_maintain : (start : Start) (es : List Entry) (b : BookState) (now : ℕ) → Stands start es b
+    → Stands start es (after_maintain b now)
 stands_maintain start es b now s =
     let le = s.moment in record {
       replays = s.replays;
@@ -84,10 +100,19 @@ abbrev pub here : BookState → Start
 here b = record { cache = b.settled; moment = b.moment; number = b.number; counts = b.counts }
 
 pub is_settled : (start : Start) (es : List Entry) (b : BookState) → Stands start es b → advance b.settled b.moment ≡ b.settled
-is_settled start es b s = ap (λ (k : UserCache). advance k b.moment) (sym s.settled) ∙ advance-earlier (left_by start.cache es) b.moment b.moment (omega arith) ∙ s.settled
+is_settled start es b s =
+    ap (λ (k : UserCache). advance k b.moment) (sym s.settled)
+    ∙ advance-earlier (left_by start.cache es) b.moment b.moment (omega arith) ∙ s.settled
 
 pub stands_turn : (start : Start) (b : BookState) → Stands start b.entries b → Stands (here b) [] (page_turned b)
-stands_turn start b s = record { replays = tt; settled = is_settled start b.entries b s; moment = omega arith; numbered = tt; number = omega arith; counts = refl }
+stands_turn start b s = record {
+  replays = tt;
+  settled = is_settled start b.entries b s;
+  moment = omega arith;
+  numbered = tt;
+  number = omega arith;
+  counts = refl;
+}
 
 pub stands_fresh : (k : UserCache) (seats : ℕ) → IsEmptyCache k → Stands (first_start k seats) [] (fresh_book k seats)
 stands_fresh k seats h = record {
@@ -100,15 +125,18 @@ stands_fresh k seats h = record {
 }
 
 -- ---- the book
-capped_set : (xs : List ℕ) (at n : ℕ) → at < length xs → ((i : ℕ) → i < length xs → slice_index xs i ≤ n) → (i : ℕ) → i < length (slice_set xs at (slice_index xs at + 1)) → slice_index (slice_set xs at (slice_index xs at + 1)) i ≤ n + 1
+capped_set : (xs : List ℕ) (at n : ℕ) → at < length xs → ((i : ℕ) → i < length xs → slice_index xs i ≤ n) → (i : ℕ)
+    → i < length (slice_set xs at (slice_index xs at + 1)) → slice_index (slice_set xs at (slice_index xs at + 1)) i ≤ n + 1
 capped_set xs at n lt h i below =
     let len = length-set xs at (slice_index xs at + 1) in
     let own = h at lt in
     dite (ℕ_discrete i at)
-    (λ (same : i ≡ at). subst (λ (k : ℕ). slice_index (slice_set xs at (slice_index xs at + 1)) k ≤ n + 1) (sym same) (let e = get_or-set_same xs at (slice_index xs at + 1) 0 lt in omega arith))
+    (λ (same : i ≡ at). subst (λ (k : ℕ). slice_index (slice_set xs at (slice_index xs at + 1)) k ≤ n + 1) (sym same)
+    (let e = get_or-set_same xs at (slice_index xs at + 1) 0 lt in omega arith))
     (λ apart. let e = get_or-set_other xs at i (slice_index xs at + 1) 0 apart in let g = h i (omega arith) in omega arith)
 
-pub book_call : (b : BookState) (seat now conn : ℕ) (command : Command) → seat < length b.counts → IsBook b → IsBook (after_call b (entry_of b seat now conn command))
+pub book_call : (b : BookState) (seat now conn : ℕ) (command : Command) → seat < length b.counts → IsBook b
+    → IsBook (after_call b (entry_of b seat now conn command))
 book_call b seat now conn command lt h =
     let e = entry_of b seat now conn command in
     let same = length-set b.counts seat e.tally in
@@ -171,7 +199,8 @@ last_alone-push (x ∷ []) e = refl
 last_alone-push (x ∷ y ∷ es) e = last_alone-push (y ∷ es) e
 
 -- a page that is turned before a call's entry is as one that was turned before the call
-before_last-call : (b : BookState) (opening : UserCache) (e : Entry) → opening ≡ b.settled → page_before_last opening (after_call b e) ≡ after_call (page_turned b) e
+before_last-call : (b : BookState) (opening : UserCache) (e : Entry) → opening ≡ b.settled
+    → page_before_last opening (after_call b e) ≡ after_call (page_turned b) e
 before_last-call b opening e is = λ i. record {
   opening = is i;
   entries = last_alone-push b.entries e i;
@@ -186,23 +215,33 @@ before_last-call b opening e is = λ i. record {
 paged-full : (journal : ℕ) (b : BookState) → journal ≤ length b.entries → paged journal b ≡ page_turned b
 paged-full journal b many = ap (λ (t : Bool). cond t (page_turned b) b) (le-leb journal (length b.entries) many)
 
-pub paged_call : (journal : ℕ) (b called : BookState) (opening : UserCache) (e : Entry) → journal ≤ length b.entries → opening ≡ b.settled → called ≡ after_call b e → page_before_last opening called ≡ after_call (paged journal b) e
+pub paged_call : (journal : ℕ) (b called : BookState) (opening : UserCache) (e : Entry) → journal ≤ length b.entries
+    → opening ≡ b.settled → called ≡ after_call b e → page_before_last opening called ≡ after_call (paged journal b) e
 paged_call journal b called opening e many is was =
-    ap (page_before_last opening) was ∙ before_last-call b opening e is ∙ ap (λ (x : BookState). after_call x e) (sym (paged-full journal b many))
+    ap (page_before_last opening) was ∙ before_last-call b opening e is
+    ∙ ap (λ (x : BookState). after_call x e) (sym (paged-full journal b many))
 
-pub paged_slip : (journal : ℕ) (b : BookState) (e : Entry) (page : ℕ) → journal ≤ length b.entries → page ≡ b.turns + 1 → slip_of (paged journal b) e ≡ record { page = page; number = e.number; tally = e.tally; moment = e.moment; outcome = e.outcome }
-paged_slip journal b e page many is = ap (λ (x : BookState). slip_of x e) (paged-full journal b many) ∙ (λ i. record { page = sym is i; number = e.number; tally = e.tally; moment = e.moment; outcome = e.outcome })
+pub paged_slip : (journal : ℕ) (b : BookState) (e : Entry) (page : ℕ) → journal ≤ length b.entries → page ≡ b.turns + 1
+    → slip_of (paged journal b) e
+    ≡ record { page = page; number = e.number; tally = e.tally; moment = e.moment; outcome = e.outcome }
+paged_slip journal b e page many is =
+    ap (λ (x : BookState). slip_of x e) (paged-full journal b many)
+    ∙ (λ i. record { page = sym is i; number = e.number; tally = e.tally; moment = e.moment; outcome = e.outcome })
 
-pub paged_legal : (b called : BookState) (opening : UserCache) (seat now conn : ℕ) (command : Command) → 0 < length b.entries → seat < length b.counts → IsBook b → opening ≡ b.settled → called ≡ after_call b (entry_of b seat now conn command)
+pub paged_legal : (b called : BookState) (opening : UserCache) (seat now conn : ℕ) (command : Command) → 0 < length b.entries
+    → seat < length b.counts → IsBook b → opening ≡ b.settled → called ≡ after_call b (entry_of b seat now conn command)
     → IsBook (page_before_last opening called)
 paged_legal b called opening seat now conn command some lt h is was =
     subst IsBook (sym (ap (page_before_last opening) was ∙ before_last-call b opening (entry_of b seat now conn command) is))
     (book_call (page_turned b) seat now conn command lt (book_turn b some h))
 
 -- ---- the page
-replays_from_zero : (from : ℕ) (k : UserCache) (es : List Entry) → Replays user_caching from k (events_of es) → Replays user_caching 0 k (events_of es)
+replays_from_zero : (from : ℕ) (k : UserCache) (es : List Entry) → Replays user_caching from k (events_of es)
+    → Replays user_caching 0 k (events_of es)
 replays_from_zero from k [] h = tt
 replays_from_zero from k (e ∷ es) h = (omega arith, h.1, h.2)
 
 pub legal_page : (b : BookState) → IsBook b → HasLegalPage b
-legal_page b h = subst (λ (k : UserCache). Replays user_caching 0 k (events_of b.entries)) h.opens (replays_from_zero h.start.moment h.start.cache b.entries h.stands.replays)
+legal_page b h =
+    subst (λ (k : UserCache). Replays user_caching 0 k (events_of b.entries)) h.opens
+    (replays_from_zero h.start.moment h.start.cache b.entries h.stands.replays)

@@ -13,9 +13,11 @@ use Rattle.tc_locked.specs.Closing.{AllKept, ShowsFresh, AllFresh}
 
 shows_fresh : (terms : Terms) (k : KeptState) → IsKept terms k → ShowsFresh k
 shows_fresh terms k h before after e is =
-    let events : events_of (entries_in k.log) ≡ events_of before ++ event_of e ∷ events_of after = ap events_of is ∙ map-append event_of before (e ∷ after) in
+    let events : events_of (entries_in k.log) ≡ events_of before ++ event_of e ∷ events_of after =
+    ap events_of is ∙ map-append event_of before (e ∷ after) in
     let all : Replays user_caching 0 (fresh h.empty.0 h.empty.1) (events_of before ++ event_of e ∷ events_of after) =
-    subst (λ (x : UserCache × List (Event Command Outcome)). Replays user_caching 0 x.0 x.1) (λ i. (h.empty.2 i, events i)) h.whole.replays in
+    subst (λ (x : UserCache × List (Event Command Outcome)). Replays user_caching 0 x.0 x.1)
+    (λ i. (h.empty.2 i, events i)) h.whole.replays in
     is_fresh h.empty.0 h.empty.1 (events_of before) (events_of after) (event_of e) all
 
 pub all_fresh : (terms : Terms) (ks : List KeptState) → AllKept terms ks → AllFresh ks

@@ -1,5 +1,6 @@
 -- Which books are legal, and what their calls do. Source: this project's own.
-use Rattle.std.specs.Prelude.{◌≡◌, ◌≢◌, ◌⊎◌, cond, leb, ℕ, ◌+◌, ◌<◌, ◌≤◌, max, List, [], ◌∷◌, ◌++◌, length, map, slice_index, slice_set, replicate}
+use Rattle.std.specs.Prelude.{◌≡◌, ◌≢◌, ◌⊎◌, cond, leb, ℕ, ◌+◌, ◌<◌, ◌≤◌, max, List, [], ◌∷◌, ◌++◌, length, map, slice_index}
+use Rattle.std.specs.Prelude.{slice_set, replicate}
 use Rattle.tc_model.specs.Caching.{Event, Replays, state_after}
 use Rattle.tc_grammar.specs.declared.command.Command.{Command}
 use Rattle.tc_stats.specs.declared.outcome.Outcome.{Outcome}
@@ -168,7 +169,15 @@ paged journal b = cond (leb journal (length b.entries)) (page_turned b) b
 
 -- the book of a cache that was never called
 abbrev pub fresh_book : UserCache → ℕ → BookState
-fresh_book k seats = record { opening = k; entries = []; settled = k; moment = 0; turns = 0; number = 0; counts = replicate seats 0 }
+fresh_book k seats = record {
+  opening = k;
+  entries = [];
+  settled = k;
+  moment = 0;
+  turns = 0;
+  number = 0;
+  counts = replicate seats 0;
+}
 
 -- the commands of entries, each at its moment, give the outcomes that are kept
 abbrev pub Gives : UserCache → List Entry → Type 0

@@ -15,7 +15,8 @@ abbrev pub slip_at : ℕ → Entry → Slip
 slip_at page e = record { page = page; number = e.number; tally = e.tally; moment = e.moment; outcome = e.outcome }
 
 -- the seat has one more note, which is that of the call and of the slip
-pub record Wrote (user : ℕ) (before : SeatState) (now conn : ℕ) (command : Command) (slip : Slip) (after : SeatState) : Type 0 where
+pub record Wrote (user : ℕ) (before : SeatState) (now conn : ℕ) (command : Command) (slip : Slip) (after : SeatState)
+    : Type 0 where
   pub entry : Entry
   pub seat : after ≡ record { number = before.number; notes = before.notes ++ note user slip.page entry ∷ [] }
   pub by : entry.seat ≡ before.number

@@ -27,11 +27,23 @@ seat_of f = record { number = f.number; notes = f.notes }
 
 -- a view that took these books in
 abbrev pub add_books : View → List Face → View
-add_books v fs = record { mints = v.mints; books_made = v.books_made; seats_made = v.seats_made; books = v.books ++ fs; seats = v.seats }
+add_books v fs = record {
+  mints = v.mints;
+  books_made = v.books_made;
+  seats_made = v.seats_made;
+  books = v.books ++ fs;
+  seats = v.seats;
+}
 
 -- a view that took these seats in
 abbrev pub add_seats : View → List Face → View
-add_seats v fs = record { mints = v.mints; books_made = v.books_made; seats_made = v.seats_made; books = v.books; seats = v.seats ++ fs }
+add_seats v fs = record {
+  mints = v.mints;
+  books_made = v.books_made;
+  seats_made = v.seats_made;
+  books = v.books;
+  seats = v.seats ++ fs;
+}
 
 -- a book that has left its lock and its seat
 pub record ShutState : Type 0 where
@@ -131,10 +143,12 @@ book_of user (k ∷ ks) = cond (k.user == user) (Some k.book) (book_of user ks)
 abbrev pub HasLegalPage : BookState → Type 0
 HasLegalPage b = Replays user_caching 0 b.opening (events_of b.entries)
 
--- each hit of the user is what the entries before it last left under its key, at its moment: never an item expired, deleted or flushed
+-- each hit of the user is what the entries before it last left under its key, at
+-- its moment: never an item expired, deleted or flushed
 abbrev pub ShowsFresh : KeptState → Type 0
 ShowsFresh k =
-    (before after : List Entry) (e : Entry) → entries_in k.log ≡ before ++ e ∷ after → All (IsCell (events_of before) e.moment) (hits_in e.outcome)
+    (before after : List Entry) (e : Entry) → entries_in k.log ≡ before ++ e ∷ after
+    → All (IsCell (events_of before) e.moment) (hits_in e.outcome)
 
 -- the same of all books
 abbrev pub AllFresh : List KeptState → Type 0

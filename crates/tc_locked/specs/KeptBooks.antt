@@ -59,7 +59,11 @@ on_page user page es = map (λ e. note user page e) es
 abbrev pub ArePages : ℕ → ℕ → ℕ → List Note → Type 0
 ArePages user journal zero notes = notes ≡ []
 ArePages user journal (suc page) notes =
-    (before : List Note) × (es : List Entry) × (notes ≡ before ++ on_page user page es) × (length es ≡ journal) × ArePages user journal page before
+    (before : List Note)
+    × (es : List Entry)
+    × (notes ≡ before ++ on_page user page es)
+    × (length es ≡ journal)
+    × ArePages user journal page before
 
 -- the book is legal over all pages, from the user's empty cache, and its page is the end of the list
 pub record IsKept (terms : Terms) (k : KeptState) : Type 0 where
@@ -84,4 +88,7 @@ kept_after journal k seat now conn command =
 -- the caller's seat after it
 abbrev pub seat_after : ℕ → KeptState → SeatState → ℕ → ℕ → Command → SeatState
 seat_after journal k s now conn command =
-    record { number = s.number; notes = s.notes ++ note k.user (paged journal k.book).turns (entry_of k.book s.number now conn command) ∷ [] }
+    record {
+      number = s.number;
+      notes = s.notes ++ note k.user (paged journal k.book).turns (entry_of k.book s.number now conn command) ∷ [];
+    }

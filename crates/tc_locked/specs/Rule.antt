@@ -69,4 +69,5 @@ Adds step me found me' = (me' ≡ (added me.0 step.said step.first, me.1)) × Ti
 
 -- the view is tied, and of a view that hands out books, no book is twice, and none is past the last
 abbrev pub Ties : Step Entry → Me Entry View → ℕ → Me Entry View → Type 0
-Ties step me found me' = (me' ≡ me) × Tied me.0 × Apart me.0.books × (me.0.mints ≡ true → Each (λ f. f.number < me.0.books_made) me.0.books)
+Ties step me found me' =
+    (me' ≡ me) × Tied me.0 × Apart me.0.books × (me.0.mints ≡ true → Each (λ f. f.number < me.0.books_made) me.0.books)

@@ -45,7 +45,13 @@ joined_view u ns s ms = record { mints = false; books_made = 0; seats_made = 0; 
 
 -- two views in one
 abbrev pub both_of : View → View → View
-both_of v w = record { mints = v.mints; books_made = v.books_made; seats_made = v.seats_made; books = v.books ++ w.books; seats = v.seats ++ w.seats }
+both_of v w = record {
+  mints = v.mints;
+  books_made = v.books_made;
+  seats_made = v.seats_made;
+  books = v.books ++ w.books;
+  seats = v.seats ++ w.seats;
+}
 
 -- a view without its books
 abbrev pub seats_of : View → View
@@ -57,7 +63,13 @@ books_of v = record { mints = false; books_made = 0; seats_made = 0; books = v.b
 
 -- the first view once it handed out a book's
 abbrev pub with_book : View → View
-with_book v = record { mints = v.mints; books_made = v.books_made + 1; seats_made = v.seats_made; books = v.books; seats = v.seats }
+with_book v = record {
+  mints = v.mints;
+  books_made = v.books_made + 1;
+  seats_made = v.seats_made;
+  books = v.books;
+  seats = v.seats;
+}
 
 -- the view of the next book
 abbrev pub new_book : View → View
@@ -65,7 +77,13 @@ new_book v = book_view v.books_made []
 
 -- the first view once it handed out a caller's
 abbrev pub with_seat : View → View
-with_seat v = record { mints = v.mints; books_made = v.books_made; seats_made = v.seats_made + 1; books = v.books; seats = v.seats }
+with_seat v = record {
+  mints = v.mints;
+  books_made = v.books_made;
+  seats_made = v.seats_made + 1;
+  books = v.books;
+  seats = v.seats;
+}
 
 -- the view of the next caller's seat
 abbrev pub new_seat : View → View

@@ -1,8 +1,10 @@
 //! A user's book.
-ghost use Rattle.std.specs.Prelude.{◌≡◌, ◌≢◌, ℕ, ◌+◌, ◌-◌, ◌^◌, ◌<◌, ◌≤◌, length, IfOk, OnOk, IfErr, OnErr, slice_get, slice_index, Some, IfSome, IfNone};
+ghost use Rattle.std.specs.Prelude.{◌≡◌, ◌≢◌, ℕ, ◌+◌, ◌-◌, ◌^◌, ◌<◌, ◌≤◌, length, IfOk, OnOk, IfErr, OnErr, slice_get};
+ghost use Rattle.std.specs.Prelude.{slice_index, Some, IfSome, IfNone};
 ghost use Rattle.tc_locked.specs.declared.entry.Entry.{Entry};
 ghost use Rattle.tc_fresh.specs.Beginning.{IsEmptyCache};
-ghost use Rattle.tc_locked.specs.Books.{entry_of, after_call, slip_of, after_maintain, turn_if, paged, fresh_book, IsBook, last_alone, page_before_last};
+ghost use Rattle.tc_locked.specs.Books.{entry_of, after_call, slip_of, after_maintain, turn_if, paged, fresh_book, IsBook};
+ghost use Rattle.tc_locked.specs.Books.{last_alone, page_before_last};
 ghost use Rattle.tc_locked.specs.Closing.{HasLegalPage};
 ghost use Rattle.tc_locked.specs.declared.call_fault.CallFault.TheVariants.{Worn, NoUser};
 
@@ -33,9 +35,25 @@ impl<C: Cache> Model for Book<C> {
 
     ghost Value = { BookState };
 
-    ghost view = { λ b. record { opening = b.opening; entries = b.entries.items; settled = C.settled b.cache; moment = b.moment; turns = b.turns; number = b.number; counts = b.counts.items } };
+    ghost view = { λ b. record {
+      opening = b.opening;
+      entries = b.entries.items;
+      settled = C.settled b.cache;
+      moment = b.moment;
+      turns = b.turns;
+      number = b.number;
+      counts = b.counts.items;
+    } };
 
-    ghost invariant = { λ b. IsBook (record { opening = b.opening; entries = b.entries.items; settled = C.settled b.cache; moment = b.moment; turns = b.turns; number = b.number; counts = b.counts.items }) };
+    ghost invariant = { λ b. IsBook (record {
+      opening = b.opening;
+      entries = b.entries.items;
+      settled = C.settled b.cache;
+      moment = b.moment;
+      turns = b.turns;
+      number = b.number;
+      counts = b.counts.items;
+    }) };
 }
 
 /// Lets go of all entries but the last, and keeps their room.
@@ -81,9 +99,12 @@ impl<C: Cache> Book<C> {
     ) -> Result<Slip, CallFault>
         requires seat { seat_no < length self.old.counts }
         requires copy { kept ≡ command.now }
-        ensures slip { IfOk result (λ slip. slip ≡ slip_of self.old (entry_of self.old seat_no now conn command.now)) }
-        ensures entered { OnOk result (self.new ≡ after_call self.old (entry_of self.old seat_no now conn command.now)) }
-        ensures worn { IfErr result (λ fault. (fault ≡ Worn → self.old.number ≡ 2 ^ 64 - 1) × (fault ≢ NoUser)) }
+        ensures slip { IfOk result (λ slip. slip ≡ slip_of self.old
+            (entry_of self.old seat_no now conn command.now)) }
+        ensures entered { OnOk result (self.new
+            ≡ after_call self.old (entry_of self.old seat_no now conn command.now)) }
+        ensures worn { IfErr result (λ fault. (fault ≡ Worn → self.old.number ≡ 2 ^ 64 - 1)
+            × (fault ≢ NoUser)) }
         ensures unchanged_on_err { OnErr result (self.new ≡ self.old) }
     {
         if self.number == u64::MAX {
@@ -168,9 +189,12 @@ impl<C: Cache> Book<C> {
         requires journal { 0 < journal }
         requires seat { seat_no < length self.old.counts }
         requires copy { kept ≡ command.now }
-        ensures slip { IfOk result (λ called. called.slip ≡ slip_of (paged journal self.old) (entry_of self.old seat_no now conn command.now)) }
-        ensures entered { OnOk result (self.new ≡ after_call (paged journal self.old) (entry_of self.old seat_no now conn command.now)) }
-        ensures worn { IfErr result (λ fault. (fault ≡ Worn → self.old.number ≡ 2 ^ 64 - 1) × (fault ≢ NoUser)) }
+        ensures slip { IfOk result (λ called. called.slip
+            ≡ slip_of (paged journal self.old) (entry_of self.old seat_no now conn command.now)) }
+        ensures entered { OnOk result (self.new ≡ after_call (paged journal self.old)
+            (entry_of self.old seat_no now conn command.now)) }
+        ensures worn { IfErr result (λ fault. (fault ≡ Worn → self.old.number ≡ 2 ^ 64 - 1)
+            × (fault ≢ NoUser)) }
         ensures unchanged_on_err { OnErr result (self.new ≡ self.old) }
     {
         if self.entries.len() < journal {
@@ -233,7 +257,9 @@ impl<C: Cache> Book<C> {
 
     /// The entry of that number, if it stands on this page.
     pub fn entry(&self, number: u64) -> Option<&Entry>
-        ensures { (j : ℕ) (e : Entry) → slice_get self.now.entries j ≡ Some e → number + length self.now.entries ≡ self.now.number + j + 1 → IfSome result (λ x. x.now ≡ e) × IfNone result ⊥ }
+        ensures { (j : ℕ) (e : Entry) → slice_get self.now.entries j ≡ Some e
+            → number + length self.now.entries ≡ self.now.number + j + 1
+            → IfSome result (λ x. x.now ≡ e) × IfNone result ⊥ }
     {
         let before = self.number - self.entries.len() as u64;
         if number <= before || number - before > self.entries.len() as u64 {

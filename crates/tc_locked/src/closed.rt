@@ -1,7 +1,8 @@
 //! A hall that has ended.
 ghost use Rattle.std.specs.Prelude.{◌≡◌, ◌<◌, length, IfSome, IfNone, option_map, option_copied};
 ghost use Rattle.tc_locked.specs.Calls.{IsUser};
-ghost use Rattle.tc_locked.specs.Closing.{IsBookOf, AllKept, AllTied, IsCountOf, HasNote, IsNoteOf, OnPage, TurnedPage, book_of, HasLegalPage};
+ghost use Rattle.tc_locked.specs.Closing.{IsBookOf, AllKept, AllTied, IsCountOf, HasNote, IsNoteOf, OnPage, TurnedPage, book_of};
+ghost use Rattle.tc_locked.specs.Closing.{HasLegalPage};
 ghost use Rattle.tc_locked.specs.declared.view.Note.{Note};
 
 use crate::closing::Shut;
@@ -35,9 +36,15 @@ impl<C: Cache, N: Naming> Model for Closed<C, N> {
 
     ghost Value = { ClosedState };
 
-    ghost view = { λ c. record { books = with_logs c.books.items c.all.me.0.books; seats = map seat_of c.all.me.0.seats } };
+    ghost view = { λ c. record {
+      books = with_logs c.books.items c.all.me.0.books;
+      seats = map seat_of c.all.me.0.seats;
+    } };
 
-    ghost invariant = { λ c. AllKept N.terms (with_logs c.books.items c.all.me.0.books) × AllTied (with_logs c.books.items c.all.me.0.books) (map seat_of c.all.me.0.seats) × (length (with_logs c.books.items c.all.me.0.books) ≡ length c.books.items) × AllThere N.terms (with_logs c.books.items c.all.me.0.books) };
+    ghost invariant = { λ c. AllKept N.terms (with_logs c.books.items c.all.me.0.books)
+        × AllTied (with_logs c.books.items c.all.me.0.books) (map seat_of c.all.me.0.seats)
+        × (length (with_logs c.books.items c.all.me.0.books) ≡ length c.books.items)
+        × AllThere N.terms (with_logs c.books.items c.all.me.0.books) };
 }
 
 impl<C: Cache, N: Naming> Closed<C, N> {
@@ -46,7 +53,8 @@ impl<C: Cache, N: Naming> Closed<C, N> {
         ensures none { IfNone result (IsUser (length N.terms.begins) user → ⊥) }
         ensures some { IfSome result (λ shut. IsBookOf user self.now.books shut.now) }
         ensures known { IfSome result (λ _. IsUser (length N.terms.begins) user) }
-        ensures first { option_map (λ shut. shut.book) (option_copied result) ≡ book_of user self.now.books }
+        ensures first { option_map (λ shut. shut.book) (option_copied result)
+            ≡ book_of user self.now.books }
         ensures kept { AllKept N.terms self.now.books }
         ensures tied { AllTied self.now.books self.now.seats }
     {
@@ -63,7 +71,8 @@ impl<C: Cache, N: Naming> Closed<C, N> {
     pub fn count(&self, seat_no: usize, user: UserNo) -> u64
         requires seat { seat_no < N.terms.seats }
         ensures unknown { (IsUser (length N.terms.begins) user → ⊥) → result ≡ 0 }
-        ensures count { IsUser (length N.terms.begins) user → IsCountOf seat_no user self.now.seats result }
+        ensures count { IsUser (length N.terms.begins) user
+            → IsCountOf seat_no user self.now.seats result }
     {
         match self.find(user) {
             Some(shut) => shut.count(seat_no),
@@ -73,8 +82,11 @@ impl<C: Cache, N: Naming> Closed<C, N> {
 
     /// The entry of a receipt: none exactly where its page was turned.
     pub fn entry_of(&self, receipt: &Receipt<N>) -> Option<&Entry>
-        ensures found { (n : Note) → HasNote self.now.seats n → IsNoteOf receipt.now.user receipt.now.slip n → IsUser (length N.terms.begins) receipt.now.user
-            → IfSome result (λ entry. (entry.now ≡ n.entry) × OnPage receipt.now.user self.now.books n.page)
+        ensures found { (n : Note) → HasNote self.now.seats n
+            → IsNoteOf receipt.now.user receipt.now.slip n
+            → IsUser (length N.terms.begins) receipt.now.user
+            → IfSome result
+            (λ entry. (entry.now ≡ n.entry) × OnPage receipt.now.user self.now.books n.page)
             × IfNone result (TurnedPage receipt.now.user self.now.books n.page) }
     {
         let shut = self.find(receipt.user)?;
@@ -83,7 +95,8 @@ impl<C: Cache, N: Naming> Closed<C, N> {
 
     /// What the last page of a user's book began with; `None` exactly where there is no such user.
     pub fn opening(&self, user: UserNo) -> Option<&Plain>
-        ensures opening { option_copied result ≡ option_map (λ book. book.opening) (book_of user self.now.books) }
+        ensures opening { option_copied result
+            ≡ option_map (λ book. book.opening) (book_of user self.now.books) }
         ensures known { IfSome result (λ _. IsUser (length N.terms.begins) user) }
         ensures unknown { IfNone result (IsUser (length N.terms.begins) user → ⊥) }
         ensures legal { IfSome (book_of user self.now.books) HasLegalPage }
@@ -96,7 +109,8 @@ impl<C: Cache, N: Naming> Closed<C, N> {
 
     /// The entries of the last page of a user's book; `None` exactly where there is no such user.
     pub fn page(&self, user: UserNo) -> Option<&[Entry]>
-        ensures page { option_copied result ≡ option_map (λ book. book.entries) (book_of user self.now.books) }
+        ensures page { option_copied result
+            ≡ option_map (λ book. book.entries) (book_of user self.now.books) }
         ensures known { IfSome result (λ _. IsUser (length N.terms.begins) user) }
         ensures unknown { IfNone result (IsUser (length N.terms.begins) user → ⊥) }
         ensures legal { IfSome (book_of user self.now.books) HasLegalPage }

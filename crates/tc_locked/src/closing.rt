@@ -1,5 +1,6 @@
 //! A hall's end: all seats become one, which knows what is tied.
-ghost use Rattle.std.specs.Prelude.{◌≡◌, ◌≢◌, ◌+◌, slice_get, Some, IfSome, IfNone, ℕ, ◌<◌, ◌≤◌, ◌++◌, ◌∷◌, [], length, slice_index, map, vec_len, vec_capacity};
+ghost use Rattle.std.specs.Prelude.{◌≡◌, ◌≢◌, ◌+◌, slice_get, Some, IfSome, IfNone, ℕ, ◌<◌, ◌≤◌, ◌++◌, ◌∷◌, [], length};
+ghost use Rattle.std.specs.Prelude.{slice_index, map, vec_len, vec_capacity};
 ghost use Rattle.tc_locked.specs.Views.{both_of, seat_view, book_view};
 ghost use Rattle.tc_locked.specs.Rule.{Tied, Apart};
 ghost use Rattle.tc_locked.specs.KeptBooks.{IsKept};
@@ -51,7 +52,10 @@ impl<C: Cache> Shut<C> {
     /// The entry of that page and that number, if the page was not turned.
     pub fn entry(&self, page: u64, number: u64) -> Option<&Entry>
         ensures other { page ≢ self.now.book.turns → IfSome result (λ _. ⊥) }
-        ensures found { page ≡ self.now.book.turns → (j : ℕ) (e : Entry) → slice_get self.now.book.entries j ≡ Some e → number + length self.now.book.entries ≡ self.now.book.number + j + 1 → IfSome result (λ x. x.now ≡ e) × IfNone result ⊥ }
+        ensures found { page ≡ self.now.book.turns → (j : ℕ) (e : Entry)
+            → slice_get self.now.book.entries j ≡ Some e
+            → number + length self.now.book.entries ≡ self.now.book.number + j + 1
+            → IfSome result (λ x. x.now ≡ e) × IfNone result ⊥ }
     {
         if page != self.book.turns() {
             return None;
@@ -80,7 +84,8 @@ impl<C: Cache> Shut<C> {
 fn take_seat<N: Naming>(table: &Shared, all: &mut TableSeat, seat: Seat<N>)
     requires table { (table.now.table_id ≡ N.table) × (0 < table.now.table_id.words) }
     requires all { all.old.table_id ≡ N.table }
-    ensures { (all.new.table_id ≡ N.table) × (all.new.me ≡ (both_of all.old.me.0 (seat_view seat.number seat.notes), all.old.me.1)) }
+    ensures { (all.new.table_id ≡ N.table)
+        × (all.new.me ≡ (both_of all.old.me.0 (seat_view seat.number seat.notes), all.old.me.1)) }
 {
     let Seat {
         inner,
@@ -96,7 +101,8 @@ fn take_book<C: Cache, N: Naming>(table: &Shared, all: &mut TableSeat, kept: Kep
     requires all { all.old.table_id ≡ N.table }
     ensures shut { result ≡ shut_of kept }
     ensures kept { IsKept N.terms kept }
-    ensures all { (all.new.table_id ≡ N.table) × (all.new.me ≡ (both_of all.old.me.0 (book_view kept.user kept.log), all.old.me.1)) }
+    ensures all { (all.new.table_id ≡ N.table)
+        × (all.new.me ≡ (both_of all.old.me.0 (book_view kept.user kept.log), all.old.me.1)) }
 {
     let Kept {
         user,
@@ -112,7 +118,8 @@ fn take_book<C: Cache, N: Naming>(table: &Shared, all: &mut TableSeat, kept: Kep
 pub fn take_seats<N: Naming>(table: &Shared, all: &mut TableSeat, seats: Vec<Seat<N>>)
     requires table { (table.now.table_id ≡ N.table) × (0 < table.now.table_id.words) }
     requires all { all.old.table_id ≡ N.table }
-    ensures { (all.new.table_id ≡ N.table) × (all.new.me ≡ (add_seats all.old.me.0 (map seat_face seats.items), all.old.me.1)) }
+    ensures { (all.new.table_id ≡ N.table)
+        × (all.new.me ≡ (add_seats all.old.me.0 (map seat_face seats.items), all.old.me.1)) }
 {
     for seat in seats {
         take_seat(table, all, seat);
@@ -128,7 +135,9 @@ pub fn take_books<C: Cache, N: Naming>(
 )
     requires table { (table.now.table_id ≡ N.table) × (0 < table.now.table_id.words) }
     requires all { all.old.table_id ≡ N.table }
-    requires room { (vec_len out.old ≡ 0) × (out.old.items ≡ []) × (vec_len locks ≤ vec_capacity out.old) }
+    requires room { (vec_len out.old ≡ 0)
+        × (out.old.items ≡ [])
+        × (vec_len locks ≤ vec_capacity out.old) }
     ensures seat { (all.new.table_id ≡ N.table) × (all.new.me.1 ≡ all.old.me.1) }
     ensures books { TookBooks N.terms all.old.me.0 out.new.items all.new.me.0 }
     ensures count { vec_len out.new ≡ vec_len locks }

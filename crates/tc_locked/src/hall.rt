@@ -39,7 +39,15 @@ impl<C: Cache, N: Naming> Model for Hall<C, N> {
 
     ghost view = { λ h. vec_len h.books };
 
-    ghost invariant = { λ h. (h.table.shared.table_id ≡ N.table) × (0 < h.table.shared.table_id.words) × (h.journal ≡ N.terms.journal) × (0 < h.journal) × (h.seats ≡ N.terms.seats) × (0 < h.seats) × ((vec_len h.room ≡ 0) × (h.room.items ≡ []) × (vec_len h.books ≤ vec_capacity h.room)) × (vec_len h.books ≡ length N.terms.begins) × (vec_len h.books < 2 ^ 32) };
+    ghost invariant = { λ h. (h.table.shared.table_id ≡ N.table)
+        × (0 < h.table.shared.table_id.words)
+        × (h.journal ≡ N.terms.journal)
+        × (0 < h.journal)
+        × (h.seats ≡ N.terms.seats)
+        × (0 < h.seats)
+        × ((vec_len h.room ≡ 0) × (h.room.items ≡ []) × (vec_len h.books ≤ vec_capacity h.room))
+        × (vec_len h.books ≡ length N.terms.begins)
+        × (vec_len h.books < 2 ^ 32) };
 }
 
 impl<C: Cache, N: Naming> Hall<C, N> {
@@ -65,9 +73,11 @@ impl<C: Cache, N: Naming> Hall<C, N> {
     ) -> Result<Receipt<N>, CallFault>
         requires held { F.pre held }
         ensures receipt { IfOk result (λ receipt. receipt.user ≡ user) }
-        ensures wrote { IfOk result (λ receipt. Wrote user seat.old now conn command.now receipt.slip seat.new) }
+        ensures wrote { IfOk result (λ receipt. Wrote user seat.old now conn command.now
+            receipt.slip seat.new) }
         ensures known { IfOk result (λ _. IsUser self.now user) }
-        ensures unknown { IfErr result (λ fault. (fault ≡ NoUser → IsUser self.now user → ⊥) × ((IsUser self.now user → ⊥) → fault ≡ NoUser)) }
+        ensures unknown { IfErr result (λ fault. (fault ≡ NoUser → IsUser self.now user → ⊥)
+            × ((IsUser self.now user → ⊥) → fault ≡ NoUser)) }
         ensures unchanged_on_err { OnErr result (seat.new ≡ seat.old) }
     {
         let number = user.number();
@@ -120,9 +130,11 @@ impl<C: Cache, N: Naming> Hall<C, N> {
         command: &Command,
     ) -> Result<Receipt<N>, CallFault>
         ensures receipt { IfOk result (λ receipt. receipt.user ≡ user) }
-        ensures wrote { IfOk result (λ receipt. Wrote user seat.old now conn command.now receipt.slip seat.new) }
+        ensures wrote { IfOk result (λ receipt. Wrote user seat.old now conn command.now
+            receipt.slip seat.new) }
         ensures known { IfOk result (λ _. IsUser self.now user) }
-        ensures unknown { IfErr result (λ fault. (fault ≡ NoUser → IsUser self.now user → ⊥) × ((IsUser self.now user → ⊥) → fault ≡ NoUser)) }
+        ensures unknown { IfErr result (λ fault. (fault ≡ NoUser → IsUser self.now user → ⊥)
+            × ((IsUser self.now user → ⊥) → fault ≡ NoUser)) }
         ensures unchanged_on_err { OnErr result (seat.new ≡ seat.old) }
     {
         self.call_with(rt, alloc, seat, user, now, conn, command, || ())
@@ -151,7 +163,9 @@ impl<C: Cache, N: Naming> Hall<C, N> {
         ensures fresh { IfOk result (λ closed. AllFresh closed.books) }
         ensures there { IfOk result (λ closed. AllThere N.terms closed.books) }
         ensures all { IfOk result (λ _. N.terms.seats ≤ vec_len seats) }
-        ensures missing { IfErr result (λ m. (vec_len seats < N.terms.seats) × (m.hall ≡ self) × (m.seats.items ≡ seats.items)) }
+        ensures missing { IfErr result (λ m. (vec_len seats < N.terms.seats)
+            × (m.hall ≡ self)
+            × (m.seats.items ≡ seats.items)) }
     {
         if seats.len() < self.seats {
             return Err(Missing { hall: self, seats });

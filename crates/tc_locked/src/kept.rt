@@ -39,7 +39,9 @@ impl<C: Cache, N: Naming> Model for Kept<C, N> {
 
     ghost view = { λ k. record { user = k.user; book = k.book; log = log_of k.badge.views } };
 
-    ghost invariant = { λ k. (k.badge.table_id ≡ N.table) × (k.badge.views ≡ book_view k.user (log_of k.badge.views) ∷ []) × IsKept N.terms (record { user = k.user; book = k.book; log = log_of k.badge.views }) };
+    ghost invariant = { λ k. (k.badge.table_id ≡ N.table)
+        × (k.badge.views ≡ book_view k.user (log_of k.badge.views) ∷ [])
+        × IsKept N.terms (record { user = k.user; book = k.book; log = log_of k.badge.views }) };
 }
 
 impl<C: Cache, N: Naming> Kept<C, N> {
@@ -59,11 +61,16 @@ impl<C: Cache, N: Naming> Kept<C, N> {
         requires table { (table.now.table_id ≡ N.table) × (0 < table.now.table_id.words) }
         requires journal { (journal ≡ N.terms.journal) × (0 < journal) }
         requires copy { kept ≡ command.now }
-        ensures slip { IfOk result (λ called. called.slip ≡ slip_of (paged journal self.old.book) (entry_of self.old.book seat.old.number now conn command.now)) }
-        ensures kept { OnOk result (self.new ≡ kept_after journal self.old seat.old.number now conn command.now) }
-        ensures seat { OnOk result (seat.new ≡ seat_after journal self.old seat.old now conn command.now) }
-        ensures tally { IfOk result (λ called. called.slip.tally ≡ length (of_user self.old.user seat.new.notes)) }
-        ensures worn { IfErr result (λ fault. (fault ≡ Worn → self.old.book.number ≡ 2 ^ 64 - 1) × (fault ≢ NoUser)) }
+        ensures slip { IfOk result (λ called. called.slip ≡ slip_of (paged journal self.old.book)
+            (entry_of self.old.book seat.old.number now conn command.now)) }
+        ensures kept { OnOk result (self.new
+            ≡ kept_after journal self.old seat.old.number now conn command.now) }
+        ensures seat { OnOk result (seat.new
+            ≡ seat_after journal self.old seat.old now conn command.now) }
+        ensures tally { IfOk result (λ called. called.slip.tally
+            ≡ length (of_user self.old.user seat.new.notes)) }
+        ensures worn { IfErr result (λ fault. (fault ≡ Worn → self.old.book.number ≡ 2 ^ 64 - 1)
+            × (fault ≢ NoUser)) }
         ensures unchanged_on_err { OnErr result ((self.new ≡ self.old) × (seat.new ≡ seat.old)) }
     {
         let called = self
@@ -84,7 +91,11 @@ impl<C: Cache, N: Naming> Kept<C, N> {
 
     /// Deferred work of the cache, at most `limit` pieces of it.
     pub fn maintain(&mut self, now: Moment, limit: u32)
-        ensures { self.new ≡ record { user = self.old.user; book = after_maintain self.old.book now; log = self.old.log } }
+        ensures { self.new ≡ record {
+          user = self.old.user;
+          book = after_maintain self.old.book now;
+          log = self.old.log;
+        } }
     {
         self.book.maintain(now, limit);
     }

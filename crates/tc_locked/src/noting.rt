@@ -20,12 +20,22 @@ pub fn note_both(
     entry: &Entry,
 ) -> Badge<View>
     requires word { 0 < table.now.table_id.words }
-    requires seat { (seat.old.table_id ≡ table.now.table_id) × (seat.old.me ≡ (seat_view number (notes_of seat.old.me.0.seats), [])) }
-    requires badge { (badge.table_id ≡ table.now.table_id) × (badge.views ≡ book_view user (log_of badge.views) ∷ []) }
+    requires seat { (seat.old.table_id ≡ table.now.table_id)
+        × (seat.old.me ≡ (seat_view number (notes_of seat.old.me.0.seats), [])) }
+    requires badge { (badge.table_id ≡ table.now.table_id)
+        × (badge.views ≡ book_view user (log_of badge.views) ∷ []) }
     requires entry { entry.now.seat ≡ number }
-    ensures seat { (seat.new.table_id ≡ table.now.table_id) × (seat.new.me ≡ (seat_view number (notes_of seat.old.me.0.seats ++ note user page entry.now ∷ []), [])) }
-    ensures tied { by_seat number (log_of badge.views ++ note user page entry.now ∷ []) ≡ of_user user (notes_of seat.old.me.0.seats ++ note user page entry.now ∷ []) }
-    ensures badge { (result.table_id ≡ table.now.table_id) × (result.views ≡ book_view user (log_of badge.views ++ note user page entry.now ∷ []) ∷ []) }
+    ensures seat { (seat.new.table_id ≡ table.now.table_id)
+        × (seat.new.me ≡ (
+          seat_view number
+              (notes_of seat.old.me.0.seats ++ note user page entry.now ∷ []),
+          [],
+        )) }
+    ensures tied { by_seat number (log_of badge.views ++ note user page entry.now ∷ [])
+        ≡ of_user user (notes_of seat.old.me.0.seats ++ note user page entry.now ∷ []) }
+    ensures badge { (result.table_id ≡ table.now.table_id)
+        × (result.views
+        ≡ book_view user (log_of badge.views ++ note user page entry.now ∷ []) ∷ []) }
 {
     let own = badge.into_seat::<Entry>();
     table.join_seat::<Together>(seat, own);

@@ -1,6 +1,6 @@
 //! How the opening of a page goes once the page is turned.
 use std::sync::atomic::{AtomicU64, Ordering};
-use tc_plain::{Areas, Entry, Live, Plain};
+use tc_plain::{Areas, Entry, EvictionState, Plain};
 
 /// How many entries go at once.
 const AT_ONCE: usize = 16;
@@ -37,7 +37,7 @@ pub(crate) fn let_go(opening: Plain) {
         last: _,
         counters: _,
     } = opening;
-    let Live {
+    let EvictionState {
         limits: _,
         areas,
         sketch: _,

@@ -37,7 +37,9 @@ impl Model for Opened {
 
     ghost view = { λ o. o.table.shared.table_id };
 
-    ghost invariant = { λ o. (o.first.table_id ≡ o.table.shared.table_id) × (0 < o.table.shared.table_id.words) × (o.first.me ≡ (first_view 1 0, [])) };
+    ghost invariant = { λ o. (o.first.table_id ≡ o.table.shared.table_id)
+        × (0 < o.table.shared.table_id.words)
+        × (o.first.me ≡ (first_view 1 0, [])) };
 }
 
 impl Opened {
@@ -57,7 +59,10 @@ fn make_seats<N: Naming>(
 )
     requires table { (table.now.table_id ≡ N.table) × (0 < table.now.table_id.words) }
     requires first { (first.old.table_id ≡ N.table) × (first.old.me ≡ (first_view 1 0, [])) }
-    requires room { (vec_len out.old ≡ 0) × (out.old.items ≡ []) × (seats ≤ vec_capacity out.old) × (seats ≡ N.terms.seats) }
+    requires room { (vec_len out.old ≡ 0)
+        × (out.old.items ≡ [])
+        × (seats ≤ vec_capacity out.old)
+        × (seats ≡ N.terms.seats) }
     ensures first { (first.new.table_id ≡ N.table) × (first.new.me ≡ (first_view 1 seats, [])) }
     ensures seats { out.new.items ≡ new_seats seats }
 {
@@ -87,10 +92,13 @@ fn make_book<C: Cache, N: Naming>(
     book: Book<C>,
 ) -> Kept<C, N>
     requires table { (table.now.table_id ≡ N.table) × (0 < table.now.table_id.words) }
-    requires first { (first.old.table_id ≡ N.table) × (first.old.me ≡ (first_view user N.terms.seats, [])) }
-    requires begins { (user_at N.terms.begins user ≡ Some book.opening) × IsEmptyCache book.opening }
+    requires first { (first.old.table_id ≡ N.table)
+        × (first.old.me ≡ (first_view user N.terms.seats, [])) }
+    requires begins { (user_at N.terms.begins user ≡ Some book.opening)
+        × IsEmptyCache book.opening }
     requires book { book ≡ fresh_book book.opening N.terms.seats }
-    ensures first { (first.new.table_id ≡ N.table) × (first.new.me ≡ (first_view (user + 1) N.terms.seats, [])) }
+    ensures first { (first.new.table_id ≡ N.table)
+        × (first.new.me ≡ (first_view (user + 1) N.terms.seats, [])) }
     ensures kept { result ≡ record { user = user; book = book; log = [] } }
 {
     let own = table.split_seat::<NewBook>(first);
@@ -112,9 +120,11 @@ fn make_books<C: Cache, N: Naming>(
     out: &mut Vec<Mutex<Kept<C, N>>>,
 ) -> Result<(), NoMemory>
     requires table { (table.now.table_id ≡ N.table) × (0 < table.now.table_id.words) }
-    requires first { (first.old.table_id ≡ N.table) × (first.old.me ≡ (first_view 1 N.terms.seats, [])) }
+    requires first { (first.old.table_id ≡ N.table)
+        × (first.old.me ≡ (first_view 1 N.terms.seats, [])) }
     requires seats { seats ≡ N.terms.seats }
-    requires begins { (map C.settled caches.items ≡ N.terms.begins) × All IsEmptyCache N.terms.begins }
+    requires begins { (map C.settled caches.items ≡ N.terms.begins)
+        × All IsEmptyCache N.terms.begins }
     requires few { length caches.items < 2 ^ 32 }
     requires room { (vec_len out.old ≡ 0) × (vec_len caches ≤ vec_capacity out.old) }
     ensures books { IfOk result (λ _. vec_len out.new ≡ vec_len caches) }

@@ -22,7 +22,9 @@ impl<N: Naming> Model for Seat<N> {
 
     ghost view = { λ s. record { number = s.number; notes = notes_of s.inner.me.0.seats } };
 
-    ghost invariant = { λ s. (s.inner.table_id ≡ N.table) × (s.number < N.terms.seats) × (s.inner.me ≡ (seat_view s.number (notes_of s.inner.me.0.seats), [])) };
+    ghost invariant = { λ s. (s.inner.table_id ≡ N.table)
+        × (s.number < N.terms.seats)
+        × (s.inner.me ≡ (seat_view s.number (notes_of s.inner.me.0.seats), [])) };
 }
 
 impl<N: Naming> Seat<N> {
@@ -35,7 +37,8 @@ impl<N: Naming> Seat<N> {
     }
 
     pub(crate) fn into_inner(self) -> TableSeat
-        ensures { (result.table_id ≡ N.table) × (result.me ≡ (seat_view self.number self.notes, [])) }
+        ensures { (result.table_id ≡ N.table)
+            × (result.me ≡ (seat_view self.number self.notes, [])) }
     {
         let Seat {
             inner,

@@ -1,6 +1,7 @@
 -- A search loop that comes to an item which passes, and one that goes past an item which does not.
 use Rattle.std.specs.Prelude.{option_map}
-use Rattle.std.proofs.Common.{◌≡◌, ℕ, zero, suc, ◌+◌, ◌<◌, Bool, true, false, cond, List, [], ◌∷◌, length, get_or, take, Option, Some, None, refl, arith, add-one}
+use Rattle.std.proofs.Common.{◌≡◌, ℕ, zero, suc, ◌+◌, ◌<◌, Bool, true, false, cond, List, [], ◌∷◌, length, get_or, take, Option}
+use Rattle.std.proofs.Common.{Some, None, refl, arith, add-one}
 use Rattle.tc_model.specs.Place.{first_place}
 
 none_here : (b : Bool) (o : Option ℕ) → cond b (Some zero) (option_map suc o) ≡ None → (b ≡ false) × (o ≡ None)

@@ -9,16 +9,19 @@ pub numbered-same : {L : Type 0} (c : ℕ) (l : L) (es : List (ℕ × L)) → nu
 numbered-same c l [] = grind (arith, nat_tests)
 numbered-same c l (e ∷ es) = grind (arith, nat_tests, numbered-same c l es)
 
-pub numbered-other : {L : Type 0} (c d : ℕ) (l : L) (es : List (ℕ × L)) → c ≢ d → numbered c (with_numbered d l es) ≡ numbered c es
+pub numbered-other : {L : Type 0} (c d : ℕ) (l : L) (es : List (ℕ × L)) → c ≢ d
+    → numbered c (with_numbered d l es) ≡ numbered c es
 numbered-other c d l [] ne = grind (arith, nat_tests)
 numbered-other c d l (e ∷ es) ne = grind (arith, nat_tests, numbered-other c d l es ne)
 
-pub slice_get-slice_set_same : {A : Type 0} (xs : List A) (i : ℕ) (x y : A) → slice_get xs i ≡ Some y → slice_get (slice_set xs i x) i ≡ Some x
+pub slice_get-slice_set_same : {A : Type 0} (xs : List A) (i : ℕ) (x y : A) → slice_get xs i ≡ Some y
+    → slice_get (slice_set xs i x) i ≡ Some x
 slice_get-slice_set_same [] i x y h = grind arith
 slice_get-slice_set_same (a ∷ xs) zero x y h = refl
 slice_get-slice_set_same (a ∷ xs) (suc i) x y h = slice_get-slice_set_same xs i x y h
 
-pub slice_get-slice_set_other : {A : Type 0} (xs : List A) (i j : ℕ) (x : A) → i ≢ j → slice_get (slice_set xs j x) i ≡ slice_get xs i
+pub slice_get-slice_set_other : {A : Type 0} (xs : List A) (i j : ℕ) (x : A) → i ≢ j
+    → slice_get (slice_set xs j x) i ≡ slice_get xs i
 slice_get-slice_set_other [] i j x ne = refl
 slice_get-slice_set_other (a ∷ xs) zero zero x ne = absurd (ne refl)
 slice_get-slice_set_other (a ∷ xs) zero (suc j) x ne = refl

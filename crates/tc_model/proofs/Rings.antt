@@ -24,23 +24,29 @@ pub linked_walk : (next prev : List ℕ) (a b : ℕ) (xs : List ℕ) → Linked 
 linked_walk next prev a b [] h = refl
 linked_walk next prev a b (x ∷ xs) h = rw h.0 (ap (λ t. x ∷ t) (linked_walk next prev x b xs h.2))
 
-pub linked_split : (next prev : List ℕ) (a b x : ℕ) (us vs : List ℕ) → Linked next prev a (us ++ x ∷ vs) b → Linked next prev a us x × Linked next prev x vs b
+pub linked_split : (next prev : List ℕ) (a b x : ℕ) (us vs : List ℕ) → Linked next prev a (us ++ x ∷ vs) b
+    → Linked next prev a us x × Linked next prev x vs b
 linked_split next prev a b x [] vs h = ((h.0, h.1), h.2)
 linked_split next prev a b x (u ∷ us) vs h = let rest = linked_split next prev u b x us vs h.2 in ((h.0, h.1, rest.0), rest.1)
 
-pub linked_join : (next prev : List ℕ) (a b x : ℕ) (us vs : List ℕ) → Linked next prev a us x → Linked next prev x vs b → Linked next prev a (us ++ x ∷ vs) b
+pub linked_join : (next prev : List ℕ) (a b x : ℕ) (us vs : List ℕ) → Linked next prev a us x → Linked next prev x vs b
+    → Linked next prev a (us ++ x ∷ vs) b
 linked_join next prev a b x [] vs h k = (h.0, h.1, k)
 linked_join next prev a b x (u ∷ us) vs h k = (h.0, h.1, linked_join next prev u b x us vs h.2 k)
 
 -- a write elsewhere changes no link
 
-pub linked-set_next : (next prev : List ℕ) (i v a b : ℕ) (xs : List ℕ) → i ≢ a → IsAway i xs → Linked next prev a xs b → Linked (slice_set next i v) prev a xs b
+pub linked-set_next : (next prev : List ℕ) (i v a b : ℕ) (xs : List ℕ) → i ≢ a → IsAway i xs → Linked next prev a xs b
+    → Linked (slice_set next i v) prev a xs b
 linked-set_next next prev i v a b [] ne away h = (index_other next i a v ne ∙ h.0, h.1)
-linked-set_next next prev i v a b (x ∷ xs) ne away h = (index_other next i a v ne ∙ h.0, h.1, linked-set_next next prev i v x b xs away.0 away.1 h.2)
+linked-set_next next prev i v a b (x ∷ xs) ne away h =
+    (index_other next i a v ne ∙ h.0, h.1, linked-set_next next prev i v x b xs away.0 away.1 h.2)
 
-pub linked-set_prev : (next prev : List ℕ) (i v a b : ℕ) (xs : List ℕ) → i ≢ b → IsAway i xs → Linked next prev a xs b → Linked next (slice_set prev i v) a xs b
+pub linked-set_prev : (next prev : List ℕ) (i v a b : ℕ) (xs : List ℕ) → i ≢ b → IsAway i xs → Linked next prev a xs b
+    → Linked next (slice_set prev i v) a xs b
 linked-set_prev next prev i v a b [] ne away h = (h.0, index_other prev i b v ne ∙ h.1)
-linked-set_prev next prev i v a b (x ∷ xs) ne away h = (h.0, index_other prev i x v away.0 ∙ h.1, linked-set_prev next prev i v x b xs ne away.1 h.2)
+linked-set_prev next prev i v a b (x ∷ xs) ne away h =
+    (h.0, index_other prev i x v away.0 ∙ h.1, linked-set_prev next prev i v x b xs ne away.1 h.2)
 
 -- membership
 
@@ -65,7 +71,13 @@ split [] x vs h = record { before = tt; behind = h.0; left = tt; right = h.1; re
 split (u ∷ us) x vs h =
     let s : IsSplit us x vs = split us x vs h.1 in
     let away = away_append u us (x ∷ vs) h.0 in
-    record { before = ((λ e. away.1.0 (sym e)), s.before); behind = s.behind; left = (away.0, s.left); right = s.right; rest = (away_both u us vs away.0 away.1.1, s.rest) }
+    record {
+      before = ((λ e. away.1.0 (sym e)), s.before);
+      behind = s.behind;
+      left = (away.0, s.left);
+      right = s.right;
+      rest = (away_both u us vs away.0 away.1.1, s.rest);
+    }
 
 pub below_append : (n : ℕ) (us vs : List ℕ) → AreBelow n (us ++ vs) → AreBelow n us × AreBelow n vs
 below_append n [] vs h = (tt, h)
@@ -76,32 +88,40 @@ below_both n [] vs h k = k
 below_both n (u ∷ us) vs h k = (h.0, below_both n us vs h.1 k)
 
 -- the last before x is a or one of us, so what is away from all of these is not it
-pub prev_away : (next prev : List ℕ) (a x z : ℕ) (us : List ℕ) → z ≢ a → IsAway z us → Linked next prev a us x → z ≢ slice_index prev x
+pub prev_away : (next prev : List ℕ) (a x z : ℕ) (us : List ℕ) → z ≢ a → IsAway z us → Linked next prev a us x
+    → z ≢ slice_index prev x
 prev_away next prev a x z [] ne away h = λ e. ne (e ∙ h.1)
 prev_away next prev a x z (u ∷ us) ne away h = prev_away next prev u x z us away.0 away.1 h.2
 
-prev_away_list : (next prev : List ℕ) (a x : ℕ) (us zs : List ℕ) → AreDistinct (a ∷ (us ++ x ∷ zs)) → Linked next prev a us x → IsAway (slice_index prev x) zs
+prev_away_list : (next prev : List ℕ) (a x : ℕ) (us zs : List ℕ) → AreDistinct (a ∷ (us ++ x ∷ zs)) → Linked next prev a us x
+    → IsAway (slice_index prev x) zs
 prev_away_list next prev a x [] zs d h = subst (λ p. IsAway p zs) (sym h.1) d.0.1
 prev_away_list next prev a x (u ∷ us) zs d h = prev_away_list next prev u x us zs d.1 h.2
 
 -- the last before x is linked to y in place of x
-relink : (next prev : List ℕ) (a x y : ℕ) (us : List ℕ) → AreDistinct (a ∷ us) → IsAway y us → AreBelow (length next) (a ∷ us) → y < length prev → Linked next prev a us x
+relink : (next prev : List ℕ) (a x y : ℕ) (us : List ℕ) → AreDistinct (a ∷ us) → IsAway y us → AreBelow (length next) (a ∷ us)
+    → y < length prev → Linked next prev a us x
     → Linked (slice_set next (slice_index prev x) y) (slice_set prev y (slice_index prev x)) a us y
 relink next prev a x y [] d away below yl h = rw h.1 (index_same next a y below.0, index_same prev y a yl)
 relink next prev a x y (u ∷ us) d away below yl h =
-    let ne : a ≢ slice_index prev x = prev_away next prev u x a us d.0.0 d.0.1 h.2 in
-    (index_other next (slice_index prev x) a y (λ e. ne (sym e)) ∙ h.0, index_other prev y u (slice_index prev x) away.0 ∙ h.1, relink next prev u x y us d.1 away.1 below.1 yl h.2)
+    let ne : a ≢ slice_index prev x = prev_away next prev u x a us d.0.0 d.0.1 h.2 in (
+      index_other next (slice_index prev x) a y (λ e. ne (sym e)) ∙ h.0,
+      index_other prev y u (slice_index prev x) away.0 ∙ h.1,
+      relink next prev u x y us d.1 away.1 below.1 yl h.2,
+    )
 
 -- a node is taken out
 pub linked_cut : (next prev : List ℕ) (a x : ℕ) (us vs : List ℕ) → IsRing next prev a (us ++ x ∷ vs)
-    → Linked (slice_set next (slice_index prev x) (slice_index next x)) (slice_set prev (slice_index next x) (slice_index prev x)) a (us ++ vs) a
+    → Linked (slice_set next (slice_index prev x) (slice_index next x))
+    (slice_set prev (slice_index next x) (slice_index prev x)) a (us ++ vs) a
 linked_cut next prev a x us [] ring =
     let both = linked_split next prev a a x us [] ring.linked in
     let away = away_append a us (x ∷ []) ring.distinct.0 in
     let s : IsSplit us x [] = split us x [] ring.distinct.1 in
     let below = below_append (length next) us (x ∷ []) ring.below.1 in
     let al : a < length prev = omega (arith, ring.long, ring.below.0) in
-    let done : Linked (slice_set next (slice_index prev x) a) (slice_set prev a (slice_index prev x)) a us a = relink next prev a x a us (away.0, s.left) away.0 (ring.below.0, below.0) al both.0 in
+    let done : Linked (slice_set next (slice_index prev x) a) (slice_set prev a (slice_index prev x)) a us a =
+    relink next prev a x a us (away.0, s.left) away.0 (ring.below.0, below.0) al both.0 in
     rw (both.1.0, append_end us) done
   where
     append_end : (y : List ℕ) → y ++ [] ≡ y
@@ -115,22 +135,32 @@ linked_cut next prev a x us (y ∷ ys) ring =
     let below = below_append (length next) us (x ∷ y ∷ ys) ring.below.1 in
     let yl : y < length prev = omega (arith, ring.long, below.1.1.0) in
     let l : ℕ = slice_index prev x in
-    let front : Linked (slice_set next l y) (slice_set prev y l) a us y = relink next prev a x y us (away.0, s.left) s2.before (ring.below.0, below.0) yl both.0 in
+    let front : Linked (slice_set next l y) (slice_set prev y l) a us y =
+    relink next prev a x y us (away.0, s.left) s2.before (ring.below.0, below.0) yl both.0 in
     let far : IsAway l (y ∷ ys) = prev_away_list next prev a x us (y ∷ ys) ring.distinct both.0 in
     let ya : y ≢ a = λ e. away.1.1.0 (sym e) in
-    let back : Linked (slice_set next l y) (slice_set prev y l) y ys a = linked-set_prev (slice_set next l y) prev y l y a ys ya s2.behind (linked-set_next next prev l y y a ys far.0 far.1 both.1.2) in
+    let back : Linked (slice_set next l y) (slice_set prev y l) y ys a =
+    linked-set_prev (slice_set next l y) prev y l y a ys ya s2.behind
+    (linked-set_next next prev l y y a ys far.0 far.1 both.1.2) in
     rw both.1.0 (linked_join (slice_set next l y) (slice_set prev y l) a a y us ys front back)
 
 pub ring_cut : (next prev : List ℕ) (a x : ℕ) (us vs : List ℕ) → IsRing next prev a (us ++ x ∷ vs)
-    → IsRing (slice_set next (slice_index prev x) (slice_index next x)) (slice_set prev (slice_index next x) (slice_index prev x)) a (us ++ vs)
+    → IsRing (slice_set next (slice_index prev x) (slice_index next x))
+    (slice_set prev (slice_index next x) (slice_index prev x)) a (us ++ vs)
 ring_cut next prev a x us vs ring =
     let away = away_append a us (x ∷ vs) ring.distinct.0 in
     let below = below_append (length next) us (x ∷ vs) ring.below.1 in
     record {
       linked = linked_cut next prev a x us vs ring;
       distinct = (away_both a us vs away.0 away.1.1, (split us x vs ring.distinct.1).rest);
-      below = subst (λ n. AreBelow n (a ∷ (us ++ vs))) (sym (length-slice_set next (slice_index prev x) (slice_index next x))) (ring.below.0, below_both (length next) us vs below.0 below.1.1);
-      long = rw (length-slice_set next (slice_index prev x) (slice_index next x), length-slice_set prev (slice_index next x) (slice_index prev x)) ring.long;
+      below =
+          subst (λ n. AreBelow n (a ∷ (us ++ vs))) (sym (length-slice_set next (slice_index prev x) (slice_index next x)))
+          (ring.below.0, below_both (length next) us vs below.0 below.1.1);
+      long =
+          rw (
+            length-slice_set next (slice_index prev x) (slice_index next x),
+            length-slice_set prev (slice_index next x) (slice_index prev x),
+          ) ring.long;
     }
 
 -- a node is put in behind another
@@ -148,8 +178,10 @@ record Fresh (next prev : List ℕ) (before at b : ℕ) (vs : List ℕ) : Type 0
   below : AreBelow (length prev) vs
   end_below : b < length prev
 
-linked_put_here : (next prev : List ℕ) (before at b : ℕ) (vs : List ℕ) → Fresh next prev before at b vs → Linked next prev before vs b
-    → Linked (slice_set (slice_set next before at) at (slice_index next before)) (slice_set (slice_set prev at before) (slice_index next before) at) before (at ∷ vs) b
+linked_put_here : (next prev : List ℕ) (before at b : ℕ) (vs : List ℕ) → Fresh next prev before at b vs
+    → Linked next prev before vs b
+    → Linked (slice_set (slice_set next before at) at (slice_index next before))
+    (slice_set (slice_set prev at before) (slice_index next before) at) before (at ∷ vs) b
 linked_put_here next prev before at b [] f h = rw h.0 (
   index_other (slice_set next before at) at before b f.apart ∙ index_same next before at f.before_next,
   index_other (slice_set prev at before) b at at (λ e. f.stop (sym e)) ∙ index_same prev at before f.at_prev,
@@ -158,25 +190,30 @@ linked_put_here next prev before at b [] f h = rw h.0 (
     index_same (slice_set prev at before) b at (omega (arith, f.end_below, length-slice_set prev at before)),
   ),
 )
-linked_put_here next prev before at b (y ∷ ys) f h = subst (λ z. Linked (slice_set (slice_set next before at) at z) (slice_set (slice_set prev at before) z at) before (at ∷ y ∷ ys) b) (sym h.0) (
-  index_other (slice_set next before at) at before y f.apart ∙ index_same next before at f.before_next,
-  index_other (slice_set prev at before) y at at (λ e. f.new.0 (sym e)) ∙ index_same prev at before f.at_prev,
-  (
-    index_same (slice_set next before at) at y (omega (arith, f.at_next, length-slice_set next before at)),
-    index_same (slice_set prev at before) y at (omega (arith, f.below.0, length-slice_set prev at before)),
-    linked-set_prev (slice_set (slice_set next before at) at y) (slice_set prev at before) y at y b ys (λ e. f.end.0 (sym e)) f.distinct.0
-        (linked-set_prev (slice_set (slice_set next before at) at y) prev at before y b ys f.stop f.new.1
-        (linked-set_next (slice_set next before at) prev at y y b ys f.new.0 f.new.1
-        (linked-set_next next prev before at y b ys f.away.0 f.away.1 h.2))),
-  ),
-)
+linked_put_here next prev before at b (y ∷ ys) f h =
+    subst
+    (λ z. Linked (slice_set (slice_set next before at) at z) (slice_set (slice_set prev at before) z at) before (at ∷ y ∷ ys) b)
+    (sym h.0) (
+      index_other (slice_set next before at) at before y f.apart ∙ index_same next before at f.before_next,
+      index_other (slice_set prev at before) y at at (λ e. f.new.0 (sym e)) ∙ index_same prev at before f.at_prev,
+      (
+        index_same (slice_set next before at) at y (omega (arith, f.at_next, length-slice_set next before at)),
+        index_same (slice_set prev at before) y at (omega (arith, f.below.0, length-slice_set prev at before)),
+        linked-set_prev (slice_set (slice_set next before at) at y) (slice_set prev at before) y at y b ys
+            (λ e. f.end.0 (sym e)) f.distinct.0
+            (linked-set_prev (slice_set (slice_set next before at) at y) prev at before y b ys f.stop f.new.1
+            (linked-set_next (slice_set next before at) prev at y y b ys f.new.0 f.new.1
+            (linked-set_next next prev before at y b ys f.away.0 f.away.1 h.2))),
+      ),
+    )
 
 -- the one behind x is away from what all of vs and b are away from
 next_ne : (next prev : List ℕ) (x z b : ℕ) (vs : List ℕ) → z ≢ b → IsAway z vs → Linked next prev x vs b → slice_index next x ≢ z
 next_ne next prev x z b [] ne away h = λ e. ne (sym e ∙ h.0)
 next_ne next prev x z b (v ∷ vs) ne away h = λ e. away.0 (sym e ∙ h.0)
 
-next_away : (next prev : List ℕ) (x b : ℕ) (us vs : List ℕ) → IsAway b us → AreDistinct (us ++ x ∷ vs) → Linked next prev x vs b → IsAway (slice_index next x) us
+next_away : (next prev : List ℕ) (x b : ℕ) (us vs : List ℕ) → IsAway b us → AreDistinct (us ++ x ∷ vs) → Linked next prev x vs b
+    → IsAway (slice_index next x) us
 next_away next prev x b [] vs ab d h = tt
 next_away next prev x b (u ∷ us) vs ab d h =
     let away = away_append u us (x ∷ vs) d.0 in
@@ -192,7 +229,8 @@ long_below : (m n : ℕ) (xs : List ℕ) → m ≡ n → AreBelow n xs → AreBe
 long_below m n xs e h = subst (λ k. AreBelow k xs) (sym e) h
 
 pub ring_put_first : (next prev : List ℕ) (a at : ℕ) (xs : List ℕ) → IsRing next prev a xs → IsFree next at a xs
-    → IsRing (slice_set (slice_set next a at) at (slice_index next a)) (slice_set (slice_set prev at a) (slice_index next a) at) a (at ∷ xs)
+    → IsRing (slice_set (slice_set next a at) at (slice_index next a)) (slice_set (slice_set prev at a) (slice_index next a) at) a
+    (at ∷ xs)
 ring_put_first next prev a at xs ring free = record {
   linked = linked_put_here next prev a at a xs (record {
     apart = free.first;
@@ -208,18 +246,32 @@ ring_put_first next prev a at xs ring free = record {
     end_below = omega (arith, ring.below.0, ring.long);
   }) ring.linked;
   distinct = (((λ e. free.first (sym e)), ring.distinct.0), (free.others, ring.distinct.1));
-  below = subst (λ n. AreBelow n (a ∷ at ∷ xs)) (sym (length-slice_set (slice_set next a at) at (slice_index next a) ∙ length-slice_set next a at)) (ring.below.0, (free.within, ring.below.1));
-  long = omega (arith, ring.long, length-slice_set (slice_set next a at) at (slice_index next a), length-slice_set next a at, length-slice_set (slice_set prev at a) (slice_index next a) at, length-slice_set prev at a);
+  below =
+      subst (λ n. AreBelow n (a ∷ at ∷ xs))
+      (sym (length-slice_set (slice_set next a at) at (slice_index next a) ∙ length-slice_set next a at))
+      (ring.below.0, (free.within, ring.below.1));
+  long =
+      omega (
+        arith,
+        ring.long,
+        length-slice_set (slice_set next a at) at (slice_index next a),
+        length-slice_set next a at,
+        length-slice_set (slice_set prev at a) (slice_index next a) at,
+        length-slice_set prev at a,
+      );
 }
 
-distinct_put : (us : List ℕ) (x at : ℕ) (vs : List ℕ) → IsAway at (us ++ x ∷ vs) → AreDistinct (us ++ x ∷ vs) → AreDistinct (us ++ x ∷ at ∷ vs)
+distinct_put : (us : List ℕ) (x at : ℕ) (vs : List ℕ) → IsAway at (us ++ x ∷ vs) → AreDistinct (us ++ x ∷ vs)
+    → AreDistinct (us ++ x ∷ at ∷ vs)
 distinct_put [] x at vs away d = (((λ e. away.0 (sym e)), d.0), (away.1, d.1))
 distinct_put (u ∷ us) x at vs away d =
     let both = away_append u us (x ∷ vs) d.0 in
     (away_both u us (x ∷ at ∷ vs) both.0 (both.1.0, ((λ e. away.0 (sym e)), both.1.1)), distinct_put us x at vs away.1 d.1)
 
-pub ring_put : (next prev : List ℕ) (a before at : ℕ) (us vs : List ℕ) → IsRing next prev a (us ++ before ∷ vs) → IsFree next at a (us ++ before ∷ vs)
-    → IsRing (slice_set (slice_set next before at) at (slice_index next before)) (slice_set (slice_set prev at before) (slice_index next before) at) a (us ++ before ∷ at ∷ vs)
+pub ring_put : (next prev : List ℕ) (a before at : ℕ) (us vs : List ℕ) → IsRing next prev a (us ++ before ∷ vs)
+    → IsFree next at a (us ++ before ∷ vs)
+    → IsRing (slice_set (slice_set next before at) at (slice_index next before))
+    (slice_set (slice_set prev at before) (slice_index next before) at) a (us ++ before ∷ at ∷ vs)
 ring_put next prev a before at us vs ring free =
     let both = linked_split next prev a a before us vs ring.linked in
     let s : IsSplit us before vs = split us before vs ring.distinct.1 in
@@ -254,7 +306,21 @@ ring_put next prev a before at us vs ring free =
     (linked-set_next next prev before at a before us ba s.before both.0))) in
     record {
       linked = linked_join n2 p2 a a before us (at ∷ vs) front back;
-      distinct = (away_both a us (before ∷ at ∷ vs) away.0 (away.1.0, ((λ e. free.first (sym e)), away.1.1)), distinct_put us before at vs free.others ring.distinct.1);
-      below = subst (λ n. AreBelow n (a ∷ (us ++ before ∷ at ∷ vs))) (sym (length-slice_set n1 at after ∙ length-slice_set next before at)) (ring.below.0, below_both (length next) us (before ∷ at ∷ vs) below.0 (below.1.0, (free.within, below.1.1)));
-      long = omega (arith, ring.long, length-slice_set n1 at after, length-slice_set next before at, length-slice_set p1 after at, length-slice_set prev at before);
+      distinct = (
+        away_both a us (before ∷ at ∷ vs) away.0 (away.1.0, ((λ e. free.first (sym e)), away.1.1)),
+        distinct_put us before at vs free.others ring.distinct.1,
+      );
+      below =
+          subst (λ n. AreBelow n (a ∷ (us ++ before ∷ at ∷ vs)))
+          (sym (length-slice_set n1 at after ∙ length-slice_set next before at))
+          (ring.below.0, below_both (length next) us (before ∷ at ∷ vs) below.0 (below.1.0, (free.within, below.1.1)));
+      long =
+          omega (
+            arith,
+            ring.long,
+            length-slice_set n1 at after,
+            length-slice_set next before at,
+            length-slice_set p1 after at,
+            length-slice_set prev at before,
+          );
     }

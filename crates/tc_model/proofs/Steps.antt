@@ -2,10 +2,12 @@
 use Rattle.std.specs.Prelude.{nat_lt, reverse, sum_by, ◌&&◌}
 use Rattle.std.specs.List.{list_all}
 use mathlib.Core.List.{reverse_aux}
-use Rattle.std.proofs.Common.{◌≡◌, ℕ, zero, suc, ◌+◌, ◌-◌, ◌<◌, ◌≤◌, Bool, true, false, cond, List, [], ◌∷◌, ◌++◌, length, take, refl, sym, ◌∙◌, ap, arith, append_assoc, length-append}
+use Rattle.std.proofs.Common.{◌≡◌, ℕ, zero, suc, ◌+◌, ◌-◌, ◌<◌, ◌≤◌, Bool, true, false, cond, List, [], ◌∷◌, ◌++◌, length, take}
+use Rattle.std.proofs.Common.{refl, sym, ◌∙◌, ap, arith, append_assoc, length-append}
 use Rattle.std.proofs.lemmas.Bool.{le-ltb}
 use Rattle.std.proofs.lemmas.List.Sums.{sum_by-cons, sum_by_push}
-use Rattle.tc_model.specs.Areas.{Areas, Limits, Settled, fitting, beyond, shortest, demoted, trimmed, victims, admitted, all_admitted, and_then, entered, narrowed, without_last, from_tail, main_weight, settle}
+use Rattle.tc_model.specs.Areas.{Areas, Limits, Settled, fitting, beyond, shortest, demoted, trimmed, victims, admitted}
+use Rattle.tc_model.specs.Areas.{all_admitted, and_then, entered, narrowed, without_last, from_tail, main_weight, settle}
 use Rattle.tc_model.proofs.Last.{fitting_last, beyond_last, shortest_more, fitting_all}
 
 abbrev pub areas_by : {A : Type 0} → List A → List A → List A → Areas A
@@ -17,17 +19,22 @@ and_parts false b h = absurd (cc)
 
 module _ {A : Type 0} where
   -- rule 1: the last of protected goes to the front of probation
-  pub settle_demotes : (weigh freq : A → ℕ) (l : Limits) (w p q : List A) (y : A) → l.protected < sum_by weigh (q ++ y ∷ []) → settle weigh freq l (areas_by w p (q ++ y ∷ [])) ≡ settle weigh freq l (areas_by w (y ∷ p) q)
+  pub settle_demotes : (weigh freq : A → ℕ) (l : Limits) (w p q : List A) (y : A) → l.protected < sum_by weigh (q ++ y ∷ [])
+      → settle weigh freq l (areas_by w p (q ++ y ∷ [])) ≡ settle weigh freq l (areas_by w (y ∷ p) q)
   settle_demotes weigh freq l w p q y h =
       let same : demoted weigh l (areas_by w p (q ++ y ∷ [])) ≡ demoted weigh l (areas_by w (y ∷ p) q) =
       ap (λ t. areas_by w (t ++ p) (fitting weigh l.protected (q ++ y ∷ []))) (beyond_last weigh l.protected q y h)
       ∙ ap (λ t. areas_by w t (fitting weigh l.protected (q ++ y ∷ []))) (append_assoc (beyond weigh l.protected q) (y ∷ []) p)
       ∙ ap (λ t. areas_by w (beyond weigh l.protected q ++ y ∷ p) t) (fitting_last weigh l.protected q y h) in
-      ap (λ z. let s = trimmed weigh l z in and_then s.dropped (all_admitted weigh freq l (narrowed (fitting weigh l.window w) s.areas) (reverse (beyond weigh l.window w)))) same
+      ap (λ z. let s = trimmed weigh l z in
+      and_then s.dropped
+      (all_admitted weigh freq l (narrowed (fitting weigh l.window w) s.areas) (reverse (beyond weigh l.window w)))) same
 
   pub beyond_none : (w : A → ℕ) (room : ℕ) (xs : List A) → sum_by w xs ≤ room → beyond w room xs ≡ []
   beyond_none w room [] h = refl
-  beyond_none w room (x ∷ xs) h = rw (le-ltb room (w x) (omega (arith, sum_by-cons w x xs))) (beyond_none w (room - w x) xs (omega (arith, sum_by-cons w x xs)))
+  beyond_none w room (x ∷ xs) h =
+      rw (le-ltb room (w x) (omega (arith, sum_by-cons w x xs)))
+      (beyond_none w (room - w x) xs (omega (arith, sum_by-cons w x xs)))
 
   abbrev empty_list : List A
   empty_list = []
@@ -55,10 +62,14 @@ module _ {A : Type 0} where
   same3 a x b y c z e f g = cc
 
   demoted_none : (weigh : A → ℕ) (l : Limits) (a : Areas A) → sum_by weigh a.protected ≤ l.protected → demoted weigh l a ≡ a
-  demoted_none weigh l a h = same3 _ _ _ _ _ _ refl (ap (λ t. t ++ a.probation) (beyond_none weigh l.protected a.protected h)) (fitting_all weigh l.protected a.protected h)
+  demoted_none weigh l a h =
+      same3 _ _ _ _ _ _ refl (ap (λ t. t ++ a.probation) (beyond_none weigh l.protected a.protected h))
+      (fitting_all weigh l.protected a.protected h)
 
   pub without_none : (a : Areas A) → without_last 0 a ≡ a
-  without_none a = same3 _ _ _ _ _ _ refl (take_all a.probation (length a.probation - 0) (omega arith)) (take_all a.protected (length a.protected - (0 - length a.probation)) (omega arith))
+  without_none a =
+      same3 _ _ _ _ _ _ refl (take_all a.probation (length a.probation - 0) (omega arith))
+      (take_all a.protected (length a.protected - (0 - length a.probation)) (omega arith))
 
   abbrev pub settled_by : Areas A → List A → Settled A
   settled_by a d = record { areas = a; dropped = d }
@@ -67,17 +78,23 @@ module _ {A : Type 0} where
   trimmed_none weigh l a h =
       let no : main_weight weigh a - l.main ≡ 0 = omega arith in
       ap (λ n. settled_by (without_last (length (shortest weigh n (from_tail a))) a) (shortest weigh n (from_tail a))) no
-      ∙ ap (λ g. settled_by (without_last (length g) a) g) (none_shortest weigh (from_tail a)) ∙ ap (λ z. settled_by z []) (without_none a)
+      ∙ ap (λ g. settled_by (without_last (length g) a) g) (none_shortest weigh (from_tail a))
+      ∙ ap (λ z. settled_by z []) (without_none a)
 
   -- the candidates of areas, once main is as it is
   abbrev pub candidates_of : (A → ℕ) → (A → ℕ) → Limits → List A → Settled A → Settled A
-  candidates_of weigh freq l window s = and_then s.dropped (all_admitted weigh freq l (narrowed (fitting weigh l.window window) s.areas) (reverse (beyond weigh l.window window)))
+  candidates_of weigh freq l window s =
+      and_then s.dropped
+      (all_admitted weigh freq l (narrowed (fitting weigh l.window window) s.areas) (reverse (beyond weigh l.window window)))
 
-  pub settle_trimmed : (weigh freq : A → ℕ) (l : Limits) (a : Areas A) → sum_by weigh a.protected ≤ l.protected → settle weigh freq l a ≡ candidates_of weigh freq l a.window (trimmed weigh l a)
+  pub settle_trimmed : (weigh freq : A → ℕ) (l : Limits) (a : Areas A) → sum_by weigh a.protected ≤ l.protected
+      → settle weigh freq l a ≡ candidates_of weigh freq l a.window (trimmed weigh l a)
   settle_trimmed weigh freq l a h = ap (λ z. candidates_of weigh freq l a.window (trimmed weigh l z)) (demoted_none weigh l a h)
 
-  pub settle_main : (weigh freq : A → ℕ) (l : Limits) (a : Areas A) → sum_by weigh a.protected ≤ l.protected → main_weight weigh a ≤ l.main → settle weigh freq l a ≡ candidates_of weigh freq l a.window (settled_by a [])
-  settle_main weigh freq l a h m = settle_trimmed weigh freq l a h ∙ ap (λ s. candidates_of weigh freq l a.window s) (trimmed_none weigh l a m)
+  pub settle_main : (weigh freq : A → ℕ) (l : Limits) (a : Areas A) → sum_by weigh a.protected ≤ l.protected
+      → main_weight weigh a ≤ l.main → settle weigh freq l a ≡ candidates_of weigh freq l a.window (settled_by a [])
+  settle_main weigh freq l a h m =
+      settle_trimmed weigh freq l a h ∙ ap (λ s. candidates_of weigh freq l a.window s) (trimmed_none weigh l a m)
 
   -- b is a without the last of main, v
   pub record Popped (weigh : A → ℕ) (a : Areas A) (v : A) (b : Areas A) : Type 0 where
@@ -94,7 +111,10 @@ module _ {A : Type 0} where
   pub popped_probation : (weigh : A → ℕ) (w p q : List A) (v : A) → Popped weigh (areas_by w (p ++ v ∷ []) q) v (areas_by w p q)
   popped_probation weigh w p q v = record {
     tail = ap (λ t. t ++ reverse q) (reverse_last p [] v);
-    last = λ n. same3 _ _ _ _ _ _ refl (ap (λ k. take k (p ++ v ∷ [])) (less p n) ∙ take_front p (v ∷ []) (length p - n) (omega arith)) (ap (λ k. take (length q - k) q) (rest p n));
+    last =
+        λ n. same3 _ _ _ _ _ _ refl
+        (ap (λ k. take k (p ++ v ∷ [])) (less p n) ∙ take_front p (v ∷ []) (length p - n) (omega arith))
+        (ap (λ k. take (length q - k) q) (rest p n));
     main = omega (arith, sum_by_push weigh p v);
     window = refl;
     protected = omega arith;
@@ -109,7 +129,9 @@ module _ {A : Type 0} where
   pub popped_protected : (weigh : A → ℕ) (w q : List A) (v : A) → Popped weigh (areas_by w [] (q ++ v ∷ [])) v (areas_by w [] q)
   popped_protected weigh w q v = record {
     tail = reverse_last q [] v;
-    last = λ n. same3 _ _ _ _ _ _ refl (take_none (0 - suc n) ∙ sym (take_none (0 - n))) (ap (λ k. take k (q ++ v ∷ [])) (less q n) ∙ take_front q (v ∷ []) (length q - (n - 0)) (omega arith));
+    last =
+        λ n. same3 _ _ _ _ _ _ refl (take_none (0 - suc n) ∙ sym (take_none (0 - n)))
+        (ap (λ k. take k (q ++ v ∷ [])) (less q n) ∙ take_front q (v ∷ []) (length q - (n - 0)) (omega arith));
     main = omega (arith, sum_by_push weigh q v);
     window = refl;
     protected = omega (arith, sum_by_push weigh q v);
@@ -118,19 +140,25 @@ module _ {A : Type 0} where
       less : (q : List A) (n : ℕ) → length (q ++ v ∷ []) - (suc n - 0) ≡ length q - (n - 0)
       less q n = omega (arith, length-append q (v ∷ []))
 
-  shortest_popped : (weigh : A → ℕ) (need : ℕ) (a b : Areas A) (v : A) → Popped weigh a v b → 0 < need → shortest weigh need (from_tail a) ≡ v ∷ shortest weigh (need - weigh v) (from_tail b)
+  shortest_popped : (weigh : A → ℕ) (need : ℕ) (a b : Areas A) (v : A) → Popped weigh a v b → 0 < need
+      → shortest weigh need (from_tail a) ≡ v ∷ shortest weigh (need - weigh v) (from_tail b)
   shortest_popped weigh need a b v pop h = ap (λ t. shortest weigh need t) pop.tail ∙ shortest_more weigh need v (from_tail b) h
 
-  trimmed_popped : (weigh : A → ℕ) (l : Limits) (a b : Areas A) (v : A) → Popped weigh a v b → l.main < main_weight weigh a → trimmed weigh l a ≡ and_then (v ∷ []) (trimmed weigh l b)
+  trimmed_popped : (weigh : A → ℕ) (l : Limits) (a b : Areas A) (v : A) → Popped weigh a v b → l.main < main_weight weigh a
+      → trimmed weigh l a ≡ and_then (v ∷ []) (trimmed weigh l b)
   trimmed_popped weigh l a b v pop h =
       let need : 0 < main_weight weigh a - l.main = omega arith in
       let less : main_weight weigh a - l.main - weigh v ≡ main_weight weigh b - l.main = omega (arith, pop.main) in
-      let gone : shortest weigh (main_weight weigh a - l.main) (from_tail a) ≡ v ∷ shortest weigh (main_weight weigh b - l.main) (from_tail b)
+      let gone : shortest weigh (main_weight weigh a - l.main) (from_tail a)
+      ≡ v ∷ shortest weigh (main_weight weigh b - l.main) (from_tail b)
       = shortest_popped weigh (main_weight weigh a - l.main) a b v pop need ∙ ap (λ k. v ∷ shortest weigh k (from_tail b)) less in
-      ap (λ g. settled_by (without_last (length g) a) g) gone ∙ ap (λ z. settled_by z (v ∷ shortest weigh (main_weight weigh b - l.main) (from_tail b))) (pop.last (length (shortest weigh (main_weight weigh b - l.main) (from_tail b))))
+      ap (λ g. settled_by (without_last (length g) a) g) gone
+      ∙ ap (λ z. settled_by z (v ∷ shortest weigh (main_weight weigh b - l.main) (from_tail b)))
+      (pop.last (length (shortest weigh (main_weight weigh b - l.main) (from_tail b))))
 
   -- rule 2: the last of main is dropped
-  pub settle_trims : (weigh freq : A → ℕ) (l : Limits) (a b : Areas A) (v : A) → Popped weigh a v b → sum_by weigh a.protected ≤ l.protected → l.main < main_weight weigh a
+  pub settle_trims : (weigh freq : A → ℕ) (l : Limits) (a b : Areas A) (v : A) → Popped weigh a v b
+      → sum_by weigh a.protected ≤ l.protected → l.main < main_weight weigh a
       → settle weigh freq l a ≡ and_then (v ∷ []) (settle weigh freq l b)
   settle_trims weigh freq l a b v pop h m =
       settle_trimmed weigh freq l a h ∙ ap (λ s. candidates_of weigh freq l a.window s) (trimmed_popped weigh l a b v pop m)
@@ -142,37 +170,52 @@ module _ {A : Type 0} where
   first_of weigh freq l w c s = and_then s.dropped (all_admitted weigh freq l s.areas (reverse (beyond weigh l.window w)))
 
   pub candidate : (weigh freq : A → ℕ) (l : Limits) (w p q : List A) (c : A) → l.window < sum_by weigh (w ++ c ∷ [])
-      → candidates_of weigh freq l (w ++ c ∷ []) (settled_by (areas_by (w ++ c ∷ []) p q) []) ≡ first_of weigh freq l w c (admitted freq c (areas_by (fitting weigh l.window w) p q) (victims weigh l (areas_by (fitting weigh l.window w) p q) c))
+      → candidates_of weigh freq l (w ++ c ∷ []) (settled_by (areas_by (w ++ c ∷ []) p q) [])
+      ≡ first_of weigh freq l w c (admitted freq c (areas_by (fitting weigh l.window w) p q)
+      (victims weigh l (areas_by (fitting weigh l.window w) p q) c))
   candidate weigh freq l w p q c x =
-      ap (λ t. all_admitted weigh freq l (areas_by t p q) (reverse (beyond weigh l.window (w ++ c ∷ [])))) (fitting_last weigh l.window w c x)
-      ∙ ap (λ t. all_admitted weigh freq l (areas_by (fitting weigh l.window w) p q) (reverse t)) (beyond_last weigh l.window w c x)
-      ∙ ap (λ t. all_admitted weigh freq l (areas_by (fitting weigh l.window w) p q) t) (reverse_last (beyond weigh l.window w) [] c)
+      ap (λ t. all_admitted weigh freq l (areas_by t p q) (reverse (beyond weigh l.window (w ++ c ∷ []))))
+      (fitting_last weigh l.window w c x)
+      ∙ ap (λ t. all_admitted weigh freq l (areas_by (fitting weigh l.window w) p q) (reverse t))
+      (beyond_last weigh l.window w c x)
+      ∙ ap (λ t. all_admitted weigh freq l (areas_by (fitting weigh l.window w) p q) t)
+      (reverse_last (beyond weigh l.window w) [] c)
 
   -- rule 3, where main has room: the last of the window enters
-  pub settle_enters : (weigh freq : A → ℕ) (l : Limits) (w p q : List A) (c : A) → sum_by weigh q ≤ l.protected → main_weight weigh (areas_by w p q) + weigh c ≤ l.main → l.window < sum_by weigh (w ++ c ∷ [])
+  pub settle_enters : (weigh freq : A → ℕ) (l : Limits) (w p q : List A) (c : A) → sum_by weigh q ≤ l.protected
+      → main_weight weigh (areas_by w p q) + weigh c ≤ l.main → l.window < sum_by weigh (w ++ c ∷ [])
       → settle weigh freq l (areas_by (w ++ c ∷ []) p q) ≡ settle weigh freq l (areas_by w (c ∷ p) q)
   settle_enters weigh freq l w p q c h m x =
       let window : List A = fitting weigh l.window w in
       let none : main_weight weigh (areas_by window p q) + weigh c - l.main ≡ 0 = omega arith in
-      let no : victims weigh l (areas_by window p q) c ≡ [] = ap (λ n. shortest weigh n (from_tail (areas_by window p q))) none ∙ none_shortest weigh (from_tail (areas_by window p q)) in
+      let no : victims weigh l (areas_by window p q) c ≡ [] =
+      ap (λ n. shortest weigh n (from_tail (areas_by window p q))) none
+      ∙ none_shortest weigh (from_tail (areas_by window p q)) in
       settle_main weigh freq l (areas_by (w ++ c ∷ []) p q) h (omega arith) ∙ candidate weigh freq l w p q c x
       ∙ ap (λ vs. first_of weigh freq l w c (admitted freq c (areas_by window p q) vs)) no
       ∙ ap (λ z. all_admitted weigh freq l (entered c z) (reverse (beyond weigh l.window w))) (without_none (areas_by window p q))
       ∙ sym (settle_main weigh freq l (areas_by w (c ∷ p) q) h (omega (arith, sum_by-cons weigh c p)))
 
   -- rule 3, where it is refused
-  pub settle_refuses : (weigh freq : A → ℕ) (l : Limits) (w p q : List A) (c : A) → sum_by weigh q ≤ l.protected → main_weight weigh (areas_by w p q) ≤ l.main → l.window < sum_by weigh (w ++ c ∷ [])
+  pub settle_refuses : (weigh freq : A → ℕ) (l : Limits) (w p q : List A) (c : A) → sum_by weigh q ≤ l.protected
+      → main_weight weigh (areas_by w p q) ≤ l.main → l.window < sum_by weigh (w ++ c ∷ [])
       → list_all (λ v. nat_lt (freq v) (freq c)) (victims weigh l (areas_by w p q) c) ≡ false
       → settle weigh freq l (areas_by (w ++ c ∷ []) p q) ≡ and_then (c ∷ []) (settle weigh freq l (areas_by w p q))
   settle_refuses weigh freq l w p q c h m x lost =
       let window : List A = fitting weigh l.window w in
       settle_main weigh freq l (areas_by (w ++ c ∷ []) p q) h m ∙ candidate weigh freq l w p q c x
-      ∙ ap (λ b. first_of weigh freq l w c (cond b (settled_by (entered c (without_last (length (victims weigh l (areas_by window p q) c)) (areas_by window p q))) (victims weigh l (areas_by window p q) c)) (settled_by (areas_by window p q) (c ∷ [])))) lost
+      ∙ ap (λ b. first_of weigh freq l w c (cond b
+      (settled_by (entered c (without_last (length (victims weigh l (areas_by window p q) c)) (areas_by window p q)))
+      (victims weigh l (areas_by window p q) c))
+      (settled_by (areas_by window p q) (c ∷ [])))) lost
       ∙ sym (ap (λ s. and_then (c ∷ []) s) (settle_main weigh freq l (areas_by w p q) h m))
 
   -- rule 3, where it enters over victims: the first of them is dropped
-  pub settle_yields : (weigh freq : A → ℕ) (l : Limits) (w p q p' q' : List A) (c v : A) → Popped weigh (areas_by w p q) v (areas_by w p' q') → Popped weigh (areas_by (fitting weigh l.window w) p q) v (areas_by (fitting weigh l.window w) p' q')
-      → sum_by weigh q ≤ l.protected → main_weight weigh (areas_by w p q) ≤ l.main → l.main < main_weight weigh (areas_by w p q) + weigh c → l.window < sum_by weigh (w ++ c ∷ [])
+  pub settle_yields : (weigh freq : A → ℕ) (l : Limits) (w p q p' q' : List A) (c v : A)
+      → Popped weigh (areas_by w p q) v (areas_by w p' q')
+      → Popped weigh (areas_by (fitting weigh l.window w) p q) v (areas_by (fitting weigh l.window w) p' q')
+      → sum_by weigh q ≤ l.protected → main_weight weigh (areas_by w p q) ≤ l.main
+      → l.main < main_weight weigh (areas_by w p q) + weigh c → l.window < sum_by weigh (w ++ c ∷ [])
       → list_all (λ v. nat_lt (freq v) (freq c)) (victims weigh l (areas_by w p q) c) ≡ true
       → settle weigh freq l (areas_by (w ++ c ∷ []) p q) ≡ and_then (v ∷ []) (settle weigh freq l (areas_by (w ++ c ∷ []) p' q'))
   settle_yields weigh freq l w p q p' q' c v out pop h m big x won =
@@ -180,13 +223,21 @@ module _ {A : Type 0} where
       let a : Areas A = areas_by window p q in
       let b : Areas A = areas_by window p' q' in
       let vs : List A = victims weigh l b c in
-      let less : main_weight weigh a + weigh c - l.main - weigh v ≡ main_weight weigh b + weigh c - l.main = omega (arith, pop.main) in
-      let all : victims weigh l a c ≡ v ∷ vs = shortest_popped weigh (main_weight weigh a + weigh c - l.main) a b v pop (omega arith) ∙ ap (λ k. v ∷ shortest weigh k (from_tail b)) less in
-      let both = and_parts (nat_lt (freq v) (freq c)) (list_all (λ v. nat_lt (freq v) (freq c)) vs) (sym (ap (λ vs. list_all (λ v. nat_lt (freq v) (freq c)) vs) all) ∙ won) in
+      let less : main_weight weigh a + weigh c - l.main - weigh v ≡ main_weight weigh b + weigh c - l.main =
+      omega (arith, pop.main) in
+      let all : victims weigh l a c ≡ v ∷ vs =
+      shortest_popped weigh (main_weight weigh a + weigh c - l.main) a b v pop (omega arith)
+      ∙ ap (λ k. v ∷ shortest weigh k (from_tail b)) less in
+      let both = and_parts (nat_lt (freq v) (freq c)) (list_all (λ v. nat_lt (freq v) (freq c)) vs)
+      (sym (ap (λ vs. list_all (λ v. nat_lt (freq v) (freq c)) vs) all) ∙ won) in
       let one : admitted freq c a (v ∷ vs) ≡ and_then (v ∷ []) (admitted freq c b vs) =
-      ap (λ b. cond b (settled_by (entered c (without_last (suc (length vs)) a)) (v ∷ vs)) (settled_by a (c ∷ []))) (ap (λ b. b && list_all (λ v. nat_lt (freq v) (freq c)) vs) both.0 ∙ both.1)
+      ap (λ b. cond b (settled_by (entered c (without_last (suc (length vs)) a)) (v ∷ vs)) (settled_by a (c ∷ [])))
+      (ap (λ b. b && list_all (λ v. nat_lt (freq v) (freq c)) vs) both.0 ∙ both.1)
       ∙ ap (λ z. settled_by (entered c z) (v ∷ vs)) (pop.last (length vs))
-      ∙ sym (ap (λ t. and_then (v ∷ []) (cond t (settled_by (entered c (without_last (length vs) b)) vs) (settled_by b (c ∷ [])))) both.1) in
+      ∙ sym (ap (λ t. and_then (v ∷ []) (cond t (settled_by (entered c (without_last (length vs) b)) vs) (settled_by b (c ∷ []))))
+      both.1) in
       settle_main weigh freq l (areas_by (w ++ c ∷ []) p q) h m ∙ candidate weigh freq l w p q c x
       ∙ ap (λ vs. first_of weigh freq l w c (admitted freq c a vs)) all ∙ ap (λ s. first_of weigh freq l w c s) one
-      ∙ sym (ap (λ s. and_then (v ∷ []) s) (settle_main weigh freq l (areas_by (w ++ c ∷ []) p' q') (omega (arith, out.protected)) (omega (arith, out.main)) ∙ candidate weigh freq l w p' q' c x))
+      ∙ sym (ap (λ s. and_then (v ∷ []) s)
+      (settle_main weigh freq l (areas_by (w ++ c ∷ []) p' q') (omega (arith, out.protected)) (omega (arith, out.main))
+      ∙ candidate weigh freq l w p' q' c x))

@@ -23,7 +23,9 @@ abbrev used : Run → ℕ → Run
 used r key = record { areas = r.areas; uses = key ∷ r.uses; evictions = r.evictions }
 
 abbrev settled : Run → Areas ℕ → Run
-settled r a = let s = settle weigh (λ key. count_by (λ k. k == key) r.uses) limits a in record { areas = s.areas; uses = r.uses; evictions = r.evictions + length s.dropped }
+settled r a =
+    let s = settle weigh (λ key. count_by (λ k. k == key) r.uses) limits a in
+    record { areas = s.areas; uses = r.uses; evictions = r.evictions + length s.dropped }
 
 -- a held key is accessed, a new one goes to the front of the window
 abbrev placed : ℕ → Run → Run
@@ -53,7 +55,8 @@ third_enters : (set (set (set (set fresh 97) 98) 99) 99).areas ≡ record { wind
 third_enters = refl
 
 abbrev last_run : Run
-last_run = let r = set (set (set (set fresh 97) 98) 99) 99 in let s = set (touch (touch (touch r 98) 98) 98) 97 in set (set s 100) 97
+last_run =
+    let r = set (set (set (set fresh 97) 98) 99) 99 in let s = set (touch (touch (touch r 98) 98) 98) 97 in set (set s 100) 97
 
 evictions_of_last : last_run.evictions ≡ 5
 evictions_of_last = refl

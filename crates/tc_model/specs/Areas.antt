@@ -1,6 +1,8 @@
--- The three areas of W-TinyLFU (the TinyLFU paper; Caffeine's design notes): a window, and main, which is probation and protected.
+-- The three areas of W-TinyLFU (the TinyLFU paper; Caffeine's design notes): a
+-- window, and main, which is probation and protected.
 -- They are lists, front to back, of anything that has a weight and a frequency: entries, or slots.
-use Rattle.std.specs.Prelude.{ℕ, ◌+◌, ◌-◌, Bool, false, cond, not, ◌||◌, List, [], ◌∷◌, ◌++◌, length, take, reverse, filter, nat_lt, ◌==◌, sum_by}
+use Rattle.std.specs.Prelude.{ℕ, ◌+◌, ◌-◌, Bool, false, cond, not, ◌||◌, List, [], ◌∷◌, ◌++◌, length, take, reverse, filter}
+use Rattle.std.specs.Prelude.{nat_lt, ◌==◌, sum_by}
 use Rattle.std.specs.List.{list_all}
 
 -- window, probation and protected, most recent first
@@ -117,7 +119,8 @@ raised is x a = cond (is_in is a.window)
     (record { window = x ∷ without is a.window; probation = without is a.probation; protected = without is a.protected })
     (record { window = without is a.window; probation = without is a.probation; protected = x ∷ without is a.protected })
 
--- an access: the item goes to the front of its list, from probation to the front of protected, and protected is then held to its limit
+-- an access: the item goes to the front of its list, from probation to the front
+-- of protected, and protected is then held to its limit
 abbrev pub accessed : {A : Type 0} → (A → ℕ) → Limits → (A → Bool) → A → Areas A → Areas A
 accessed weigh limits is x a = demoted weigh limits (raised is x a)
 

@@ -23,11 +23,14 @@ pub record Event (Command Outcome : Type 0) : Type 0 where
   pub outcome : Outcome
 
 -- the state that the commands of a history leave, one after another
-abbrev pub state_after : {Command Outcome : Type 0} (K : Caching Command Outcome) → K.State → List (Event Command Outcome) → K.State
+abbrev pub state_after : {Command Outcome : Type 0} (K : Caching Command Outcome) → K.State → List (Event Command Outcome)
+    → K.State
 state_after K k [] = k
 state_after K k (e ∷ es) = state_after K (K.act k e.moment e.command).1 es
 
 -- from this state the commands of a history give its outcomes, at moments that never fall and are not before this one
-abbrev pub Replays : {Command Outcome : Type 0} (K : Caching Command Outcome) → ℕ → K.State → List (Event Command Outcome) → Type 0
+abbrev pub Replays : {Command Outcome : Type 0} (K : Caching Command Outcome) → ℕ → K.State → List (Event Command Outcome)
+    → Type 0
 Replays K from k [] = Unit {0}
-Replays K from k (e ∷ es) = (from ≤ e.moment) × ((K.act k e.moment e.command).0 ≡ e.outcome) × Replays K e.moment (K.act k e.moment e.command).1 es
+Replays K from k (e ∷ es) =
+    (from ≤ e.moment) × ((K.act k e.moment e.command).0 ≡ e.outcome) × Replays K e.moment (K.act k e.moment e.command).1 es

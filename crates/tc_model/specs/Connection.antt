@@ -1,6 +1,7 @@
 -- A connection by its own bytes and the users' table, as memcached's doc/protocol.txt has it with token authentication:
 -- it is unbound until a login binds it to a user for good. No cache and no other connection has a part in it.
-use Rattle.std.specs.Prelude.{ℕ, zero, suc, Bool, true, false, cond, List, [], ◌∷◌, Option, Some, None, option_map, slice_get, slice_set}
+use Rattle.std.specs.Prelude.{ℕ, zero, suc, Bool, true, false, cond, List, [], ◌∷◌, Option, Some, None, option_map, slice_get}
+use Rattle.std.specs.Prelude.{slice_set}
 
 -- what an unbound connection's next request asks for, with the bytes that answer it
 pub data Asks : Type 0 where
@@ -92,7 +93,11 @@ pub record Turn {Command Outcome : Type 0} (P : Protocol Command Outcome) : Type
 -- the turn of a login, by the user found
 abbrev pub login_turn : {C O : Type 0} (P : Protocol C O) → P.Reader → (granted denied : List ℕ) → Option ℕ → Turn P
 login_turn P r granted denied None = record { want = Said; said = denied; endpoint = record { phase = Unbound; reader = r } }
-login_turn P r granted denied (Some user) = record { want = Said; said = granted; endpoint = record { phase = Bound user; reader = r } }
+login_turn P r granted denied (Some user) = record {
+  want = Said;
+  said = granted;
+  endpoint = record { phase = Bound user; reader = r };
+}
 
 -- the turn of an unbound connection, by what it asks
 abbrev pub unbound_turn : {C O : Type 0} (P : Protocol C O) → List P.Row → P.Reader → Asks → Turn P
@@ -105,7 +110,11 @@ unbound_turn P rows r (Leave text) = record { want = Close; said = text; endpoin
 abbrev pub bound_turn : {C O : Type 0} (P : Protocol C O) → ℕ → P.Reader → Wants C → Turn P
 bound_turn P user r Rest = record { want = Nothing; said = []; endpoint = record { phase = Bound user; reader = r } }
 bound_turn P user r (Reply text) = record { want = Said; said = text; endpoint = record { phase = Bound user; reader = r } }
-bound_turn P user r (Run command) = record { want = Call user command; said = []; endpoint = record { phase = Bound user; reader = r } }
+bound_turn P user r (Run command) = record {
+  want = Call user command;
+  said = [];
+  endpoint = record { phase = Bound user; reader = r };
+}
 bound_turn P user r (Quit text) = record { want = Close; said = text; endpoint = record { phase = Closed; reader = r } }
 
 -- the turn of a connection, by its phase

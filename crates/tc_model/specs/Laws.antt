@@ -35,7 +35,8 @@ IsUnmaintained (Maintain user limit ∷ xs) = ⊥
 
 -- the history of a user's machine is one fold of that user's cache from the fresh one, at moments that never fall
 abbrev pub IsReplayed : Machine → Type 0
-IsReplayed M = (row : M.protocol.Row) (xs : List Step) → IsUnmaintained xs → Replays M.cache 0 (M.fresh row) (solo M row xs).history
+IsReplayed M =
+    (row : M.protocol.Row) (xs : List Step) → IsUnmaintained xs → Replays M.cache 0 (M.fresh row) (solo M row xs).history
 
 -- the numbers rise, and are above this one
 abbrev pub RisesFrom : ℕ → List ℕ → Type 0

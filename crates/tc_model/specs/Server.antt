@@ -1,7 +1,10 @@
 -- A server of many users' caches, and what each connection is sent, over any cache and any protocol.
-use Rattle.std.specs.Prelude.{ℕ, max, Bool, true, false, cond, ◌||◌, List, [], ◌∷◌, ◌++◌, map, filter, Option, Some, None, ◌==◌, option_map, nat_lt}
+use Rattle.std.specs.Prelude.{ℕ, max, Bool, true, false, cond, ◌||◌, List, [], ◌∷◌, ◌++◌, map, filter, Option, Some, None, ◌==◌}
+use Rattle.std.specs.Prelude.{option_map, nat_lt}
 use Rattle.tc_model.specs.Caching.{Caching, Event}
-use Rattle.tc_model.specs.Connection.{Protocol, Phase, Unbound, Bound, Closed, Endpoint, Happening, Open, Piece, Act, Shut, user_at, with_user, Want, Nothing, Said, Call, Close, Turn, turn, with_piece, new_endpoint, shut_endpoint, endpoint_after, is_closed}
+use Rattle.tc_model.specs.Connection.{Protocol, Phase, Unbound, Bound, Closed, Endpoint, Happening, Open, Piece, Act, Shut}
+use Rattle.tc_model.specs.Connection.{user_at, with_user, Want, Nothing, Said, Call, Close, Turn, turn, with_piece, new_endpoint}
+use Rattle.tc_model.specs.Connection.{shut_endpoint, endpoint_after, is_closed}
 
 -- a protocol and a cache that speak of the same commands and outcomes
 pub record Machine : Type 1 where
@@ -79,7 +82,8 @@ call_effect M clock caches user command e out (Some k) =
     answer_effect M caches user (called M clock command (M.cache.act k clock command).0) e out (M.cache.act k clock command).1
 
 -- what a request wants, done
-abbrev pub want_effect : (M : Machine) → ℕ → List M.cache.State → List ℕ → Endpoint M.protocol → List ℕ → Want M.Command → Effect M
+abbrev pub want_effect : (M : Machine) → ℕ → List M.cache.State → List ℕ → Endpoint M.protocol → List ℕ → Want M.Command
+    → Effect M
 want_effect M clock caches out e said Nothing = said_effect M caches e (out ++ said)
 want_effect M clock caches out e said Said = said_effect M caches e (out ++ said)
 want_effect M clock caches out e said (Call user command) =
@@ -108,7 +112,11 @@ maintained M clock caches user (Some k) = with_user caches user (M.cache.advance
 
 -- the state with what one connection's step leaves
 abbrev pub world_with : (M : Machine) → ℕ → List (ℕ × Connection M) → ℕ → Effect M → World M
-world_with M clock connections c d = record { clock = clock; caches = d.caches; connections = with_some c d.connection connections }
+world_with M clock connections c d = record {
+  clock = clock;
+  caches = d.caches;
+  connections = with_some c d.connection connections;
+}
 
 -- one step: a connection's, the clock's, which never goes back, or maintenance
 abbrev pub step : (M : Machine) → List M.protocol.Row → World M → Step → World M

@@ -8,7 +8,7 @@ use Rattle.indexmap.specs.IndexMap.{IndexMap, get as index_get, index_map_len, s
 use Rattle.slab.specs.Slab.{Slab, get as slab_get, slab_len}
 use Rattle.tc_item.specs.declared.slot.Slot.{Slot}
 use Rattle.tc_plain.specs.declared.entry.Entry.{Entry}
-use Rattle.tc_plain.specs.Live.{no_entries}
+use Rattle.tc_plain.specs.EvictionState.{no_entries}
 use Rattle.tc_slru.specs.SlotLists.{SlotLists, cleared}
 use Rattle.tc_wheel.specs.Dues.{Dues, due_at, cleared as untimed}
 use Rattle.tc_partition.specs.Agreement.{areas_by, Agree}
@@ -21,23 +21,33 @@ due_at-none zero i = refl
 due_at-none (suc n) zero = refl
 due_at-none (suc n) (suc i) = due_at-none n i
 
-module _ {St : Type 0} (j : IndexMap (List ℕ) Slot St) (t : Slab Entry) (l m : SlotLists) (w x : Dues) (keys : j.entries ≡ []) (slots : t.slots ≡ []) (em : m ≡ cleared l) (ex : x ≡ untimed w) where
+module _ {St : Type 0} (j : IndexMap (List ℕ) Slot St) (t : Slab Entry) (l m : SlotLists) (w x : Dues) (keys : j.entries ≡ [])
+    (slots : t.slots ≡ []) (em : m ≡ cleared l) (ex : x ≡ untimed w) where
   pub slots_cleared : Agree (index_get bytes_eq j) (slab_get t) (due_at x.dues) m.areas
   slots_cleared =
       subst (λ (z : SlotLists). Agree (index_get bytes_eq j) (slab_get t) (due_at x.dues) z.areas) (sym em)
-      (fresh_filled (λ key. ap (λ es. lookup (bytes_eq key) es) keys) (λ n. ap (λ ss. slice_index_or ss n None) slots) (λ n. ap (λ (z : Dues). due_at z.dues n) ex ∙ due_at-none (length w.dues) n))
+      (fresh_filled (λ key. ap (λ es. lookup (bytes_eq key) es) keys) (λ n. ap (λ ss. slice_index_or ss n None) slots)
+      (λ n. ap (λ (z : Dues). due_at z.dues n) ex ∙ due_at-none (length w.dues) n))
 
   pub slots_cleared_areas : areas_by (slab_get t) m.areas ≡ no_entries
   slots_cleared_areas = ap (λ (z : SlotLists). areas_by (slab_get t) z.areas) em
 
   pub within_cleared : (n : ℕ) → AreWithin n (slab_get t)
-  within_cleared n = λ k held. absurd (let none : is_some (slab_get t k) ≡ false = ap (λ ss. is_some (slice_index_or ss k None)) slots in cc (none, held))
+  within_cleared n =
+      λ k held. absurd (let none : is_some (slab_get t k) ≡ false = ap (λ ss. is_some (slice_index_or ss k None)) slots in
+      cc (none, held))
 
   -- the room stays
-  pub room_cleared : (i : IndexMap (List ℕ) Slot St) (s : Slab Entry) → index_map_len i + spare i ≤ spare j → t.capacity ≡ s.capacity → room_in i s l w ≡ true → room_in j t m x ≡ true
+  pub room_cleared : (i : IndexMap (List ℕ) Slot St) (s : Slab Entry) → index_map_len i + spare i ≤ spare j
+      → t.capacity ≡ s.capacity → room_in i s l w ≡ true → room_in j t m x ≡ true
   room_cleared i s more capacity h =
       let r = room_parts i s l w h in
       let long : length x.dues ≡ length w.dues = ap (λ (z : Dues). length z.dues) ex ∙ length-replicate (length w.dues) None in
       let none : slab_len t ≡ 0 = ap (λ ss. count_by is_some ss) slots in
       let places : m.slots ≡ l.slots = ap (λ (z : SlotLists). z.slots) em in
-      room_whole j t m x (record { index = omega (arith, r.index, more); entries = omega (arith, r.entries, none, capacity); lists = omega (arith, r.lists, places, capacity); wheel = omega (arith, r.wheel, long, capacity) })
+      room_whole j t m x (record {
+        index = omega (arith, r.index, more);
+        entries = omega (arith, r.entries, none, capacity);
+        lists = omega (arith, r.lists, places, capacity);
+        wheel = omega (arith, r.wheel, long, capacity);
+      })

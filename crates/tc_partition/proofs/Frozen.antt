@@ -1,6 +1,7 @@
 -- What waits is done to a copy, one record after another.
 use Rattle.std.specs.Prelude.{max, map, slice_get}
-use Rattle.std.proofs.Common.{◌≡◌, ℕ, zero, suc, ◌+◌, ◌≤◌, ◌<◌, ◌^◌, List, [], ◌∷◌, length, take, Option, Some, refl, sym, ◌∙◌, ap, subst, arith}
+use Rattle.std.proofs.Common.{◌≡◌, ℕ, zero, suc, ◌+◌, ◌≤◌, ◌<◌, ◌^◌, List, [], ◌∷◌, length, take, Option, Some, refl, sym, ◌∙◌}
+use Rattle.std.proofs.Common.{ap, subst, arith}
 use Rattle.std.proofs.lemmas.List.{take_all}
 use Rattle.tc_model.specs.Areas.{Limits, total}
 use Rattle.tc_readbuf.specs.declared.noted.Noted.{Noted}
@@ -8,7 +9,7 @@ use Rattle.tc_plain.specs.declared.entry.Entry.{Entry}
 use Rattle.tc_plain.specs.declared.areas.Areas.{Areas as AreaLists}
 use Rattle.tc_plain.specs.AreaLists.{HasRoom}
 use Rattle.tc_plain.specs.Entries.{weight}
-use Rattle.tc_plain.specs.Live.{Live, advanced}
+use Rattle.tc_plain.specs.EvictionState.{EvictionState, advanced}
 use Rattle.tc_plain.specs.UserCache.{UserCache}
 use Rattle.tc_plain.specs.Doing.{with_live}
 use Rattle.tc_plain.specs.Soundness.{AreSound, IsSound}
@@ -21,18 +22,22 @@ use Rattle.tc_partition.proofs.Draining.{sound_come, sound_light, note_limits}
 use Rattle.tc_partition.proofs.Tally.{length_map}
 
 -- what comes to a moment stays light
-come_light : (l : Live) (m : ℕ) → AreSound l.limits l.areas → l.limits.window + l.limits.main < 2 ^ 32 → total weight (advanced l m).areas < 2 ^ 32
+come_light : (l : EvictionState) (m : ℕ) → AreSound l.limits l.areas → l.limits.window + l.limits.main < 2 ^ 32
+    → total weight (advanced l m).areas < 2 ^ 32
 come_light l m h small =
     let same : (advanced l m).limits ≡ l.limits = limits-at_moment (max l.moment m) l in
-    sound_light (advanced l m).limits (advanced l m).areas (sound_come l m h) (omega (arith, small, ap (λ (k : Limits). k.window) same, ap (λ (k : Limits). k.main) same))
+    sound_light (advanced l m).limits (advanced l m).areas (sound_come l m h)
+    (omega (arith, small, ap (λ (k : Limits). k.window) same, ap (λ (k : Limits). k.main) same))
 
-pub light_come : (l j : Live) (m : ℕ) → j ≡ advanced l m → AreSound l.limits l.areas → l.limits.window + l.limits.main < 2 ^ 32 → total weight j.areas < 2 ^ 32
-light_come l j m e h small = subst (λ (z : Live). total weight z.areas < 2 ^ 32) (sym e) (come_light l m h small)
+pub light_come : (l j : EvictionState) (m : ℕ) → j ≡ advanced l m → AreSound l.limits l.areas
+    → l.limits.window + l.limits.main < 2 ^ 32 → total weight j.areas < 2 ^ 32
+light_come l j m e h small = subst (λ (z : EvictionState). total weight z.areas < 2 ^ 32) (sym e) (come_light l m h small)
 
 -- the limits never change
-pub replay_limits : (l : Live) (rs : List Waiting) → (replay l rs).limits ≡ l.limits
+pub replay_limits : (l : EvictionState) (rs : List Waiting) → (replay l rs).limits ≡ l.limits
 replay_limits l [] = refl
-replay_limits l (r ∷ rs) = replay_limits (replay_one l r) rs ∙ note_limits r.note (advanced l r.moment) ∙ limits-at_moment (max l.moment r.moment) l
+replay_limits l (r ∷ rs) =
+    replay_limits (replay_one l r) rs ∙ note_limits r.note (advanced l r.moment) ∙ limits-at_moment (max l.moment r.moment) l
 
 pub order_take : (n low high : ℕ) (rs : List Waiting) → AreInOrder low rs high → AreInOrder low (take n rs) high
 order_take zero low high [] h = h
@@ -41,8 +46,9 @@ order_take zero low high (r ∷ rs) h = ends_at low high (r ∷ rs) h
 order_take (suc n) low high (r ∷ rs) h = (h.0, order_take n r.moment high rs h.1)
 
 -- one more record
-pub replay_more : (f : Noted × ℕ → Waiting) (l j : Live) (rs : List (Noted × ℕ)) (i : ℕ) → i < length rs
-    → ((r : Noted × ℕ) → slice_get rs i ≡ Some r → j ≡ replay_one (replay l (take i (map f rs))) (f r)) → j ≡ replay l (take (suc i) (map f rs))
+pub replay_more : (f : Noted × ℕ → Waiting) (l j : EvictionState) (rs : List (Noted × ℕ)) (i : ℕ) → i < length rs
+    → ((r : Noted × ℕ) → slice_get rs i ≡ Some r → j ≡ replay_one (replay l (take i (map f rs))) (f r))
+    → j ≡ replay l (take (suc i) (map f rs))
 replay_more f l j [] i lt h = absurd (omega (arith, lt))
 replay_more f l j (r ∷ rs) zero lt h = h r refl
 replay_more f l j (r ∷ rs) (suc i) lt h = replay_more f (replay_one l (f r)) j rs i (omega (arith, lt)) h
@@ -62,22 +68,35 @@ pub light_by : (a b : Limits) → a ≡ b → b.window + b.main < 2 ^ 32 → a.w
 light_by a b e h = omega (arith, h, ap (λ (k : Limits). k.window) e, ap (λ (k : Limits). k.main) e)
 
 -- all that waits is done
-pub all_replayed : (l j : Live) (slots : List (Option Entry)) (rs : List (Noted × ℕ)) (n : ℕ) → length rs ≤ n → j ≡ replay l (take n (map (waiting_of slots) rs)) → j ≡ replay l (map (waiting_of slots) rs)
-all_replayed l j slots rs n le e = e ∙ ap (replay l) (take_all n (map (waiting_of slots) rs) (omega (arith, length_map (waiting_of slots) rs, le)))
+pub all_replayed : (l j : EvictionState) (slots : List (Option Entry)) (rs : List (Noted × ℕ)) (n : ℕ) → length rs ≤ n
+    → j ≡ replay l (take n (map (waiting_of slots) rs)) → j ≡ replay l (map (waiting_of slots) rs)
+all_replayed l j slots rs n le e =
+    e ∙ ap (replay l) (take_all n (map (waiting_of slots) rs) (omega (arith, length_map (waiting_of slots) rs, le)))
 
 -- what it stands for is sound
 pub settled_sound : (k : UserCache) (f : Lazy) → IsSound k → IsLazy f → f.base ≡ k.live → IsSound (with_live k (settled f))
 settled_sound k f sound h e =
     let r = replayed f.base f.waiting f.moment h.sound h.order in
     let at = settled_at f h in
-    let there : AreSound (settled f).limits (settled f).areas = subst (λ (z : Live). AreSound z.limits z.areas) (sym at) (at_same f.moment (replay f.base f.waiting) r.sound).sound in
-    let limits : (settled f).limits ≡ k.live.limits = limits-at_moment (max (replay f.base f.waiting).moment f.moment) (replay f.base f.waiting) ∙ replay_limits f.base f.waiting ∙ ap (λ (z : Live). z.limits) e in
+    let there : AreSound (settled f).limits (settled f).areas =
+    subst (λ (z : EvictionState). AreSound z.limits z.areas) (sym at)
+    (at_same f.moment (replay f.base f.waiting) r.sound).sound in
+    let limits : (settled f).limits ≡ k.live.limits =
+    limits-at_moment (max (replay f.base f.waiting).moment f.moment) (replay f.base f.waiting) ∙ replay_limits f.base f.waiting
+    ∙ ap (λ (z : EvictionState). z.limits) e in
     sound_with k (settled f) sound limits (subst (λ (t : Limits). AreSound t (settled f).areas) limits there)
 
 pub room_less : (a : AreaLists) → HasRoom 1 a → HasRoom 0 a
-room_less a h = record { window_room = omega (arith, h.window_room); probation_room = omega (arith, h.probation_room); protected_room = omega (arith, h.protected_room) }
+room_less a h = record {
+  window_room = omega (arith, h.window_room);
+  probation_room = omega (arith, h.probation_room);
+  protected_room = omega (arith, h.protected_room);
+}
 
 -- what a copy comes to once all that waits is done to it
-pub frozen_sound : (k : UserCache) (l j : Live) (slots : List (Option Entry)) (rs : List (Noted × ℕ)) (m : ℕ) → IsSound k → IsLazy (lazy_over k.live slots rs m) → l ≡ k.live → j ≡ settled (lazy_over l slots rs m) → IsSound (with_live k j)
+pub frozen_sound : (k : UserCache) (l j : EvictionState) (slots : List (Option Entry)) (rs : List (Noted × ℕ)) (m : ℕ) → IsSound k
+    → IsLazy (lazy_over k.live slots rs m) → l ≡ k.live → j ≡ settled (lazy_over l slots rs m) → IsSound (with_live k j)
 frozen_sound k l j slots rs m sound lazy e f =
-    subst (λ (z : Live). IsSound (with_live k z)) (sym (f ∙ ap (λ (z : Live). settled (lazy_over z slots rs m)) e)) (settled_sound k (lazy_over k.live slots rs m) sound lazy refl)
+    subst (λ (z : EvictionState). IsSound (with_live k z))
+    (sym (f ∙ ap (λ (z : EvictionState). settled (lazy_over z slots rs m)) e))
+    (settled_sound k (lazy_over k.live slots rs m) sound lazy refl)

@@ -1,7 +1,8 @@
 -- What filling and emptying make of index, entries, lists and wheel as they are kept.
 use Rattle.std.specs.Prelude.{◌==◌, map, sum_by, is_some, IsSome, slice_index_or, slice_set}
 use Rattle.std.specs.Str.{bytes_eq}
-use Rattle.std.proofs.Common.{◌≡◌, ℕ, zero, suc, ◌+◌, ◌<◌, ◌≤◌, Bool, true, false, cond, List, [], ◌∷◌, length, Option, Some, None, refl, sym, ◌∙◌, ap, subst, arith}
+use Rattle.std.proofs.Common.{◌≡◌, ℕ, zero, suc, ◌+◌, ◌<◌, ◌≤◌, Bool, true, false, cond, List, [], ◌∷◌, length, Option, Some}
+use Rattle.std.proofs.Common.{None, refl, sym, ◌∙◌, ap, subst, arith}
 use Rattle.std.proofs.lemmas.Bool.{eqb-true, eqb-false}
 use Rattle.std.proofs.lemmas.Bool.Decides.{nat_tests}
 use Rattle.std.proofs.lemmas.List.{get_or-set_same, get_or-set_other}
@@ -13,7 +14,7 @@ use Rattle.tc_item.specs.declared.slot.Slot.{Slot}
 use Rattle.tc_model.specs.Areas.{Areas, total}
 use Rattle.tc_plain.specs.declared.entry.Entry.{Entry}
 use Rattle.tc_plain.specs.Entries.{weight}
-use Rattle.tc_plain.specs.Live.{held}
+use Rattle.tc_plain.specs.EvictionState.{held}
 use Rattle.tc_plain.specs.Placing.{without_key, at_front}
 use Rattle.tc_slru.specs.Slots.{Placed, weigh, holds, without_slot}
 use Rattle.tc_slru.specs.SlotLists.{SlotLists, pushed, removed}
@@ -22,26 +23,30 @@ use Rattle.tc_partition.specs.Agreement.{set_at, key_of, stray, stray_by, entry_
 use Rattle.tc_partition.specs.Held.{Held, room_in, HasRoom, IsVacated, IsTaken, IsFound, FindsSlot, AreWithin}
 use Rattle.tc_partition.proofs.Away.{not_held}
 use Rattle.tc_partition.proofs.OneSlot.{IsLess, without_slot_less, is_held}
-use Rattle.tc_partition.proofs.Filling.{some_same, agree_filled, filled_areas, untimed, none_at, agree_emptied, emptied_areas, once_at}
+use Rattle.tc_partition.proofs.Filling.{some_same, agree_filled, filled_areas, untimed, none_at, agree_emptied, emptied_areas}
+use Rattle.tc_partition.proofs.Filling.{once_at}
 use Rattle.tc_partition.proofs.Looked.{held_filled, held_emptied, without_unheld}
 
 pub fun_same : {A B : Type 0} (f g : A → B) → ((x : A) → f x ≡ g x) → f ≡ g
 fun_same f g h = λ i x. h x i
 
-pub agree_same : {I J : List ℕ → Option Slot} {S T : ℕ → Option Entry} {D E : ℕ → Option ℕ} {a b : Areas Placed} → I ≡ J → S ≡ T → D ≡ E → a ≡ b → Agree I S D a → Agree J T E b
+pub agree_same : {I J : List ℕ → Option Slot} {S T : ℕ → Option Entry} {D E : ℕ → Option ℕ} {a b : Areas Placed} → I ≡ J → S ≡ T
+    → D ≡ E → a ≡ b → Agree I S D a → Agree J T E b
 agree_same {I} {J} {S} {T} {D} {E} {a} {b} p q r s h =
     subst (λ z. Agree J T E z) s (subst (λ z. Agree J T z a) r (subst (λ z. Agree J z D a) q (subst (λ z. Agree z S D a) p h)))
 
 -- a write to the wheel
 
-pub due_written : (dues : List (Option ℕ)) (v : ℕ) (o : Option ℕ) → v < length dues → (n : ℕ) → due_at (slice_set dues v o) n ≡ set_at v o (due_at dues) n
+pub due_written : (dues : List (Option ℕ)) (v : ℕ) (o : Option ℕ) → v < length dues → (n : ℕ)
+    → due_at (slice_set dues v o) n ≡ set_at v o (due_at dues) n
 due_written dues v o l n = go (n == v) refl
   where
     go : (b : Bool) → (n == v) ≡ b → due_at (slice_set dues v o) n ≡ cond b o (due_at dues n)
     go true e = ap (due_at (slice_set dues v o)) (eqb-true n v e) ∙ get_or-set_same dues v o None l
     go false e = get_or-set_other dues v n o None (eqb-false n v e)
 
-pub slot_cleared : {A : Type 0} (xs : List (Option A)) (v n : ℕ) → slice_index_or (slice_set xs v None) n None ≡ cond (n == v) None (slice_index_or xs n None)
+pub slot_cleared : {A : Type 0} (xs : List (Option A)) (v n : ℕ)
+    → slice_index_or (slice_set xs v None) n None ≡ cond (n == v) None (slice_index_or xs n None)
 slot_cleared {A} xs v n = go (n == v) refl
   where
     clear : (xs : List (Option A)) (i : ℕ) → slice_index_or (slice_set xs i None) i None ≡ None
@@ -69,7 +74,8 @@ weighs_own S p k = go (S p.slot) k
         at true e j = sym (eqb-true (weight d) p.weight e)
         at false e j = absurd (omega (arith, j))
 
-sum_weighs : (S : ℕ → Option Entry) (ps : List Placed) → sum_by (stray S) ps ≡ 0 → sum_by weigh ps ≡ sum_by weight (map (entry_at S) ps)
+sum_weighs : (S : ℕ → Option Entry) (ps : List Placed) → sum_by (stray S) ps ≡ 0
+    → sum_by weigh ps ≡ sum_by weight (map (entry_at S) ps)
 sum_weighs S [] k = refl
 sum_weighs S (p ∷ ps) k =
     let split = sum_by-cons (stray S) p ps in
@@ -80,17 +86,30 @@ sum_weighs S (p ∷ ps) k =
 
 pub total_weighs : (S : ℕ → Option Entry) (a : Areas Placed) → total (stray S) a ≡ 0 → total weigh a ≡ total weight (areas_by S a)
 total_weighs S a k =
-    omega (arith, sum_weighs S a.window (omega (arith, k)), sum_weighs S a.probation (omega (arith, k)), sum_weighs S a.protected (omega (arith, k)))
+    omega (
+      arith,
+      sum_weighs S a.window (omega (arith, k)),
+      sum_weighs S a.probation (omega (arith, k)),
+      sum_weighs S a.protected (omega (arith, k)),
+    )
 
 -- what room is
 
-pub room_parts : {St : Type 0} (i : IndexMap (List ℕ) Slot St) (s : Slab Entry) (l : SlotLists) (w : Dues) → room_in i s l w ≡ true → HasRoom i s l w
-room_parts i s l w h = record { index = grind (arith, nat_tests); entries = grind (arith, nat_tests); lists = grind (arith, nat_tests); wheel = grind (arith, nat_tests) }
+pub room_parts : {St : Type 0} (i : IndexMap (List ℕ) Slot St) (s : Slab Entry) (l : SlotLists) (w : Dues)
+    → room_in i s l w ≡ true → HasRoom i s l w
+room_parts i s l w h = record {
+  index = grind (arith, nat_tests);
+  entries = grind (arith, nat_tests);
+  lists = grind (arith, nat_tests);
+  wheel = grind (arith, nat_tests);
+}
 
-pub room_whole : {St : Type 0} (i : IndexMap (List ℕ) Slot St) (s : Slab Entry) (l : SlotLists) (w : Dues) → HasRoom i s l w → room_in i s l w ≡ true
+pub room_whole : {St : Type 0} (i : IndexMap (List ℕ) Slot St) (s : Slab Entry) (l : SlotLists) (w : Dues) → HasRoom i s l w
+    → room_in i s l w ≡ true
 room_whole i s l w h = grind (arith, nat_tests, h.index, h.entries, h.lists, h.wheel)
 
-module _ {St : Type 0} (i : IndexMap (List ℕ) Slot St) (s : Slab Entry) (l : SlotLists) (w : Dues) (h : Agree (index_get bytes_eq i) (slab_get s) (due_at w.dues) l.areas) where
+module _ {St : Type 0} (i : IndexMap (List ℕ) Slot St) (s : Slab Entry) (l : SlotLists) (w : Dues)
+    (h : Agree (index_get bytes_eq i) (slab_get s) (due_at w.dues) l.areas) where
   -- a key that holds nothing is not in the index
   pub index_free : (key : List ℕ) → held key (areas_by (slab_get s) l.areas) ≡ None → index_get bytes_eq i key ≡ None
   index_free key none = go (index_get bytes_eq i key) refl
@@ -100,7 +119,8 @@ module _ {St : Type 0} (i : IndexMap (List ℕ) Slot St) (s : Slab Entry) (l : S
       at v (Some d) e k =
           let own : d.key ≡ key = cc in
           let here : held key (areas_by (slab_get s) l.areas) ≡ Some d =
-          ap (λ q. held q (areas_by (slab_get s) l.areas)) (sym own) ∙ held_filled (index_get bytes_eq i) (slab_get s) (due_at w.dues) l.areas h d v e in
+          ap (λ q. held q (areas_by (slab_get s) l.areas)) (sym own)
+          ∙ held_filled (index_get bytes_eq i) (slab_get s) (due_at w.dues) l.areas h d v e in
           absurd (cc (none, here))
 
       go : (o : Option Slot) → index_get bytes_eq i key ≡ o → index_get bytes_eq i key ≡ None
@@ -110,39 +130,53 @@ module _ {St : Type 0} (i : IndexMap (List ℕ) Slot St) (s : Slab Entry) (l : S
   module _ (e : Entry) (v : Slot) (j : IndexMap (List ℕ) Slot St) (t : Slab Entry) where
     module _ (taken : IsTaken e v.0 i j s t) (free : held e.key (areas_by (slab_get s) l.areas) ≡ None) where
       pub fill_free : holds v.0 l.areas ≡ false
-      fill_free = not_held v.0 l.areas (none_at (index_get bytes_eq i) (slab_get s) (due_at w.dues) l.areas h e v taken.vacant (index_free e.key free))
+      fill_free =
+          not_held v.0 l.areas
+          (none_at (index_get bytes_eq i) (slab_get s) (due_at w.dues) l.areas h e v taken.vacant (index_free e.key free))
 
       pub fill_untimed : due_at w.dues v.0 ≡ None
-      fill_untimed = untimed (index_get bytes_eq i) (slab_get s) (due_at w.dues) l.areas h e v taken.vacant (index_free e.key free)
+      fill_untimed =
+          untimed (index_get bytes_eq i) (slab_get s) (due_at w.dues) l.areas h e v taken.vacant (index_free e.key free)
 
-      pub slots_filled : (m : SlotLists) (x : Dues) (n : ℕ) → n ≡ weight e → m ≡ pushed v.0 n l → ((k : ℕ) → due_at x.dues k ≡ set_at v.0 (due_by e.item.due) (due_at w.dues) k)
+      pub slots_filled : (m : SlotLists) (x : Dues) (n : ℕ) → n ≡ weight e → m ≡ pushed v.0 n l
+          → ((k : ℕ) → due_at x.dues k ≡ set_at v.0 (due_by e.item.due) (due_at w.dues) k)
           → Agree (index_get bytes_eq j) (slab_get t) (due_at x.dues) m.areas
       slots_filled m x n en em ex =
-          agree_same (fun_same _ _ (λ k. sym (taken.index k))) (fun_same _ _ (λ k. sym (taken.entries k))) (fun_same _ _ (λ k. sym (ex k))) (ap (λ (z : SlotLists). z.areas) (sym em))
-          (agree_filled (index_get bytes_eq i) (slab_get s) (due_at w.dues) l.areas h e v taken.vacant (index_free e.key free) n en)
+          agree_same (fun_same _ _ (λ k. sym (taken.index k))) (fun_same _ _ (λ k. sym (taken.entries k)))
+          (fun_same _ _ (λ k. sym (ex k))) (ap (λ (z : SlotLists). z.areas) (sym em))
+          (agree_filled (index_get bytes_eq i) (slab_get s) (due_at w.dues) l.areas h e v taken.vacant
+          (index_free e.key free) n en)
 
-      pub slots_filled_areas : (m : SlotLists) (n : ℕ) → m ≡ pushed v.0 n l → areas_by (slab_get t) m.areas ≡ at_front e (areas_by (slab_get s) l.areas)
+      pub slots_filled_areas : (m : SlotLists) (n : ℕ) → m ≡ pushed v.0 n l
+          → areas_by (slab_get t) m.areas ≡ at_front e (areas_by (slab_get s) l.areas)
       slots_filled_areas m n em =
-          ap (λ S. areas_by S m.areas) (fun_same _ _ taken.entries) ∙ ap (λ (z : SlotLists). areas_by (set_at v.0 (Some e) (slab_get s)) z.areas) em
+          ap (λ S. areas_by S m.areas) (fun_same _ _ taken.entries)
+          ∙ ap (λ (z : SlotLists). areas_by (set_at v.0 (Some e) (slab_get s)) z.areas) em
           ∙ filled_areas (index_get bytes_eq i) (slab_get s) (due_at w.dues) l.areas h e v taken.vacant (index_free e.key free) n
 
     pub holds_entry : slab_get s v.0 ≡ Some e → holds v.0 l.areas ≡ true
     holds_entry at = is_held v.0 l.areas (once_at (index_get bytes_eq i) (slab_get s) (due_at w.dues) l.areas h e v at)
 
     module _ (at : slab_get s v.0 ≡ Some e) (gone : IsVacated e v.0 i j s t) where
-      pub slots_less : (b : Areas Placed) (x : Dues) → IsLess v.0 l.areas b → x ≡ untimed_at v.0 w → Agree (index_get bytes_eq j) (slab_get t) (due_at x.dues) b
+      pub slots_less : (b : Areas Placed) (x : Dues) → IsLess v.0 l.areas b → x ≡ untimed_at v.0 w
+          → Agree (index_get bytes_eq j) (slab_get t) (due_at x.dues) b
       slots_less b x less ex =
-          agree_same (fun_same _ _ (λ k. sym (gone.index k))) (fun_same _ _ (λ k. sym (gone.entries k))) (fun_same _ _ (λ k. sym (ap (λ (z : Dues). due_at z.dues k) ex ∙ due_cleared w.dues v.0 k))) refl
+          agree_same (fun_same _ _ (λ k. sym (gone.index k))) (fun_same _ _ (λ k. sym (gone.entries k)))
+          (fun_same _ _ (λ k. sym (ap (λ (z : Dues). due_at z.dues k) ex ∙ due_cleared w.dues v.0 k))) refl
           (agree_emptied (index_get bytes_eq i) (slab_get s) (due_at w.dues) l.areas h e v at b less)
 
-      pub slots_emptied : (m : SlotLists) (x : Dues) → m ≡ removed v.0 l → x ≡ untimed_at v.0 w → Agree (index_get bytes_eq j) (slab_get t) (due_at x.dues) m.areas
+      pub slots_emptied : (m : SlotLists) (x : Dues) → m ≡ removed v.0 l → x ≡ untimed_at v.0 w
+          → Agree (index_get bytes_eq j) (slab_get t) (due_at x.dues) m.areas
       slots_emptied m x em ex =
           let once = once_at (index_get bytes_eq i) (slab_get s) (due_at w.dues) l.areas h e v at in
-          subst (λ (z : SlotLists). Agree (index_get bytes_eq j) (slab_get t) (due_at x.dues) z.areas) (sym em) (slots_less (without_slot v.0 l.areas) x (without_slot_less v.0 l.areas once) ex)
+          subst (λ (z : SlotLists). Agree (index_get bytes_eq j) (slab_get t) (due_at x.dues) z.areas) (sym em)
+          (slots_less (without_slot v.0 l.areas) x (without_slot_less v.0 l.areas once) ex)
 
-      pub slots_emptied_areas : (m : SlotLists) → m ≡ removed v.0 l → areas_by (slab_get t) m.areas ≡ without_key e.key (areas_by (slab_get s) l.areas)
+      pub slots_emptied_areas : (m : SlotLists) → m ≡ removed v.0 l
+          → areas_by (slab_get t) m.areas ≡ without_key e.key (areas_by (slab_get s) l.areas)
       slots_emptied_areas m em =
-          ap (λ S. areas_by S m.areas) (fun_same _ _ gone.entries) ∙ ap (λ (z : SlotLists). areas_by (set_at v.0 None (slab_get s)) z.areas) em
+          ap (λ S. areas_by S m.areas) (fun_same _ _ gone.entries)
+          ∙ ap (λ (z : SlotLists). areas_by (set_at v.0 None (slab_get s)) z.areas) em
           ∙ emptied_areas (index_get bytes_eq i) (slab_get s) (due_at w.dues) l.areas h e v at
 
 -- what a slot holds that holds something
@@ -151,14 +185,22 @@ entry_of None h = absurd (cc (h))
 entry_of (Some e) h = (e, refl)
 
 -- room stays where an entry leaves
-pub room_vacated : {St : Type 0} (e : Entry) (v : ℕ) (i j : IndexMap (List ℕ) Slot St) (s t : Slab Entry) (l m : SlotLists) (w x : Dues) → IsVacated e v i j s t → m.slots ≡ l.slots → x ≡ untimed_at v w
+pub room_vacated : {St : Type 0} (e : Entry) (v : ℕ) (i j : IndexMap (List ℕ) Slot St) (s t : Slab Entry) (l m : SlotLists)
+    (w x : Dues)
+    → IsVacated e v i j s t → m.slots ≡ l.slots → x ≡ untimed_at v w
     → room_in i s l w ≡ true → room_in j t m x ≡ true
 room_vacated e v i j s t l m w x gone em ex h =
     let r = room_parts i s l w h in
     let long : length x.dues ≡ length w.dues = ap (λ (z : Dues). length z.dues) ex ∙ length-set w.dues v None in
-    room_whole j t m x (record { index = omega (arith, r.index, gone.spare); entries = omega (arith, r.entries, gone.fewer, gone.capacity); lists = omega (arith, r.lists, em, gone.capacity); wheel = omega (arith, r.wheel, long, gone.capacity) })
+    room_whole j t m x (record {
+      index = omega (arith, r.index, gone.spare);
+      entries = omega (arith, r.entries, gone.fewer, gone.capacity);
+      lists = omega (arith, r.lists, em, gone.capacity);
+      wheel = omega (arith, r.wheel, long, gone.capacity);
+    })
 
-module _ {St : Type 0} (i : IndexMap (List ℕ) Slot St) (s : Slab Entry) (l : SlotLists) (w : Dues) (h : Agree (index_get bytes_eq i) (slab_get s) (due_at w.dues) l.areas) where
+module _ {St : Type 0} (i : IndexMap (List ℕ) Slot St) (s : Slab Entry) (l : SlotLists) (w : Dues)
+    (h : Agree (index_get bytes_eq i) (slab_get s) (due_at w.dues) l.areas) where
   abbrev shown : Held
   shown = record { limits = l.limits; areas = areas_by (slab_get s) l.areas; slots = s.slots; has_room = room_in i s l w }
 
@@ -170,16 +212,21 @@ module _ {St : Type 0} (i : IndexMap (List ℕ) Slot St) (s : Slab Entry) (l : S
       go None e k = absurd (cc)
       go (Some d) e k =
           let own : d.key ≡ key = some_same d.key key k in
-          let there : held key (areas_by (slab_get s) l.areas) ≡ Some d = ap (λ q. held q (areas_by (slab_get s) l.areas)) (sym own) ∙ held_filled (index_get bytes_eq i) (slab_get s) (due_at w.dues) l.areas h d v e in
+          let there : held key (areas_by (slab_get s) l.areas) ≡ Some d =
+          ap (λ q. held q (areas_by (slab_get s) l.areas)) (sym own)
+          ∙ held_filled (index_get bytes_eq i) (slab_get s) (due_at w.dues) l.areas h d v e in
           record { entry = d; at = e; own = own; held = there }
 
   pub slots_missed : (key : List ℕ) → index_get bytes_eq i key ≡ None → FindsSlot None key shown
-  slots_missed key none =
-      (held_emptied (index_get bytes_eq i) (slab_get s) (due_at w.dues) l.areas h key none, without_unheld (index_get bytes_eq i) (slab_get s) (due_at w.dues) l.areas h key none)
+  slots_missed key none = (
+    held_emptied (index_get bytes_eq i) (slab_get s) (due_at w.dues) l.areas h key none,
+    without_unheld (index_get bytes_eq i) (slab_get s) (due_at w.dues) l.areas h key none,
+  )
 
 -- the slots that hold entries stay below a number
 
-pub within_taken : (n v : ℕ) (e : Entry) (S T : ℕ → Option Entry) → v < n → ((k : ℕ) → T k ≡ set_at v (Some e) S k) → AreWithin n S → AreWithin n T
+pub within_taken : (n v : ℕ) (e : Entry) (S T : ℕ → Option Entry) → v < n → ((k : ℕ) → T k ≡ set_at v (Some e) S k)
+    → AreWithin n S → AreWithin n T
 within_taken n v e S T l f h = λ k g. go k (k == v) refl (sym (ap is_some (f k)) ∙ g)
   where
     go : (k : ℕ) (b : Bool) → (k == v) ≡ b → is_some (cond b (Some e) (S k)) ≡ true → k < n

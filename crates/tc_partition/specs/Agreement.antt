@@ -1,4 +1,5 @@
--- How index, entries, lists and wheel agree, each seen as a function: a slot by key, an entry by slot, a due by slot. Source: this project's own.
+-- How index, entries, lists and wheel agree, each seen as a function: a slot by key,
+-- an entry by slot, a due by slot. Source: this project's own.
 use Rattle.std.specs.Prelude.{◌≡◌, ℕ, ◌^◌, ◌==◌, nat_lt, cond, List, [], Option, Some, None, option_map}
 use Rattle.std.specs.Str.{bytes_eq}
 use Rattle.tc_model.specs.Areas.{Areas, total}

@@ -4,7 +4,7 @@ use Rattle.tc_grammar.specs.declared.command.Command.{Command}
 use Rattle.tc_grammar.specs.declared.command.Command.TheVariants.{Get}
 use Rattle.tc_plain.specs.UserCache.{UserCache}
 use Rattle.tc_plain.specs.Doing.{with_live}
-use Rattle.tc_partition.specs.Deferred.{Waiting, Lazy, IsLazy, settled, hit, noted}
+use Rattle.tc_partition.specs.Deferred.{Waiting, Lazy, IsLazy, settled, hit, deferred}
 use Rattle.tc_partition.specs.WaitingSlots.{waiting_of, lazy_by, ArePlaced}
 use Rattle.tc_partition.specs.SlotCaches.{cache_of, IsSlotCache}
 use Rattle.tc_partition.specs.declared.fast.Fast.TheInside.{Inside}
@@ -25,7 +25,7 @@ settled_in d = with_live d.cache (settled (lazy_in d))
 
 -- a look-up of a key waits
 abbrev pub noted_in : Delayed → List ℕ → Delayed
-noted_in d key = record d { waiting = (noted (lazy_in d) key).waiting }
+noted_in d key = record d { waiting = (deferred (lazy_in d) key).waiting }
 
 -- one look-up more, done at once
 abbrev pub hit_in : List ℕ → UserCache → UserCache

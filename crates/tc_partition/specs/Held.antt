@@ -1,5 +1,6 @@
 -- What callers see of the entries held by slots. Source: this project's own.
-use Rattle.std.specs.Prelude.{◌≡◌, Bool, true, false, is_some, IsSome, count_by, slice_index_or, ℕ, [], ◌∷◌, ◌+◌, ◌<◌, ◌≤◌, ◌&&◌, nat_lt, nat_le, List, Option, Some, None, length, slice_set}
+use Rattle.std.specs.Prelude.{◌≡◌, Bool, true, false, is_some, IsSome, count_by, slice_index_or, ℕ, [], ◌∷◌, ◌+◌, ◌<◌, ◌≤◌, ◌&&◌}
+use Rattle.std.specs.Prelude.{nat_lt, nat_le, List, Option, Some, None, length, slice_set}
 use Rattle.std.specs.Str.{bytes_eq}
 use Rattle.indexmap.specs.IndexMap.{IndexMap, get as index_get, spare}
 use Rattle.slab.specs.Slab.{Slab, get as slab_get, slab_len}
@@ -7,7 +8,7 @@ use Rattle.tc_item.specs.declared.slot.Slot.{Slot}
 use Rattle.tc_model.specs.Areas.{Areas, Limits, settle, and_then}
 use Rattle.tc_plain.specs.AreaLists.{frequency_in}
 use Rattle.tc_plain.specs.Entries.{weight}
-use Rattle.tc_plain.specs.Live.{held}
+use Rattle.tc_plain.specs.EvictionState.{held}
 use Rattle.tc_plain.specs.Placing.{without_key}
 use Rattle.tc_sketch.specs.Sketch.{Sketch, freq, hash}
 use Rattle.tc_plain.specs.declared.entry.Entry.{Entry}

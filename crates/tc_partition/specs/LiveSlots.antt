@@ -1,6 +1,6 @@
 -- What look-ups touch, by what the code keeps. Source: this project's own.
 use Rattle.std.specs.Prelude.{◌≡◌}
-use Rattle.tc_plain.specs.Live.{Live}
+use Rattle.tc_plain.specs.EvictionState.{EvictionState}
 use Rattle.tc_plain.specs.declared.plans.Plan.{Plan}
 use Rattle.tc_plain.specs.declared.plans.Plan.TheVariants.{Ends, Changes}
 use Rattle.tc_partition.specs.declared.live_slots.LiveSlots.{LiveSlots}
@@ -8,7 +8,7 @@ use Rattle.tc_partition.specs.declared.work.Work.{Work}
 use Rattle.tc_partition.specs.declared.work.Work.TheVariants.{Ends as EndsWork, Changes as ChangesWork}
 
 -- what look-ups touch
-abbrev pub live_of : LiveSlots → Live
+abbrev pub live_of : LiveSlots → EvictionState
 live_of s = record { limits = s.held.limits; areas = s.held.areas; sketch = s.sketch; flush = s.flush; moment = s.moment }
 
 -- the plan of some work

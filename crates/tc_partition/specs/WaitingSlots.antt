@@ -4,7 +4,7 @@ use Rattle.tc_item.specs.declared.slot.Slot.{Slot}
 use Rattle.tc_readbuf.specs.declared.noted.Noted.{Noted}
 use Rattle.tc_readbuf.specs.declared.noted.Noted.TheVariants.{Hit as HitNoted, Miss as MissNoted}
 use Rattle.tc_plain.specs.declared.entry.Entry.{Entry}
-use Rattle.tc_plain.specs.Live.{Live}
+use Rattle.tc_plain.specs.EvictionState.{EvictionState}
 use Rattle.tc_partition.specs.Agreement.{entry_or}
 use Rattle.tc_partition.specs.Deferred.{Note, Hit, Miss, Waiting, Lazy, peeked}
 use Rattle.tc_partition.specs.LiveSlots.{live_of}
@@ -20,7 +20,7 @@ abbrev pub waiting_of : List (Option Entry) → Noted × ℕ → Waiting
 waiting_of slots r = record { note = note_at slots r.0; moment = r.1 }
 
 -- what was done last, what waits by these slots, and the moment
-abbrev pub lazy_over : Live → List (Option Entry) → List (Noted × ℕ) → ℕ → Lazy
+abbrev pub lazy_over : EvictionState → List (Option Entry) → List (Noted × ℕ) → ℕ → Lazy
 lazy_over l slots rs moment = record { base = l; waiting = map (waiting_of slots) rs; moment = moment }
 
 -- a live, what waits and the moment

@@ -19,7 +19,7 @@
 //! is done by the next command that drains, behind the look-ups before it; until then a look-up
 //! finds nothing under any key.
 ghost use Rattle.std.specs.Prelude.{◌≡◌, ◌≤◌, ◌^◌, [], length, drop, IfOk, OnOk, OnErr};
-ghost use Rattle.tc_stats.specs.Counting.{noted as counted_noted};
+ghost use Rattle.tc_stats.specs.UserCounters.{noted as counted_noted};
 ghost use Rattle.tc_plain.specs.Soundness.{HasShortKey};
 ghost use Rattle.tc_plain.specs.UserCache.{fresh, advance};
 ghost use Rattle.tc_plain.specs.Doing.{act};

@@ -9,11 +9,11 @@ ghost use Rattle.tc_partition.specs.WaitingSlots.{note_at, waiting_of, lazy_over
 
 use crate::slots::Slots;
 use tc_item::Moment;
-use tc_plain::Live;
+use tc_plain::EvictionState;
 use tc_readbuf::{Noted, ReadBuf};
 
 /// Does what was noted: a hit by the key of what its slot holds.
-fn do_noted(live: &mut Live, slots: &Slots, noted: Noted)
+fn do_noted(live: &mut EvictionState, slots: &Slots, noted: Noted)
     requires weight { total weight (areas_of live.old.areas) < 2 ^ 32 }
     requires room { HasRoom 0 live.old.areas }
     ensures live { live_of live.new ≡ do_note (note_at slots.now.slots noted) (live_of live.old) }
@@ -28,7 +28,7 @@ fn do_noted(live: &mut Live, slots: &Slots, noted: Noted)
 }
 
 /// Does the record at a place, at its own moment.
-fn replay_at(live: &mut Live, slots: &Slots, waiting: &ReadBuf, place: usize)
+fn replay_at(live: &mut EvictionState, slots: &Slots, waiting: &ReadBuf, place: usize)
     requires sound { AreSound live.old.limits (areas_of live.old.areas) }
     requires light { live.old.limits.window + live.old.limits.main < 2 ^ 32 }
     requires room { HasRoom 0 live.old.areas }
@@ -44,7 +44,7 @@ fn replay_at(live: &mut Live, slots: &Slots, waiting: &ReadBuf, place: usize)
 }
 
 /// Does all that waits, each record at its own moment, and comes to the moment.
-pub fn replay(live: &mut Live, slots: &Slots, waiting: &ReadBuf, moment: Moment)
+pub fn replay(live: &mut EvictionState, slots: &Slots, waiting: &ReadBuf, moment: Moment)
     requires lazy { IsLazy (lazy_over (live_of live.old) slots.now.slots waiting.now moment) }
     requires light { live.old.limits.window + live.old.limits.main < 2 ^ 32 }
     requires room { HasRoom 0 live.old.areas }

@@ -1,10 +1,11 @@
 //! What look-ups touch of one user's cache.
-ghost use Rattle.std.specs.Prelude.{◌≡◌, ℕ, max, false, None, IsSome, slice_index_or, ◌<◌, ◌≤◌, ◌+◌, ◌^◌, true, is_some, length, Some, IfOk, OnOk, MatchOption, List, ⊤};
+ghost use Rattle.std.specs.Prelude.{◌≡◌, ℕ, max, false, None, IsSome, slice_index_or, ◌<◌, ◌≤◌, ◌+◌, ◌^◌, true, is_some, length};
+ghost use Rattle.std.specs.Prelude.{Some, IfOk, OnOk, MatchOption, List, ⊤};
 ghost use Rattle.tc_model.specs.Areas.{total, settle};
-ghost use Rattle.tc_stats.specs.Counting.{more};
+ghost use Rattle.tc_stats.specs.UserCounters.{more};
 ghost use Rattle.tc_plain.specs.declared.entry.Entry.{Entry};
 ghost use Rattle.tc_plain.specs.Entries.{weight, lives, with_item};
-ghost use Rattle.tc_plain.specs.Live.{is_flush_due, advanced, held};
+ghost use Rattle.tc_plain.specs.EvictionState.{is_flush_due, advanced, held};
 ghost use Rattle.tc_plain.specs.Placing.{frequency, used, without_key};
 ghost use Rattle.tc_plain.specs.Doing.{flushed};
 ghost use Rattle.tc_plain.specs.AreaLists.{change_of, live_of as lists_live};
@@ -20,7 +21,7 @@ use crate::slots::Slots;
 use crate::work::Work;
 use std::alloc::Global;
 use tc_item::{Due, Key, Moment, NoMemory, Slot, alive};
-use tc_plain::{End, Entry, Limits, Live, LookUps};
+use tc_plain::{End, Entry, EvictionState, Limits, LookUps};
 use tc_sketch::{Sketch, hash};
 use tc_stats::Counters;
 
@@ -224,11 +225,11 @@ impl LiveSlots {
     }
 
     /// The same as lists, of their own. The limits are those that it has.
-    pub(crate) fn copy(&self, alloc: Global, limits: Limits) -> Result<Live, NoMemory>
+    pub(crate) fn copy(&self, alloc: Global, limits: Limits) -> Result<EvictionState, NoMemory>
         requires { limits ≡ self.now.held.limits }
         ensures { IfOk result (λ live. lists_live live ≡ live_of self.now) }
     {
-        Ok(Live {
+        Ok(EvictionState {
             limits,
             areas: self.held.copy(alloc)?,
             sketch: self.sketch.copy()?,
@@ -255,7 +256,8 @@ impl LiveSlots {
             → outcome_of result ≡ (planned k (plan_of work)).0 }
         ensures state { (k : UserCache) → k.live ≡ live_of self.old → k.last ≡ last.old
             → k.counters ≡ counters.old
-            → (planned k (plan_of work)).1 ≡ record k { live = live_of self.new; last = last.new; counters = counters.new } }
+            → (planned k (plan_of work)).1
+            ≡ record k { live = live_of self.new; last = last.new; counters = counters.new } }
     {
         let (end, key, mut entry) = match work {
             Work::Ends(end) => return end,

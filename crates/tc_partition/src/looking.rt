@@ -1,7 +1,7 @@
 //! Look-ups that wait: what they show is peeked at, then each is noted.
 ghost use Rattle.std.specs.Prelude.{◌≡◌, ◌<◌, ◌∷◌, ◌++◌, [], nat_lt, length, option_map, option_to_list, IfOk, OnOk, OnErr};
 ghost use Rattle.tc_plain.specs.Entries.{hit_of};
-ghost use Rattle.tc_plain.specs.Live.{at_moment};
+ghost use Rattle.tc_plain.specs.EvictionState.{at_moment};
 ghost use Rattle.tc_plain.specs.Soundness.{AreSound};
 ghost use Rattle.tc_plain.specs.UserCache.{advance};
 ghost use Rattle.tc_plain.specs.Doing.{with_live, all_looked_up};
@@ -31,7 +31,8 @@ fn add_hit(
 ) -> Result<Option<Slot>, NoMemory>
     requires { AreSound live.now.held.limits live.now.held.areas }
     ensures { OnOk result (hits.new
-        ≡ hits.old ++ option_to_list (option_map hit_of (peeked moment key.now (live_of live.now)))) }
+        ≡ hits.old
+        ++ option_to_list (option_map hit_of (peeked moment key.now (live_of live.now)))) }
 {
     let Some(slot) = live.seek(key, moment) else {
         return Ok(None);

@@ -4,12 +4,13 @@
 //! (`specs/SlotCaches.antt`), under the premise that this is sound, and `Fast`, whose base it is,
 //! keeps it so.
 ghost use Rattle.std.specs.Prelude.{◌≡◌, ◌≤◌, ◌<◌, ◌^◌, max, IfOk, OnOk, OnErr};
-ghost use Rattle.tc_stats.specs.Counting.{noted};
+ghost use Rattle.tc_stats.specs.UserCounters.{noted};
 ghost use Rattle.tc_plain.specs.Entries.{with_due, weight};
-ghost use Rattle.tc_plain.specs.Live.{held};
+ghost use Rattle.tc_plain.specs.EvictionState.{held};
 ghost use Rattle.tc_plain.specs.UserCache.{fresh, advance};
 ghost use Rattle.tc_plain.specs.Storing.{stored};
-ghost use Rattle.tc_plain.specs.Doing.{with_live, all_looked_up, as_values, done, act, touched, deleted, counted_under, flushed, numbers_of};
+ghost use Rattle.tc_plain.specs.Doing.{with_live, all_looked_up, as_values, done, act, touched, deleted, counted_under, flushed};
+ghost use Rattle.tc_plain.specs.Doing.{numbers_of};
 ghost use Rattle.tc_plain.specs.Plans.{outcome_of, planned, IsLightPlan};
 ghost use Rattle.tc_item.specs.Expiry.{due_of};
 ghost use Rattle.tc_plain.specs.AreaLists.{change_of, HasRoom, live_of as lists_live};
@@ -27,7 +28,7 @@ use tc_grammar::{Command, Head, Way};
 use tc_item::exptime::due;
 use tc_item::{Blob, Due, Key, Keys, Moment, NoMemory, Slot};
 use tc_plain::{
-    Bid, End, Limits, Live, LookUps, Plan, look_all, look_up, offer, plan_count, plan_item,
+    Bid, End, EvictionState, Limits, LookUps, Plan, look_all, look_up, offer, plan_count, plan_item,
 };
 use tc_sketch::{Sketch, width_of};
 use tc_stats::{Counters, Hits, Outcome, Statistics};
@@ -74,7 +75,7 @@ impl SlotCache {
     }
 
     /// What look-ups touch, as lists of their own.
-    pub(crate) fn copy(&self, alloc: Global) -> Result<Live, NoMemory>
+    pub(crate) fn copy(&self, alloc: Global) -> Result<EvictionState, NoMemory>
         requires { IsSlotCache self.now }
         ensures live { IfOk result (λ live. lists_live live ≡ live_of self.now.live) }
         ensures room { IfOk result (λ live. HasRoom 0 live.areas) }

@@ -15,14 +15,15 @@
 //! 2. `within`: each slot that holds an entry has a place in the wheel.
 //!
 //! So no key is held twice, and what the lists stand for under a key is what the index finds.
-ghost use Rattle.std.specs.Prelude.{◌≡◌, ℕ, true, false, IfOk, length, ◌+◌, ◌<◌, ◌≤◌, ◌^◌, Some, None, is_some, IsSome, OnOk, slice_index_or, slice_set};
+ghost use Rattle.std.specs.Prelude.{◌≡◌, ℕ, true, false, IfOk, length, ◌+◌, ◌<◌, ◌≤◌, ◌^◌, Some, None, is_some, IsSome, OnOk};
+ghost use Rattle.std.specs.Prelude.{slice_index_or, slice_set};
 ghost use Rattle.tc_model.specs.Areas.{Limits as AreaLimits, total, settle, accessed};
 ghost use Rattle.std.specs.Option.{option_copied};
-ghost use Rattle.tc_stats.specs.Counting.{more};
+ghost use Rattle.tc_stats.specs.UserCounters.{more};
 ghost use Rattle.tc_plain.specs.AreaLists.{frequency_in, areas_of};
 ghost use Rattle.tc_plain.specs.Soundness.{AreSound};
 ghost use Rattle.tc_plain.specs.Entries.{weight, has_key, lives, with_item, with_due};
-ghost use Rattle.tc_plain.specs.Live.{held, kept, no_entries, entries_of};
+ghost use Rattle.tc_plain.specs.EvictionState.{held, kept, no_entries, entries_of};
 ghost use Rattle.tc_plain.specs.Placing.{without_key, at_front};
 ghost use Rattle.tc_plain.specs.declared.entry.Entry.{Entry};
 ghost use Rattle.tc_sketch.specs.Sketch.{hash};

@@ -8,7 +8,7 @@ use Rattle.tc_item.specs.declared.moment.Due.TheVariants.{Never, At}
 use Rattle.tc_item.specs.Expiry.{is_before}
 use Rattle.tc_plain.specs.declared.entry.Entry.{Entry}
 use Rattle.tc_plain.specs.Entries.{lives}
-use Rattle.tc_plain.specs.Live.{Live, no_entries, kept, is_flush_due, at_moment, advanced}
+use Rattle.tc_plain.specs.EvictionState.{EvictionState, no_entries, kept, is_flush_due, at_moment, advanced}
 use Rattle.tc_plain.specs.Doing.{done, with_note}
 use Rattle.tc_plain.specs.Laws.{AdvancesOnce, ActsAdvanced, user_caching}
 use Rattle.std.proofs.lemmas.Bool.{leb-true, le-leb, ltb-true, lt-ltb}
@@ -19,7 +19,8 @@ is_before-earlier m n Never le h = refl
 is_before-earlier m n (At d) le h = lt-ltb m d (omega (arith, ltb-true n d h))
 
 -- to filter by a weaker test first changes nothing
-filter-filter : {A : Type 0} (p q : A → Bool) → ((x : A) → q x ≡ true → p x ≡ true) → (xs : List A) → filter q (filter p xs) ≡ filter q xs
+filter-filter : {A : Type 0} (p q : A → Bool) → ((x : A) → q x ≡ true → p x ≡ true) → (xs : List A)
+    → filter q (filter p xs) ≡ filter q xs
 filter-filter p q h [] = refl
 filter-filter {A} p q h (x ∷ xs) = go (p x) (q x) refl (h x) (filter-filter p q h xs)
   where
@@ -37,35 +38,44 @@ is_flush_due-later m n (Some d) le h = le-leb d n (omega (arith, leb-true d m h)
 
 kept-kept : (m n : ℕ) (a : Areas Entry) → m ≤ n → kept (lives n) (kept (lives m) a) ≡ kept (lives n) a
 kept-kept m n a le =
-    let f : (xs : List Entry) → filter (lives n) (filter (lives m) xs) ≡ filter (lives n) xs = filter-filter (lives m) (lives n) (λ e. is_before-earlier m n e.item.due le) in
+    let f : (xs : List Entry) → filter (lives n) (filter (lives m) xs) ≡ filter (lives n) xs =
+    filter-filter (lives m) (lives n) (λ e. is_before-earlier m n e.item.due le) in
     rw (f a.window, f a.probation, f a.protected) refl
 
-pub moment-at_moment : (m : ℕ) (l : Live) → (at_moment m l).moment ≡ m
+pub moment-at_moment : (m : ℕ) (l : EvictionState) → (at_moment m l).moment ≡ m
 moment-at_moment m l = go (is_flush_due l.flush m)
   where
-    go : (b : Bool) → (cond b (record l { areas = no_entries; flush = None; moment = m }) (record l { areas = kept (lives m) l.areas; moment = m })).moment ≡ m
+    go : (b : Bool)
+        → (cond b (record l { areas = no_entries; flush = None; moment = m })
+        (record l { areas = kept (lives m) l.areas; moment = m })).moment
+        ≡ m
     go true = refl
     go false = refl
 
-pub limits-at_moment : (m : ℕ) (l : Live) → (at_moment m l).limits ≡ l.limits
+pub limits-at_moment : (m : ℕ) (l : EvictionState) → (at_moment m l).limits ≡ l.limits
 limits-at_moment m l = go (is_flush_due l.flush m)
   where
-    go : (b : Bool) → (cond b (record l { areas = no_entries; flush = None; moment = m }) (record l { areas = kept (lives m) l.areas; moment = m })).limits ≡ l.limits
+    go : (b : Bool)
+        → (cond b (record l { areas = no_entries; flush = None; moment = m })
+        (record l { areas = kept (lives m) l.areas; moment = m })).limits
+        ≡ l.limits
     go true = refl
     go false = refl
 
-pub at_moment-at_moment : (m n : ℕ) (l : Live) → m ≤ n → at_moment n (at_moment m l) ≡ at_moment n l
+pub at_moment-at_moment : (m n : ℕ) (l : EvictionState) → m ≤ n → at_moment n (at_moment m l) ≡ at_moment n l
 at_moment-at_moment m n l le = go (is_flush_due l.flush m) (is_flush_due l.flush n) refl (is_flush_due-later m n l.flush le)
   where
     go : (a b : Bool) → is_flush_due l.flush n ≡ b → (a ≡ true → b ≡ true)
-        → at_moment n (cond a (record l { areas = no_entries; flush = None; moment = m }) (record l { areas = kept (lives m) l.areas; moment = m }))
-        ≡ cond b (record l { areas = no_entries; flush = None; moment = n }) (record l { areas = kept (lives n) l.areas; moment = n })
+        → at_moment n (cond a (record l { areas = no_entries; flush = None; moment = m })
+        (record l { areas = kept (lives m) l.areas; moment = m }))
+        ≡ cond b (record l { areas = no_entries; flush = None; moment = n })
+        (record l { areas = kept (lives n) l.areas; moment = n })
     go true true e f = refl
     go true false e f = absurd (grind (arith, f refl))
     go false true e f = rw e refl
     go false false e f = rw (e, kept-kept m n l.areas le) refl
 
-pub advanced-advanced : (l : Live) (m n : ℕ) → m ≤ n → advanced (advanced l m) n ≡ advanced l n
+pub advanced-advanced : (l : EvictionState) (m n : ℕ) → m ≤ n → advanced (advanced l m) n ≡ advanced l n
 advanced-advanced l m n le =
     rw (moment-at_moment (max l.moment m) l)
     (let same : max (max l.moment m) n ≡ max l.moment n = omega arith in

@@ -3,7 +3,8 @@ use Rattle.std.specs.Prelude.{max, nat_lt, nat_le, ◌==◌, ◌&&◌, ◌^◌, 
 use Rattle.std.specs.List.{list_all}
 use Rattle.std.specs.Char.{is_ascii_digit}
 use Rattle.std.specs.Str.Parse.{digits_value}
-use Rattle.std.proofs.Common.{◌≡◌, ℕ, zero, suc, ◌+◌, ◌-◌, ◌≤◌, ◌<◌, Bool, true, false, cond, List, [], ◌∷◌, length, Option, Some, None, refl, sym, ◌∙◌, ap, subst, arith}
+use Rattle.std.proofs.Common.{◌≡◌, ℕ, zero, suc, ◌+◌, ◌-◌, ◌≤◌, ◌<◌, Bool, true, false, cond, List, [], ◌∷◌, length, Option, Some}
+use Rattle.std.proofs.Common.{None, refl, sym, ◌∙◌, ap, subst, arith}
 use Rattle.std.proofs.lemmas.Bool.{ltb-true, ltb-false, eqb-false, or_parts, and_parts}
 use Rattle.std.proofs.lemmas.Fmt.{length-decimal-le}
 use Rattle.tc_model.specs.Areas.{Limits}
@@ -15,12 +16,13 @@ use Rattle.tc_counter.specs.CounterText.{is_counter_text, number_in, text_of}
 use Rattle.tc_grammar.specs.declared.command.Way.{Way}
 use Rattle.tc_grammar.specs.declared.command.Way.TheVariants.{Incr, Decr}
 use Rattle.tc_grammar.specs.declared.command.Command.{Command}
-use Rattle.tc_grammar.specs.declared.command.Command.TheVariants.{Store, Get, Gat, Delete, Count, Touch, Flush, Stats as AskStats, Version as AskVersion, Verbosity, Quit}
+use Rattle.tc_grammar.specs.declared.command.Command.TheVariants.{Store, Get, Gat, Delete, Count, Touch, Flush, Stats as AskStats}
+use Rattle.tc_grammar.specs.declared.command.Command.TheVariants.{Version as AskVersion, Verbosity, Quit}
 use Rattle.tc_stats.specs.declared.outcome.Outcome.{Outcome}
 use Rattle.tc_stats.specs.declared.outcome.Outcome.TheVariants.{Stored, Number, TooLarge, CasWorn}
 use Rattle.tc_plain.specs.declared.entry.Entry.{Entry}
 use Rattle.tc_plain.specs.Entries.{weight, with_item, with_due, with_data}
-use Rattle.tc_plain.specs.Live.{Live, limits_of, held, at_moment}
+use Rattle.tc_plain.specs.EvictionState.{EvictionState, limits_of, held, at_moment}
 use Rattle.tc_plain.specs.Placing.{seen, frequency, used}
 use Rattle.tc_plain.specs.UserCache.{UserCache, advance}
 use Rattle.tc_plain.specs.Storing.{Offer, Refused, Offered, is_too_large, is_worn, changed, accepted}
@@ -29,7 +31,8 @@ use Rattle.tc_plain.specs.Soundness.{AreSound, IsSound, HasShortKey, StaysSound}
 use Rattle.tc_plain.proofs.Sound.{IsLight, held_light, sound_kept, sound_none, sound_at_moment, sound_hit, sound_settled}
 
 -- another state of what look-ups touch
-pub sound_with : (k : UserCache) (l : Live) → IsSound k → l.limits ≡ k.live.limits → AreSound k.live.limits l.areas → IsSound (with_live k l)
+pub sound_with : (k : UserCache) (l : EvictionState) → IsSound k → l.limits ≡ k.live.limits → AreSound k.live.limits l.areas
+    → IsSound (with_live k l)
 sound_with k l h same s = record {
   least_budget = h.least_budget;
   most_budget = h.most_budget;
@@ -59,25 +62,32 @@ sound_accepted k key (Refused o) h = h
 sound_accepted k key (Offered item) h = go (is_too_large k key item.blob) refl (is_worn k) refl
   where
     go : (a : Bool) → is_too_large k key item.blob ≡ a → (b : Bool) → is_worn k ≡ b
-        → IsSound (cond a (let r : Outcome × UserCache = (TooLarge, k) in r) (cond b (CasWorn, k) (Stored, changed (record { key = key; item = item }) k))).1
+        → IsSound (cond a (let r : Outcome × UserCache = (TooLarge, k) in r)
+        (cond b (CasWorn, k) (Stored, changed (record { key = key; item = item }) k))).1
     go true l b w = h
     go false l true w = h
     go false l false w =
-        let light = (or_parts (nat_lt k.largest (length item.blob)) (nat_lt k.live.limits.main (weight_of key (length item.blob))) l).1 in
-        sound_changed (record { key = key; item = item }) k w (ltb-false k.live.limits.main (weight_of key (length item.blob)) light) h
+        let light = (or_parts (nat_lt k.largest (length item.blob)) (nat_lt k.live.limits.main (weight_of key (length item.blob)))
+        l).1 in
+        sound_changed (record { key = key; item = item }) k w
+        (ltb-false k.live.limits.main (weight_of key (length item.blob)) light) h
 
 -- what is found under a key is found under its own
-pub held_own : (limits : Limits) (key : List ℕ) (l : Live) (e : Entry) → held key l.areas ≡ Some e → AreSound limits l.areas → held e.key l.areas ≡ Some e
+pub held_own : (limits : Limits) (key : List ℕ) (l : EvictionState) (e : Entry) → held key l.areas ≡ Some e
+    → AreSound limits l.areas → held e.key l.areas ≡ Some e
 held_own limits key l e f h = ap (λ q. held q l.areas) (held_light limits key l.areas e f h).0 ∙ f
 
-pub sound_looked : (change : Item → Item) → ((i : Item) → (change i).blob ≡ i.blob) → (keys : List (List ℕ)) (l : Live) → AreSound l.limits l.areas
+pub sound_looked : (change : Item → Item) → ((i : Item) → (change i).blob ≡ i.blob) → (keys : List (List ℕ)) (l : EvictionState)
+    → AreSound l.limits l.areas
     → AreSound l.limits (all_looked_up change keys l).1.areas × ((all_looked_up change keys l).1.limits ≡ l.limits)
 sound_looked change q [] l h = (h, refl)
 sound_looked change q (key ∷ keys) l h = go (held key l.areas) refl (λ j g. sound_looked change q keys j g)
   where
     go : (o : Option Entry) → held key l.areas ≡ o
-        → ((j : Live) → AreSound j.limits j.areas → AreSound j.limits (all_looked_up change keys j).1.areas × ((all_looked_up change keys j).1.limits ≡ j.limits))
-        → AreSound l.limits (all_looked_up change keys (looked_up change key o l).1).1.areas × ((all_looked_up change keys (looked_up change key o l).1).1.limits ≡ l.limits)
+        → ((j : EvictionState) → AreSound j.limits j.areas
+        → AreSound j.limits (all_looked_up change keys j).1.areas × ((all_looked_up change keys j).1.limits ≡ j.limits))
+        → AreSound l.limits (all_looked_up change keys (looked_up change key o l).1).1.areas
+        × ((all_looked_up change keys (looked_up change key o l).1).1.limits ≡ l.limits)
     go None f later = later (seen key l) h
     go (Some e) f later =
         let x = with_item e (change e.item) in
@@ -91,7 +101,8 @@ sound_touched due key k h = go (held key k.live.areas) refl
     go None f = sound_with k (seen key k.live) h refl h.areas
     go (Some e) f =
         let x = with_item e (with_due due e.item) in
-        sound_with k (used x k.live) h refl (sound_hit k.live x e (held_own k.live.limits key k.live e f h.areas) (omega arith) h.areas)
+        sound_with k (used x k.live) h refl
+        (sound_hit k.live x e (held_own k.live.limits key k.live e f h.areas) (omega arith) h.areas)
 
 sound_deleted : (key : List ℕ) (k : UserCache) → IsSound k → IsSound (deleted key (held key k.live.areas) k).1
 sound_deleted key k h = go (held key k.live.areas)
@@ -103,13 +114,17 @@ sound_deleted key k h = go (held key k.live.areas)
 -- a number that is read is one of 64 bits, and so is what it is counted to
 pub number-lt : (text : List ℕ) (n : ℕ) → number_in text ≡ Some n → n < 2 ^ 64
 unfolding number_in
-number-lt text n e = go (is_counter_text (take_while is_ascii_digit text) (drop (length (take_while is_ascii_digit text)) text)) refl e
+number-lt text n e =
+    go (is_counter_text (take_while is_ascii_digit text) (drop (length (take_while is_ascii_digit text)) text)) refl e
   where
-    go : (b : Bool) → is_counter_text (take_while is_ascii_digit text) (drop (length (take_while is_ascii_digit text)) text) ≡ b → cond b (Some (digits_value 10 (take_while is_ascii_digit text))) None ≡ Some n → n < 2 ^ 64
+    go : (b : Bool) → is_counter_text (take_while is_ascii_digit text) (drop (length (take_while is_ascii_digit text)) text) ≡ b
+        → cond b (Some (digits_value 10 (take_while is_ascii_digit text))) None ≡ Some n → n < 2 ^ 64
     go true t f =
         let digits = take_while is_ascii_digit text in
-        let front = (and_parts (nat_le 1 (length digits) && nat_le (length digits) 20 && nat_lt (digits_value 10 digits) (2 ^ 64)) (list_all (λ c. c == 32) (drop (length digits) text)) t).0 in
-        let small = (and_parts (nat_le 1 (length digits) && nat_le (length digits) 20) (nat_lt (digits_value 10 digits) (2 ^ 64)) front).1 in
+        let front = (and_parts (nat_le 1 (length digits) && nat_le (length digits) 20 && nat_lt (digits_value 10 digits) (2 ^ 64))
+        (list_all (λ c. c == 32) (drop (length digits) text)) t).0 in
+        let small = (and_parts (nat_le 1 (length digits) && nat_le (length digits) 20)
+        (nat_lt (digits_value 10 digits) (2 ^ 64)) front).1 in
         let same : digits_value 10 digits ≡ n = cc in
         subst (λ m. m < 2 ^ 64) same (ltb-true (digits_value 10 digits) (2 ^ 64) small)
     go false t f = absurd (grind (arith, f))
@@ -118,24 +133,29 @@ pub counted-lt : (way : Way) (n by : ℕ) → n < 2 ^ 64 → counted way n by < 
 counted-lt Incr n by h = omega arith
 counted-lt Decr n by h = omega arith
 
-pub light_number : (limits : Limits) (budget : ℕ) (key : List ℕ) (n : ℕ) → limits ≡ limits_of budget → 65536 ≤ budget → length key ≤ 250 → n < 2 ^ 64 → weight_of key (length (text_of n)) ≤ limits.main
+pub light_number : (limits : Limits) (budget : ℕ) (key : List ℕ) (n : ℕ) → limits ≡ limits_of budget → 65536 ≤ budget
+    → length key ≤ 250 → n < 2 ^ 64 → weight_of key (length (text_of n)) ≤ limits.main
 light_number limits budget key n same big short small =
     let l = length-decimal-le 20 n (omega arith) (omega arith) small in
     let main : limits.main ≡ (limits_of budget).main = ap (λ (t : Limits). t.main) same in
     omega (arith, l, main)
 
-sound_counted : (way : Way) (key : List ℕ) (by : ℕ) (k : UserCache) → length key ≤ 250 → IsSound k → IsSound (counted_under way by (held key k.live.areas) k).1
+sound_counted : (way : Way) (key : List ℕ) (by : ℕ) (k : UserCache) → length key ≤ 250 → IsSound k
+    → IsSound (counted_under way by (held key k.live.areas) k).1
 sound_counted way key by k short h = go (held key k.live.areas) refl
   where
     up : (e : Entry) (n : ℕ) → held key k.live.areas ≡ Some e → n < 2 ^ 64 → (b : Bool) → is_worn k ≡ b
-        → IsSound (cond b (let r : Outcome × UserCache = (CasWorn, k) in r) (Number n, changed (with_item e (with_data (k.last + 1) (text_of n) e.item)) k)).1
+        → IsSound (cond b (let r : Outcome × UserCache = (CasWorn, k) in r)
+        (Number n, changed (with_item e (with_data (k.last + 1) (text_of n) e.item)) k)).1
     up e n f s true w = h
     up e n f s false w =
         let same : e.key ≡ key = (held_light k.live.limits key k.live.areas e f h.areas).0 in
         let le : length e.key ≤ 250 = subst (λ q. length q ≤ 250) (sym same) short in
-        sound_changed (with_item e (with_data (k.last + 1) (text_of n) e.item)) k w (light_number k.live.limits k.budget e.key n h.limits h.least_budget le s) h
+        sound_changed (with_item e (with_data (k.last + 1) (text_of n) e.item)) k w
+        (light_number k.live.limits k.budget e.key n h.limits h.least_budget le s) h
 
-    read : (e : Entry) (o : Option ℕ) → held key k.live.areas ≡ Some e → number_in e.item.blob ≡ o → IsSound (counted_to way by k e o).1
+    read : (e : Entry) (o : Option ℕ) → held key k.live.areas ≡ Some e → number_in e.item.blob ≡ o
+        → IsSound (counted_to way by k e o).1
     read e None f g = h
     read e (Some n) f g = up e (counted way n by) f (counted-lt way n by (number-lt e.item.blob n g)) (is_worn k) refl
 
@@ -146,7 +166,8 @@ sound_counted way key by k short h = go (held key k.live.areas) refl
 pub sound_done : (k : UserCache) (command : Command) → HasShortKey command → IsSound k → IsSound (done k command).1
 sound_done k (Store head blob) short h = sound_accepted k head.key _ h
 sound_done k (Get form keys) short h = let r = sound_looked (λ i. i) (λ i. refl) keys k.live h.areas in sound_with k _ h r.1 r.0
-sound_done k (Gat form exptime keys) short h = let r = sound_looked (with_due (due_of exptime k.live.moment)) (λ i. refl) keys k.live h.areas in sound_with k _ h r.1 r.0
+sound_done k (Gat form exptime keys) short h =
+    let r = sound_looked (with_due (due_of exptime k.live.moment)) (λ i. refl) keys k.live h.areas in sound_with k _ h r.1 r.0
 sound_done k (Delete key quiet) short h = sound_deleted key k h
 sound_done k (Count way key by quiet) short h = sound_counted way key by k short h
 sound_done k (Touch key exptime quiet) short h = sound_touched (due_of exptime k.live.moment) key k h
@@ -158,9 +179,19 @@ sound_done k (Verbosity level quiet) short h = h
 sound_done k Quit short h = h
 
 pub sound_advance : (k : UserCache) (m : ℕ) → IsSound k → IsSound (advance k m)
-sound_advance k m h = let r = sound_at_moment (max k.live.moment m) k.live h.areas in sound_with k (at_moment (max k.live.moment m) k.live) h r.1 r.0
+sound_advance k m h =
+    let r = sound_at_moment (max k.live.moment m) k.live h.areas in
+    sound_with k (at_moment (max k.live.moment m) k.live) h r.1 r.0
 
 pub stays_sound : StaysSound
 stays_sound k m command short h =
     let r = sound_done (advance k m) command short (sound_advance k m h) in
-    record { least_budget = r.least_budget; most_budget = r.most_budget; least_largest = r.least_largest; most_largest = r.most_largest; limits = r.limits; areas = r.areas; last = r.last }
+    record {
+      least_budget = r.least_budget;
+      most_budget = r.most_budget;
+      least_largest = r.least_largest;
+      most_largest = r.most_largest;
+      limits = r.limits;
+      areas = r.areas;
+      last = r.last;
+    }

@@ -1,5 +1,6 @@
 -- The areas and what look-ups touch, as the code keeps them. Source: this project's own.
-use Rattle.std.specs.Prelude.{ℕ, ◌+◌, ◌≤◌, ◌∷◌, ◌++◌, [], ◌≡◌, ◌⊎◌, cond, not, vec_len, vec_capacity, Bool, true, false, Option, Some, None}
+use Rattle.std.specs.Prelude.{ℕ, ◌+◌, ◌≤◌, ◌∷◌, ◌++◌, [], ◌≡◌, ◌⊎◌, cond, not, vec_len, vec_capacity, Bool, true, false, Option}
+use Rattle.std.specs.Prelude.{Some, None}
 use Rattle.tc_model.specs.Areas.{Areas}
 use Rattle.tc_sketch.specs.Sketch.{Sketch, freq, hash}
 use Rattle.tc_item.specs.declared.moment.Due.{Due}
@@ -9,16 +10,16 @@ use Rattle.tc_plain.specs.declared.entry.Entry.{Entry}
 use Rattle.tc_plain.specs.declared.areas.Areas.{Areas as AreaLists}
 use Rattle.tc_plain.specs.declared.areas.Origin.{Origin}
 use Rattle.tc_plain.specs.declared.areas.Origin.TheVariants.{Window, Main}
-use Rattle.tc_plain.specs.declared.live.Live.{Live as LiveLists}
+use Rattle.tc_plain.specs.declared.eviction_state.EvictionState.{EvictionState as LiveLists}
 use Rattle.tc_plain.specs.Entries.{with_due}
-use Rattle.tc_plain.specs.Live.{Live}
+use Rattle.tc_plain.specs.EvictionState.{EvictionState}
 
 -- the areas that three lists are
 abbrev pub areas_of : AreaLists → Areas Entry
 areas_of a = record { window = a.window.items; probation = a.probation.items; protected = a.protected.items }
 
 -- what look-ups touch, by what the code keeps
-abbrev pub live_of : LiveLists → Live
+abbrev pub live_of : LiveLists → EvictionState
 live_of l = record { limits = l.limits; areas = areas_of l.areas; sketch = l.sketch; flush = l.flush; moment = l.moment }
 
 -- how many entries there are in all

@@ -1,4 +1,5 @@
--- What a history of commands last left under a key. It knows nothing of areas, frequencies or evictions. Source: memcached's doc/protocol.txt.
+-- What a history of commands last left under a key. It knows nothing of areas,
+-- frequencies or evictions. Source: memcached's doc/protocol.txt.
 use Rattle.std.specs.Prelude.{ℕ, zero, suc, ◌+◌, cond, List, [], ◌∷◌, ◌++◌, Option, Some, None, option_map, Bool, false}
 use Rattle.std.specs.Str.{bytes_eq}
 use Rattle.std.specs.List.{list_any}
@@ -10,11 +11,12 @@ use Rattle.tc_grammar.specs.declared.command.StoreKind.{StoreKind}
 use Rattle.tc_grammar.specs.declared.command.StoreKind.TheVariants.{Append, Prepend}
 use Rattle.tc_grammar.specs.declared.command.Head.{Head}
 use Rattle.tc_grammar.specs.declared.command.Command.{Command}
-use Rattle.tc_grammar.specs.declared.command.Command.TheVariants.{Store, Get, Gat, Delete, Count, Touch, Flush, Stats as AskStats, Version as AskVersion, Verbosity, Quit}
+use Rattle.tc_grammar.specs.declared.command.Command.TheVariants.{Store, Get, Gat, Delete, Count, Touch, Flush, Stats as AskStats}
+use Rattle.tc_grammar.specs.declared.command.Command.TheVariants.{Version as AskVersion, Verbosity, Quit}
 use Rattle.tc_stats.specs.declared.outcome.Outcome.{Outcome}
 use Rattle.tc_stats.specs.declared.outcome.Outcome.TheVariants.{Stored, Touched, Number, Values}
 use Rattle.tc_plain.specs.Entries.{with_due, with_data}
-use Rattle.tc_plain.specs.Live.{is_flush_due}
+use Rattle.tc_plain.specs.EvictionState.{is_flush_due}
 use Rattle.tc_plain.specs.Storing.{item_of}
 
 -- what stands under one key
@@ -74,12 +76,15 @@ after_flush (suc delay) i = i
 
 -- what any command leaves under a key
 abbrev pub item_after : List ℕ → ℕ → ℕ → Command → Outcome → Option Item → Option Item
-item_after key moment cas (Store head blob) outcome i = cond (bytes_eq key head.key) (after_store head blob moment cas outcome i) i
+item_after key moment cas (Store head blob) outcome i =
+    cond (bytes_eq key head.key) (after_store head blob moment cas outcome i) i
 item_after key moment cas (Get form keys) outcome i = i
-item_after key moment cas (Gat form exptime keys) outcome i = cond (shows key outcome) (option_map (with_due (due_of exptime moment)) i) i
+item_after key moment cas (Gat form exptime keys) outcome i =
+    cond (shows key outcome) (option_map (with_due (due_of exptime moment)) i) i
 item_after key moment cas (Delete deleted quiet) outcome i = cond (bytes_eq key deleted) None i
 item_after key moment cas (Count way counted value quiet) outcome i = cond (bytes_eq key counted) (after_count cas outcome i) i
-item_after key moment cas (Touch touched exptime quiet) outcome i = cond (bytes_eq key touched) (after_touch (with_due (due_of exptime moment)) outcome i) i
+item_after key moment cas (Touch touched exptime quiet) outcome i =
+    cond (bytes_eq key touched) (after_touch (with_due (due_of exptime moment)) outcome i) i
 item_after key moment cas (Flush delay quiet) outcome i = after_flush delay i
 item_after key moment cas AskStats outcome i = i
 item_after key moment cas AskVersion outcome i = i

@@ -7,30 +7,32 @@ use Rattle.tc_counter.specs.CounterText.{number_in, text_of, raised_by, lowered_
 use Rattle.tc_grammar.specs.declared.command.Way.{Way}
 use Rattle.tc_grammar.specs.declared.command.Way.TheVariants.{Incr, Decr}
 use Rattle.tc_grammar.specs.declared.command.Command.{Command}
-use Rattle.tc_grammar.specs.declared.command.Command.TheVariants.{Store, Get, Gat, Delete, Count, Touch, Flush, Stats as AskStats, Version as AskVersion, Verbosity, Quit}
+use Rattle.tc_grammar.specs.declared.command.Command.TheVariants.{Store, Get, Gat, Delete, Count, Touch, Flush, Stats as AskStats}
+use Rattle.tc_grammar.specs.declared.command.Command.TheVariants.{Version as AskVersion, Verbosity, Quit}
 use Rattle.tc_stats.specs.declared.hits.Hit.{Hit}
 use Rattle.tc_stats.specs.declared.counters.Counters.{Counters}
 use Rattle.tc_stats.specs.declared.outcome.Outcome.{Outcome}
-use Rattle.tc_stats.specs.declared.outcome.Outcome.TheVariants.{NotFound, Deleted, Touched, Number, Values, Done, Stats, Version, NotNumeric, CasWorn}
-use Rattle.tc_stats.specs.Counting.{noted}
+use Rattle.tc_stats.specs.declared.outcome.Outcome.TheVariants.{NotFound, Deleted, Touched, Number, Values, Done, Stats, Version}
+use Rattle.tc_stats.specs.declared.outcome.Outcome.TheVariants.{NotNumeric, CasWorn}
+use Rattle.tc_stats.specs.UserCounters.{noted}
 use Rattle.tc_plain.specs.declared.entry.Entry.{Entry}
 use Rattle.tc_plain.specs.Entries.{weight, hit_of, with_item, with_due, with_data}
-use Rattle.tc_plain.specs.Live.{Live, no_entries, entries_of, held}
+use Rattle.tc_plain.specs.EvictionState.{EvictionState, no_entries, entries_of, held}
 use Rattle.tc_plain.specs.Placing.{seen, without_key, used}
 use Rattle.tc_plain.specs.Storing.{changed, is_worn, stored}
 use Rattle.tc_plain.specs.UserCache.{UserCache, advance}
 
 -- a cache with this in the place of what look-ups touch
-abbrev pub with_live : UserCache → Live → UserCache
+abbrev pub with_live : UserCache → EvictionState → UserCache
 with_live k l = record k { live = l }
 
 -- one key: a hit is shown as it was and used as it is from now on, and a miss is seen too
-abbrev pub looked_up : (Item → Item) → List ℕ → Option Entry → Live → List Hit × Live
+abbrev pub looked_up : (Item → Item) → List ℕ → Option Entry → EvictionState → List Hit × EvictionState
 looked_up change key None l = ([], seen key l)
 looked_up change key (Some e) l = (hit_of e ∷ [], used (with_item e (change e.item)) l)
 
 -- keys, one after another
-abbrev pub all_looked_up : (Item → Item) → List (List ℕ) → Live → List Hit × Live
+abbrev pub all_looked_up : (Item → Item) → List (List ℕ) → EvictionState → List Hit × EvictionState
 all_looked_up change [] l = ([], l)
 all_looked_up change (key ∷ keys) l =
     let first = looked_up change key (held key l.areas) l in
@@ -38,7 +40,7 @@ all_looked_up change (key ∷ keys) l =
     (first.0 ++ rest.0, rest.1)
 
 -- look-ups as an outcome
-abbrev pub as_values : UserCache → List Hit × Live → Outcome × UserCache
+abbrev pub as_values : UserCache → List Hit × EvictionState → Outcome × UserCache
 as_values k r = (Values r.0, with_live k r.1)
 
 -- touch: a hit has another due and is used, and a miss is seen
@@ -67,8 +69,9 @@ abbrev pub counted_under : Way → ℕ → Option Entry → UserCache → Outcom
 counted_under way by None k = (NotFound, k)
 counted_under way by (Some e) k = counted_to way by k e (number_in e.item.blob)
 
--- without a delay all items go at once, and a pending flush is over; with one they go that much later, and an earlier wish is forgotten
-abbrev pub flushed : ℕ → Live → Live
+-- without a delay all items go at once, and a pending flush is over; with one
+-- they go that much later, and an earlier wish is forgotten
+abbrev pub flushed : ℕ → EvictionState → EvictionState
 flushed zero l = record l { areas = no_entries; flush = None }
 flushed (suc delay) l = record l { flush = Some (l.moment + suc delay) }
 

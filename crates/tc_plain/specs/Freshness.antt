@@ -1,4 +1,5 @@
--- Each hit shows what the commands before it last left under its key: never an item expired, deleted or flushed. Source: this project's own.
+-- Each hit shows what the commands before it last left under its key: never an item
+-- expired, deleted or flushed. Source: this project's own.
 use Rattle.std.specs.Prelude.{◌≡◌, ℕ, List, [], ◌∷◌, ◌++◌, Some, option_map, All}
 use Rattle.tc_model.specs.Caching.{Event, Replays}
 use Rattle.tc_grammar.specs.declared.command.Command.{Command}

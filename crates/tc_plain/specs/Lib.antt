@@ -2,7 +2,7 @@ pub mod UserCache
 pub mod Doing
 pub mod Laws
 pub mod Entries
-pub mod Live
+pub mod EvictionState
 pub mod Placing
 pub mod Storing
 pub mod Cell

@@ -3,9 +3,14 @@ use Rattle.std.specs.Prelude.{ℕ, ◌+◌, ◌≤◌, cond, ⊤}
 use Rattle.tc_model.specs.Areas.{Limits}
 use Rattle.tc_item.specs.declared.item.Item.{Item}
 use Rattle.tc_stats.specs.declared.outcome.Outcome.{Outcome}
-use Rattle.tc_stats.specs.declared.outcome.Outcome.TheVariants.{Stored, NotStored, Exists, NotFound, Deleted, Touched, Number, Done, Version, TooLarge, NotNumeric, CasWorn}
-use Rattle.tc_plain.specs.declared.ends.End.{End}
-use Rattle.tc_plain.specs.declared.ends.End.TheVariants.{Stored as StoredEnd, NotStored as NotStoredEnd, Exists as ExistsEnd, NotFound as NotFoundEnd, Deleted as DeletedEnd, Touched as TouchedEnd, Number as NumberEnd, Done as DoneEnd, Version as VersionEnd, TooLarge as TooLargeEnd, NotNumeric as NotNumericEnd, CasWorn as CasWornEnd}
+use Rattle.tc_stats.specs.declared.outcome.Outcome.TheVariants.{Stored, NotStored, Exists, NotFound, Deleted, Touched, Number}
+use Rattle.tc_stats.specs.declared.outcome.Outcome.TheVariants.{Done, Version, TooLarge, NotNumeric, CasWorn}
+use Rattle.tc_plain.specs.declared.end.End.{End}
+use Rattle.tc_plain.specs.declared.end.End.TheVariants.{Stored as StoredEnd, NotStored as NotStoredEnd, Exists as ExistsEnd}
+use Rattle.tc_plain.specs.declared.end.End.TheVariants.{NotFound as NotFoundEnd, Deleted as DeletedEnd, Touched as TouchedEnd}
+use Rattle.tc_plain.specs.declared.end.End.TheVariants.{Number as NumberEnd, Done as DoneEnd, Version as VersionEnd}
+use Rattle.tc_plain.specs.declared.end.End.TheVariants.{TooLarge as TooLargeEnd, NotNumeric as NotNumericEnd}
+use Rattle.tc_plain.specs.declared.end.End.TheVariants.{CasWorn as CasWornEnd}
 use Rattle.tc_plain.specs.declared.entry.Entry.{Entry}
 use Rattle.tc_plain.specs.declared.plans.Plan.{Plan}
 use Rattle.tc_plain.specs.declared.plans.Plan.TheVariants.{Ends, Changes}

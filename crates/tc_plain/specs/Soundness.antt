@@ -7,7 +7,7 @@ use Rattle.tc_grammar.specs.declared.command.Command.{Command}
 use Rattle.tc_grammar.specs.declared.command.Command.TheVariants.{Count}
 use Rattle.tc_plain.specs.declared.entry.Entry.{Entry}
 use Rattle.tc_plain.specs.Entries.{weight, has_key, with_item}
-use Rattle.tc_plain.specs.Live.{limits_of, entries_of, held}
+use Rattle.tc_plain.specs.EvictionState.{limits_of, entries_of, held}
 use Rattle.tc_plain.specs.Placing.{used, frequency}
 use Rattle.tc_plain.specs.UserCache.{UserCache}
 use Rattle.tc_plain.specs.Doing.{act}
@@ -47,8 +47,11 @@ HasShortKey command = ⊤
 abbrev pub StaysSound : Type 0
 StaysSound = (k : UserCache) (m : ℕ) (command : Command) → HasShortKey command → IsSound k → IsSound (act k m command).1
 
--- a hit drops nothing, though an access is always followed by settling: an entry that is held, used with any due, leaves each area within its limit
+-- a hit drops nothing, though an access is always followed by settling: an entry that
+-- is held, used with any due, leaves each area within its limit
 abbrev pub HitDropsNothing : Type 0
 HitDropsNothing =
-    (k : UserCache) (e : Entry) (change : Item → Item) → IsSound k → held e.key k.live.areas ≡ Some e → (weight (with_item e (change e.item)) ≡ weight e)
-    → let l = used (with_item e (change e.item)) k.live in settle weight (frequency l) l.limits l.areas ≡ record { areas = l.areas; dropped = [] }
+    (k : UserCache) (e : Entry) (change : Item → Item) → IsSound k → held e.key k.live.areas ≡ Some e
+    → (weight (with_item e (change e.item)) ≡ weight e)
+    → let l = used (with_item e (change e.item)) k.live in
+    settle weight (frequency l) l.limits l.areas ≡ record { areas = l.areas; dropped = [] }

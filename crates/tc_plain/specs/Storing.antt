@@ -1,5 +1,7 @@
--- The storage commands: what each makes of the line's item and of what its key holds, and how an item is stored. Source: memcached's doc/protocol.txt, "Storage commands".
-use Rattle.std.specs.Prelude.{ℕ, ◌+◌, ◌-◌, ◌^◌, cond, nat_lt, ◌==◌, ◌||◌, Bool, List, ◌++◌, length, Option, Some, None, option_map}
+-- The storage commands: what each makes of the line's item and of what its key holds, and how an
+-- item is stored. Source: memcached's doc/protocol.txt, "Storage commands".
+use Rattle.std.specs.Prelude.{ℕ, ◌+◌, ◌-◌, ◌^◌, cond, nat_lt, ◌==◌, ◌||◌, Bool, List, ◌++◌, length, Option, Some, None}
+use Rattle.std.specs.Prelude.{option_map}
 use Rattle.tc_model.specs.Areas.{Settled, settle}
 use Rattle.tc_item.specs.declared.item.Item.{Item}
 use Rattle.tc_item.specs.Expiry.{due_of}
@@ -9,10 +11,10 @@ use Rattle.tc_grammar.specs.declared.command.StoreKind.TheVariants.{Set, Add, Re
 use Rattle.tc_grammar.specs.declared.command.Head.{Head}
 use Rattle.tc_stats.specs.declared.outcome.Outcome.{Outcome}
 use Rattle.tc_stats.specs.declared.outcome.Outcome.TheVariants.{Stored, NotStored, Exists, NotFound, TooLarge, CasWorn}
-use Rattle.tc_stats.specs.Counting.{more}
+use Rattle.tc_stats.specs.UserCounters.{more}
 use Rattle.tc_plain.specs.declared.entry.Entry.{Entry}
 use Rattle.tc_plain.specs.Entries.{weight, with_data}
-use Rattle.tc_plain.specs.Live.{held}
+use Rattle.tc_plain.specs.EvictionState.{held}
 use Rattle.tc_plain.specs.Placing.{frequency, used}
 use Rattle.tc_plain.specs.UserCache.{UserCache}
 
@@ -74,4 +76,6 @@ item_under key k = option_map (λ e. e.item) (held key k.live.areas)
 
 -- a storage line with its block
 abbrev pub stored : UserCache → Head → List ℕ → Outcome × UserCache
-stored k head blob = accepted k head.key (offer_by head.kind head.cas_unique (item_of head blob k.live.moment (k.last + 1)) (item_under head.key k))
+stored k head blob =
+    accepted k head.key
+    (offer_by head.kind head.cas_unique (item_of head blob k.live.moment (k.last + 1)) (item_under head.key k))

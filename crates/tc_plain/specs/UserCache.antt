@@ -1,9 +1,10 @@
--- One user's cache, and how it comes to a later moment. Source: this project's own; the counters are those of memcached's `stats`.
+-- One user's cache, and how it comes to a later moment. Source: this project's
+-- own; the counters are those of memcached's `stats`.
 use Rattle.std.specs.Prelude.{ℕ, None}
 use Rattle.tc_sketch.specs.Sketch.{empty_sketch, width_of}
 use Rattle.tc_stats.specs.declared.counters.Counters.{Counters}
-use Rattle.tc_stats.specs.Counting.{no_counts}
-use Rattle.tc_plain.specs.Live.{Live, limits_of, no_entries, advanced}
+use Rattle.tc_stats.specs.UserCounters.{no_counts}
+use Rattle.tc_plain.specs.EvictionState.{EvictionState, limits_of, no_entries, advanced}
 
 -- one user's cache
 pub record UserCache : Type 0 where
@@ -11,7 +12,7 @@ pub record UserCache : Type 0 where
   pub budget : ℕ
   pub largest : ℕ
   -- what look-ups touch
-  pub live : Live
+  pub live : EvictionState
   -- the last cas number taken
   pub last : ℕ
   pub counters : Counters
@@ -21,7 +22,13 @@ abbrev pub fresh : ℕ → ℕ → UserCache
 fresh budget largest = record {
   budget = budget;
   largest = largest;
-  live = record { limits = limits_of budget; areas = no_entries; sketch = empty_sketch (width_of budget); flush = None; moment = 0 };
+  live = record {
+    limits = limits_of budget;
+    areas = no_entries;
+    sketch = empty_sketch (width_of budget);
+    flush = None;
+    moment = 0;
+  };
   last = 0;
   counters = no_counts;
 }

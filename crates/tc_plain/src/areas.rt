@@ -1,8 +1,9 @@
 //! The three areas, as lists.
-ghost use Rattle.std.specs.Prelude.{◌≡◌, ℕ, ◌<◌, ◌≤◌, ◌+◌, ◌^◌, is_some, cond, suc, Some, None, MatchOption, IfOk, OnOk, length, sum_by};
+ghost use Rattle.std.specs.Prelude.{◌≡◌, ℕ, ◌<◌, ◌≤◌, ◌+◌, ◌^◌, is_some, cond, suc, Some, None, MatchOption, IfOk, OnOk, length};
+ghost use Rattle.std.specs.Prelude.{sum_by};
 ghost use Rattle.tc_model.specs.Areas.{Limits, total, is_in, demoted};
 ghost use Rattle.tc_plain.specs.Entries.{weight, lives, has_key};
-ghost use Rattle.tc_plain.specs.Live.{no_entries, entries_of, kept, held};
+ghost use Rattle.tc_plain.specs.EvictionState.{no_entries, entries_of, kept, held};
 ghost use Rattle.tc_plain.specs.Placing.{without_key};
 ghost use Rattle.tc_plain.specs.AreaLists.{areas_of, HasRoom, is_from_window, put_back};
 
@@ -101,9 +102,12 @@ impl Areas {
 
     /// Takes out what a key holds, and hands it out with where it stood.
     pub(crate) fn take(&mut self, key: &[u8]) -> Option<(Origin, Entry)>
-        ensures taken { MatchOption result (held key.now (areas_of self.old) ≡ None) (λ r. (held key.now (areas_of self.old) ≡ Some r.1) × (is_from_window r.0 ≡ is_in (has_key key.now) self.old.window.items)) }
+        ensures taken { MatchOption result (held key.now (areas_of self.old) ≡ None)
+            (λ r. (held key.now (areas_of self.old) ≡ Some r.1)
+            × (is_from_window r.0 ≡ is_in (has_key key.now) self.old.window.items)) }
         ensures areas { areas_of self.new ≡ without_key key.now (areas_of self.old) }
-        ensures room { (spare : ℕ) → HasRoom spare self.old → HasRoom (cond (is_some result) (suc spare) spare) self.new }
+        ensures room { (spare : ℕ) → HasRoom spare self.old
+            → HasRoom (cond (is_some result) (suc spare) spare) self.new }
     {
         if let Some(entry) = take_first(&mut self.window, key) {
             take_out(&mut self.probation, key);
@@ -121,7 +125,8 @@ impl Areas {
     /// Puts an entry at the front of the window if it stood there, and else of protected.
     pub(crate) fn put_back(&mut self, origin: Origin, entry: Entry)
         requires { HasRoom 1 self.old }
-        ensures areas { areas_of self.new ≡ put_back (is_from_window origin) entry (areas_of self.old) }
+        ensures areas { areas_of self.new
+            ≡ put_back (is_from_window origin) entry (areas_of self.old) }
         ensures room { (spare : ℕ) → HasRoom (suc spare) self.old → HasRoom spare self.new }
     {
         match origin {
@@ -134,7 +139,8 @@ impl Areas {
     pub(crate) fn hold_protected(&mut self, most: u64)
         requires weight { total weight (areas_of self.old) < 2 ^ 64 }
         requires room { HasRoom 0 self.old }
-        ensures areas { (limits : Limits) → limits.protected ≡ most → areas_of self.new ≡ demoted weight limits (areas_of self.old) }
+        ensures areas { (limits : Limits) → limits.protected ≡ most
+            → areas_of self.new ≡ demoted weight limits (areas_of self.old) }
         ensures room { (spare : ℕ) → HasRoom spare self.old → HasRoom spare self.new }
     {
         while let Some(last) = pop_over(&mut self.protected, most) {

@@ -25,7 +25,8 @@ pub trait Cache: Drop {
     ) -> Result<(Outcome, Outcome), NoMemory>
         ensures outcome { IfOk result (λ r. r.0 ≡ (act (settled self.old) now command.now).0) }
         ensures kept { IfOk result (λ r. r.1 ≡ (act (settled self.old) now command.now).0) }
-        ensures state { OnOk result (settled self.new ≡ (act (settled self.old) now command.now).1) }
+        ensures state { OnOk result (settled self.new
+            ≡ (act (settled self.old) now command.now).1) }
         ensures unchanged_on_err { OnErr result (settled self.new ≡ settled self.old) };
 
     /// Does deferred work, at most `limit` pieces of it: the cache comes to the moment, and nothing

@@ -6,7 +6,7 @@ ghost use Rattle.tc_plain.specs.UserCache.{advance};
 ghost use Rattle.tc_plain.specs.Doing.{all_looked_up, as_values, done};
 ghost use Rattle.tc_plain.specs.AreaLists.{change_of};
 
-use crate::ends::End;
+use crate::end::End;
 use crate::{Cache, Plain};
 use std::alloc::Global;
 use tc_grammar::Command;
@@ -22,9 +22,12 @@ impl Plain {
         keys: &Keys,
         due: Option<Due>,
     ) -> Result<(Outcome, Outcome), NoMemory>
-        ensures outcome { IfOk result (λ r. r.0 ≡ (as_values (advance self.old now) (all_looked_up (change_of due) keys.now (advance self.old now).live)).0) }
-        ensures kept { IfOk result (λ r. r.1 ≡ (as_values (advance self.old now) (all_looked_up (change_of due) keys.now (advance self.old now).live)).0) }
-        ensures state { OnOk result (self.new ≡ (as_values (advance self.old now) (all_looked_up (change_of due) keys.now (advance self.old now).live)).1) }
+        ensures outcome { IfOk result (λ r. r.0 ≡ (as_values (advance self.old now)
+            (all_looked_up (change_of due) keys.now (advance self.old now).live)).0) }
+        ensures kept { IfOk result (λ r. r.1 ≡ (as_values (advance self.old now)
+            (all_looked_up (change_of due) keys.now (advance self.old now).live)).0) }
+        ensures state { OnOk result (self.new ≡ (as_values (advance self.old now)
+            (all_looked_up (change_of due) keys.now (advance self.old now).live)).1) }
         ensures unchanged_on_err { OnErr result (self.new ≡ self.old) }
     {
         let (first, second) = self.look(alloc, now, keys.as_slice(), due)?;
@@ -39,9 +42,15 @@ impl Plain {
         keys: &Keys,
         exptime: i64,
     ) -> Result<(Outcome, Outcome), NoMemory>
-        ensures outcome { IfOk result (λ r. r.0 ≡ (as_values (advance self.old now) (all_looked_up (with_due (due_of exptime (advance self.old now).live.moment)) keys.now (advance self.old now).live)).0) }
-        ensures kept { IfOk result (λ r. r.1 ≡ (as_values (advance self.old now) (all_looked_up (with_due (due_of exptime (advance self.old now).live.moment)) keys.now (advance self.old now).live)).0) }
-        ensures state { OnOk result (self.new ≡ (as_values (advance self.old now) (all_looked_up (with_due (due_of exptime (advance self.old now).live.moment)) keys.now (advance self.old now).live)).1) }
+        ensures outcome { IfOk result (λ r. r.0 ≡ (as_values (advance self.old now)
+            (all_looked_up (with_due (due_of exptime (advance self.old now).live.moment)) keys.now
+            (advance self.old now).live)).0) }
+        ensures kept { IfOk result (λ r. r.1 ≡ (as_values (advance self.old now)
+            (all_looked_up (with_due (due_of exptime (advance self.old now).live.moment)) keys.now
+            (advance self.old now).live)).0) }
+        ensures state { OnOk result (self.new ≡ (as_values (advance self.old now)
+            (all_looked_up (with_due (due_of exptime (advance self.old now).live.moment)) keys.now
+            (advance self.old now).live)).1) }
         ensures unchanged_on_err { OnErr result (self.new ≡ self.old) }
     {
         let due = self.due(now, exptime);

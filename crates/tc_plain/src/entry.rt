@@ -25,7 +25,12 @@ impl Entry {
 
     /// What a look-up shows of the entry.
     pub fn show(&self, alloc: Global) -> Result<Hit, NoMemory>
-        ensures { IfOk result (λ hit. hit ≡ record { key = self.now.key; flags = self.now.item.flags; blob = self.now.item.blob; cas = self.now.item.cas }) }
+        ensures { IfOk result (λ hit. hit ≡ record {
+          key = self.now.key;
+          flags = self.now.item.flags;
+          blob = self.now.item.blob;
+          cas = self.now.item.cas;
+        }) }
     {
         Ok(Hit {
             key: self.key.copy(alloc)?,

@@ -3,7 +3,7 @@ ghost use Rattle.std.specs.Prelude.{◌≡◌, ◌<◌, ◌+◌, ◌++◌, ◌^�
 ghost use Rattle.std.specs.Str.{bytes_eq};
 ghost use Rattle.std.specs.List.{list_any};
 ghost use Rattle.tc_plain.specs.Entries.{hit_of};
-ghost use Rattle.tc_plain.specs.Live.{at_moment, held};
+ghost use Rattle.tc_plain.specs.EvictionState.{at_moment, held};
 ghost use Rattle.tc_plain.specs.Doing.{all_looked_up};
 ghost use Rattle.tc_plain.specs.Soundness.{AreSound};
 ghost use Rattle.tc_plain.specs.AreaLists.{change_of, is_due};
@@ -39,7 +39,9 @@ fn add_hit<L: LookUps>(
     hits: &mut Hits,
 ) -> Result<(), NoMemory>
     requires { AreSound (L.touched live.now).limits (L.touched live.now).areas }
-    ensures { OnOk result (hits.new ≡ hits.old ++ option_to_list (option_map hit_of (held key.now (at_moment moment (L.touched live.now)).areas))) }
+    ensures { OnOk result (hits.new ≡ hits.old
+        ++ option_to_list
+        (option_map hit_of (held key.now (at_moment moment (L.touched live.now)).areas))) }
 {
     if let Some(entry) = live.peek(key, moment) {
         hits.push(alloc, entry.show(alloc)?)?;
@@ -58,7 +60,9 @@ fn add_next<L: LookUps>(
     hits: &mut Hits,
 ) -> Result<(), NoMemory>
     requires { AreSound (L.touched live.now).limits (L.touched live.now).areas }
-    ensures { OnOk result (hits.new ≡ hits.old ++ option_to_list (cond (gone && list_any (λ k. bytes_eq k key.now) asked.now) None (option_map hit_of (held key.now (at_moment moment (L.touched live.now)).areas)))) }
+    ensures { OnOk result (hits.new ≡ hits.old
+        ++ option_to_list (cond (gone && list_any (λ k. bytes_eq k key.now) asked.now) None
+        (option_map hit_of (held key.now (at_moment moment (L.touched live.now)).areas)))) }
 {
     if gone && is_asked(asked, key) {
         return Ok(());
@@ -76,7 +80,8 @@ pub fn look_up<L: LookUps>(
     due: Option<Due>,
 ) -> Result<Hits, NoMemory>
     requires { AreSound (L.touched live.now).limits (L.touched live.now).areas }
-    ensures { IfOk result (λ hits. hits ≡ (all_looked_up (change_of due) keys.now (at_moment moment (L.touched live.now))).0) }
+    ensures { IfOk result (λ hits. hits ≡ (all_looked_up (change_of due) keys.now
+        (at_moment moment (L.touched live.now))).0) }
 {
     let gone = is_due(due, moment);
     let mut hits = Hits::new();
@@ -89,7 +94,8 @@ pub fn look_up<L: LookUps>(
 /// Looks keys up, one after another.
 pub fn look_all<L: LookUps>(live: &mut L, keys: &[Key], due: Option<Due>)
     requires sound { AreSound (L.touched live.old).limits (L.touched live.old).areas }
-    requires light { (L.touched live.old).limits.window + (L.touched live.old).limits.main < 2 ^ 32 }
+    requires light { (L.touched live.old).limits.window + (L.touched live.old).limits.main
+        < 2 ^ 32 }
     requires room { L.has_room live.old }
     ensures { L.touched live.new ≡ (all_looked_up (change_of due) keys.now (L.touched live.old)).1 }
 {

@@ -1,11 +1,11 @@
 //! One user's cache: what each command does to it, the law that every cache keeps, and the plain
 //! cache, which is three lists.
 //!
-//! The definitions are `specs/UserCache.antt` (a cache and how it comes to a moment), `specs/Live.antt`
-//! (what look-ups touch), `specs/Placing.antt` and `specs/Storing.antt` (how entries come in, move and
-//! leave) and `specs/Doing.antt` (what a command comes to and leaves). The law is the trait `Cache`: a
-//! cache is seen as the state that it stands for once its deferred work is done. `Plain` defers nothing,
-//! so its contract is the definition.
+//! The definitions are `specs/UserCache.antt` (a cache and how it comes to a moment),
+//! `specs/EvictionState.antt` (what look-ups touch), `specs/Placing.antt` and `specs/Storing.antt`
+//! (how entries come in, move and leave) and `specs/Doing.antt` (what a command comes to and
+//! leaves). The law is the trait `Cache`: a cache is seen as the state that it stands for once its
+//! deferred work is done. `Plain` defers nothing, so its contract is the definition.
 //!
 //! `advancing`, `freshness` and `soundness` are theorems on the definitions: to advance twice is to
 //! advance once, each hit is what the commands before it last left under its key, and the areas keep
@@ -15,13 +15,13 @@
 mod areas;
 mod cache;
 mod doing;
-mod ends;
+mod end;
 mod entry;
+mod eviction_state;
 mod hits;
 mod laws;
 mod limits;
 mod lists;
-mod live;
 mod lookup;
 mod lookups;
 mod offers;
@@ -31,12 +31,12 @@ mod settling;
 
 pub use areas::Areas;
 pub use cache::Cache;
-pub use ends::End;
+pub use end::End;
 pub use entry::Entry;
+pub use eviction_state::EvictionState;
 pub use hits::{look_all, look_up};
 pub use laws::{advancing, freshness, soundness};
 pub use limits::Limits;
-pub use live::Live;
 pub use lookups::LookUps;
 pub use offers::{Bid, offer};
 pub use plain::Plain;

@@ -1,6 +1,6 @@
 //! What each area may weigh.
 ghost use Rattle.std.specs.Prelude.{◌≡◌, ◌≤◌, ◌^◌};
-ghost use Rattle.tc_plain.specs.Live.{limits_of};
+ghost use Rattle.tc_plain.specs.EvictionState.{limits_of};
 
 use std::marker::Model;
 

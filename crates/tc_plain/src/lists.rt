@@ -1,5 +1,6 @@
 //! Lists of entries: what they weigh, and taking entries out.
-ghost use Rattle.std.specs.Prelude.{◌≡◌, ◌<◌, ◌≤◌, ◌+◌, ◌^◌, ◌++◌, ◌∷◌, [], not, filter, find, sum_by, length, is_some, IfOk, IfSome, MatchOption, vec_len, vec_capacity};
+ghost use Rattle.std.specs.Prelude.{◌≡◌, ◌<◌, ◌≤◌, ◌+◌, ◌^◌, ◌++◌, ◌∷◌, [], not, filter, find, sum_by, length, is_some, IfOk};
+ghost use Rattle.std.specs.Prelude.{IfSome, MatchOption, vec_len, vec_capacity};
 ghost use Rattle.tc_model.specs.Areas.{without};
 ghost use Rattle.tc_model.specs.Place.{first_place};
 ghost use Rattle.tc_plain.specs.Entries.{weight, lives, has_key};
@@ -23,7 +24,8 @@ pub fn weigh_all(items: &[Entry]) -> u64
 /// Takes out what isn't alive at the moment.
 pub fn expire(items: &mut Vec<Entry>, moment: Moment)
     ensures items { items.new.items ≡ filter (lives moment) items.old.items }
-    ensures room { (vec_capacity items.new ≡ vec_capacity items.old) × (vec_len items.new ≤ vec_len items.old) }
+    ensures room { (vec_capacity items.new ≡ vec_capacity items.old)
+        × (vec_len items.new ≤ vec_len items.old) }
 {
     items.retain(|entry| alive(&entry.item, moment));
 }
@@ -31,7 +33,8 @@ pub fn expire(items: &mut Vec<Entry>, moment: Moment)
 /// Takes out what a key holds.
 pub fn take_out(items: &mut Vec<Entry>, key: &[u8])
     ensures items { items.new.items ≡ without (has_key key.now) items.old.items }
-    ensures room { (vec_capacity items.new ≡ vec_capacity items.old) × (vec_len items.new ≤ vec_len items.old) }
+    ensures room { (vec_capacity items.new ≡ vec_capacity items.old)
+        × (vec_len items.new ≤ vec_len items.old) }
 {
     items.retain(|entry| entry.key.as_bytes() != key);
 }
@@ -67,8 +70,12 @@ pub fn take_first(items: &mut Vec<Entry>, key: &[u8]) -> Option<Entry>
 pub fn pop_over(items: &mut Vec<Entry>, most: u64) -> Option<Entry>
     requires { sum_by weight items.old.items < 2 ^ 64 }
     ensures capacity { vec_capacity items.new ≡ vec_capacity items.old }
-    ensures len { MatchOption result (vec_len items.new ≡ vec_len items.old) (λ e. vec_len items.new + 1 ≡ vec_len items.old) }
-    ensures popped { MatchOption result ((items.new.items ≡ items.old.items) × (sum_by weight items.old.items ≤ most)) (λ e. (items.old.items ≡ items.new.items ++ e ∷ []) × (most < sum_by weight items.old.items)) }
+    ensures len { MatchOption result (vec_len items.new ≡ vec_len items.old)
+        (λ e. vec_len items.new + 1 ≡ vec_len items.old) }
+    ensures popped { MatchOption result
+        ((items.new.items ≡ items.old.items) × (sum_by weight items.old.items ≤ most))
+        (λ e. (items.old.items ≡ items.new.items ++ e ∷ [])
+        × (most < sum_by weight items.old.items)) }
 {
     if weigh_all(items) > most {
         items.pop()

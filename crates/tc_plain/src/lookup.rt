@@ -27,7 +27,8 @@ fn find_place(items: &[Entry], key: &[u8], moment: Moment) -> Option<usize>
 
 /// What a key holds among entries that are alive at the moment.
 pub fn find_alive<'a>(items: &'a [Entry], key: &[u8], moment: Moment) -> Option<&'a Entry>
-    ensures { MatchOption result (find (has_key key.now) (filter (lives moment) items.now) ≡ None) (λ e. find (has_key key.now) (filter (lives moment) items.now) ≡ Some e.now) }
+    ensures { MatchOption result (find (has_key key.now) (filter (lives moment) items.now) ≡ None)
+        (λ e. find (has_key key.now) (filter (lives moment) items.now) ≡ Some e.now) }
 {
     let place = find_place(items, key, moment)?;
     Some(&items[place])

@@ -5,7 +5,7 @@ ghost use Rattle.tc_plain.specs.Storing.{Offered, item_of, offer_by};
 ghost use Rattle.tc_plain.specs.Plans.{offer_of, with_cas};
 
 use crate::Entry;
-use crate::ends::End;
+use crate::end::End;
 use std::alloc::Global;
 use tc_grammar::{Head, StoreKind};
 use tc_item::exptime::due;
@@ -21,7 +21,8 @@ pub enum Bid {
 
 /// The line's own item.
 fn own_item(head: &Head, blob: &Blob, moment: Moment) -> Result<Item, NoMemory>
-    ensures { IfOk result (λ item. (cas : ℕ) → with_cas cas item ≡ item_of head.now blob.now moment cas) }
+    ensures { IfOk result (λ item. (cas : ℕ)
+        → with_cas cas item ≡ item_of head.now blob.now moment cas) }
 {
     Ok(Item {
         flags: head.flags,
@@ -43,7 +44,8 @@ fn join(alloc: Global, first: &[u8], second: &[u8]) -> Result<Blob, NoMemory>
 
 /// The held item with joined data.
 fn joined(alloc: Global, held: &Item, first: &Blob, second: &Blob) -> Result<Item, NoMemory>
-    ensures { IfOk result (λ item. (cas : ℕ) → with_cas cas item ≡ with_data cas (first.now ++ second.now) held.now) }
+    ensures { IfOk result (λ item. (cas : ℕ)
+        → with_cas cas item ≡ with_data cas (first.now ++ second.now) held.now) }
 {
     Ok(Item {
         flags: held.flags,
@@ -61,7 +63,9 @@ pub fn offer(
     blob: &Blob,
     moment: Moment,
 ) -> Result<Bid, NoMemory>
-    ensures { IfOk result (λ bid. (cas : ℕ) → offer_of cas bid ≡ offer_by head.now.kind head.now.cas_unique (item_of head.now blob.now moment cas) (option_map (λ e. e.now.item) held.entry)) }
+    ensures { IfOk result (λ bid. (cas : ℕ)
+        → offer_of cas bid ≡ offer_by head.now.kind head.now.cas_unique
+        (item_of head.now blob.now moment cas) (option_map (λ e. e.now.item) held.entry)) }
 {
     match (head.kind, held) {
         (StoreKind::Set, _) => Ok(Bid::Offered(own_item(head, blob, moment)?)),

@@ -1,19 +1,19 @@
 //! The plain cache: three lists, with nothing deferred.
 ghost use Rattle.std.specs.Prelude.{◌≡◌, ◌≤◌, ◌^◌, IfOk, OnOk, OnErr};
 ghost use Rattle.tc_item.specs.Expiry.{due_of};
-ghost use Rattle.tc_stats.specs.Counting.{noted};
-ghost use Rattle.tc_plain.specs.Live.{held};
+ghost use Rattle.tc_stats.specs.UserCounters.{noted};
+ghost use Rattle.tc_plain.specs.EvictionState.{held};
 ghost use Rattle.tc_plain.specs.UserCache.{fresh, advance};
 ghost use Rattle.tc_plain.specs.Storing.{stored};
 ghost use Rattle.tc_plain.specs.Doing.{with_live, all_looked_up, touched, deleted, counted_under, flushed, numbers_of};
 ghost use Rattle.tc_plain.specs.AreaLists.{change_of};
 ghost use Rattle.tc_plain.specs.Plans.{outcome_of, planned, IsLightPlan};
 
-use crate::ends::End;
+use crate::end::End;
 use crate::hits::{look_all, look_up};
 use crate::offers::{Bid, offer};
 use crate::plans::{Plan, plan_count, plan_item};
-use crate::{Areas, Limits, Live};
+use crate::{Areas, EvictionState, Limits};
 use std::alloc::Global;
 use std::marker::Model;
 use tc_grammar::{Command, Head, Way};
@@ -31,7 +31,7 @@ pub struct Plain {
     /// The most data bytes of one item, 1 to 1,048,576.
     pub largest: u64,
     /// What look-ups touch: the entries, how often keys were seen, the pending flush and the moment.
-    pub live: Live,
+    pub live: EvictionState,
     /// The last cas number taken.
     pub last: u64,
     /// The user's counters.
@@ -45,9 +45,21 @@ impl Model for Plain {
 
     ghost Value = { UserCache };
 
-    ghost view = { λ p. record { budget = p.budget; largest = p.largest; live = live_of p.live; last = p.last; counters = p.counters } };
+    ghost view = { λ p. record {
+      budget = p.budget;
+      largest = p.largest;
+      live = live_of p.live;
+      last = p.last;
+      counters = p.counters;
+    } };
 
-    ghost invariant = { λ p. IsSound (record { budget = p.budget; largest = p.largest; live = live_of p.live; last = p.last; counters = p.counters }) };
+    ghost invariant = { λ p. IsSound (record {
+      budget = p.budget;
+      largest = p.largest;
+      live = live_of p.live;
+      last = p.last;
+      counters = p.counters;
+    }) };
 }
 
 impl Plain {
@@ -59,7 +71,7 @@ impl Plain {
         requires most_largest { largest ≤ 1048576 }
         ensures { IfOk result (λ plain. plain ≡ fresh budget largest) }
     {
-        let live = Live {
+        let live = EvictionState {
             limits: Limits::of(budget),
             areas: Areas::new(alloc),
             sketch: Sketch::new(alloc, width_of(budget))?,
@@ -103,7 +115,8 @@ impl Plain {
         head: &Head,
         blob: &Blob,
     ) -> Result<Plan, NoMemory>
-        ensures plan { IfOk result (λ plan. planned (advance self.now now) plan ≡ stored (advance self.now now) head.now blob.now) }
+        ensures plan { IfOk result (λ plan. planned (advance self.now now) plan
+            ≡ stored (advance self.now now) head.now blob.now) }
         ensures light { IfOk result (λ plan. IsLightPlan self.now.live.limits plan) }
     {
         let moment = self.live.moment.later(now);
@@ -131,7 +144,9 @@ impl Plain {
         key: &Key,
         by: u64,
     ) -> Result<Plan, NoMemory>
-        ensures plan { IfOk result (λ plan. planned (advance self.now now) plan ≡ counted_under way by (held key.now (advance self.now now).live.areas) (advance self.now now)) }
+        ensures plan { IfOk result (λ plan. planned (advance self.now now) plan
+            ≡ counted_under way by (held key.now (advance self.now now).live.areas)
+            (advance self.now now)) }
         ensures light { IfOk result (λ plan. IsLightPlan self.now.live.limits plan) }
     {
         let moment = self.live.moment.later(now);
@@ -144,7 +159,8 @@ impl Plain {
     /// Carries a plan out at the moment. A refusal changes nothing.
     fn change(&mut self, now: Moment, plan: Plan) -> Result<End, NoMemory>
         requires { IsLightPlan self.old.live.limits plan }
-        ensures outcome { IfOk result (λ end. outcome_of end ≡ (planned (advance self.old now) plan).0) }
+        ensures outcome { IfOk result (λ end. outcome_of end
+            ≡ (planned (advance self.old now) plan).0) }
         ensures state { OnOk result (self.new ≡ (planned (advance self.old now) plan).1) }
         ensures unchanged_on_err { OnErr result (self.new ≡ self.old) }
     {
@@ -164,8 +180,10 @@ impl Plain {
         head: &Head,
         blob: &Blob,
     ) -> Result<End, NoMemory>
-        ensures outcome { IfOk result (λ end. outcome_of end ≡ (stored (advance self.old now) head.now blob.now).0) }
-        ensures state { OnOk result (self.new ≡ (stored (advance self.old now) head.now blob.now).1) }
+        ensures outcome { IfOk result (λ end. outcome_of end
+            ≡ (stored (advance self.old now) head.now blob.now).0) }
+        ensures state { OnOk result (self.new
+            ≡ (stored (advance self.old now) head.now blob.now).1) }
         ensures unchanged_on_err { OnErr result (self.new ≡ self.old) }
     {
         let plan = self.plan_store(alloc, now, head, blob)?;
@@ -181,8 +199,10 @@ impl Plain {
         key: &Key,
         by: u64,
     ) -> Result<End, NoMemory>
-        ensures outcome { IfOk result (λ end. outcome_of end ≡ (counted_under way by (held key.now (advance self.old now).live.areas) (advance self.old now)).0) }
-        ensures state { OnOk result (self.new ≡ (counted_under way by (held key.now (advance self.old now).live.areas) (advance self.old now)).1) }
+        ensures outcome { IfOk result (λ end. outcome_of end ≡ (counted_under way by
+            (held key.now (advance self.old now).live.areas) (advance self.old now)).0) }
+        ensures state { OnOk result (self.new ≡ (counted_under way by
+            (held key.now (advance self.old now).live.areas) (advance self.old now)).1) }
         ensures unchanged_on_err { OnErr result (self.new ≡ self.old) }
     {
         let plan = self.plan_count(alloc, now, way, key, by)?;
@@ -197,9 +217,12 @@ impl Plain {
         keys: &[Key],
         due: Option<Due>,
     ) -> Result<(Hits, Hits), NoMemory>
-        ensures first { IfOk result (λ r. r.0 ≡ (all_looked_up (change_of due) keys.now (advance self.old now).live).0) }
-        ensures second { IfOk result (λ r. r.1 ≡ (all_looked_up (change_of due) keys.now (advance self.old now).live).0) }
-        ensures state { OnOk result (self.new ≡ with_live (advance self.old now) (all_looked_up (change_of due) keys.now (advance self.old now).live).1) }
+        ensures first { IfOk result (λ r. r.0 ≡ (all_looked_up (change_of due) keys.now
+            (advance self.old now).live).0) }
+        ensures second { IfOk result (λ r. r.1 ≡ (all_looked_up (change_of due) keys.now
+            (advance self.old now).live).0) }
+        ensures state { OnOk result (self.new ≡ with_live (advance self.old now)
+            (all_looked_up (change_of due) keys.now (advance self.old now).live).1) }
         ensures unchanged_on_err { OnErr result (self.new ≡ self.old) }
     {
         let moment = self.live.moment.later(now);
@@ -220,8 +243,10 @@ impl Plain {
 
     /// What a key holds has another due from now on. A refusal changes nothing.
     pub(crate) fn touch(&mut self, now: Moment, key: &Key, due: Due) -> Result<End, NoMemory>
-        ensures outcome { IfOk result (λ end. outcome_of end ≡ (touched due key.now (held key.now (advance self.old now).live.areas) (advance self.old now)).0) }
-        ensures state { OnOk result (self.new ≡ (touched due key.now (held key.now (advance self.old now).live.areas) (advance self.old now)).1) }
+        ensures outcome { IfOk result (λ end. outcome_of end ≡ (touched due key.now
+            (held key.now (advance self.old now).live.areas) (advance self.old now)).0) }
+        ensures state { OnOk result (self.new ≡ (touched due key.now
+            (held key.now (advance self.old now).live.areas) (advance self.old now)).1) }
         ensures unchanged_on_err { OnErr result (self.new ≡ self.old) }
     {
         self.live.areas.make_room()?;
@@ -235,8 +260,10 @@ impl Plain {
 
     /// Takes out what a key holds.
     pub(crate) fn delete(&mut self, now: Moment, key: &Key) -> End
-        ensures outcome { outcome_of result ≡ (deleted key.now (held key.now (advance self.old now).live.areas) (advance self.old now)).0 }
-        ensures state { self.new ≡ (deleted key.now (held key.now (advance self.old now).live.areas) (advance self.old now)).1 }
+        ensures outcome { outcome_of result ≡ (deleted key.now
+            (held key.now (advance self.old now).live.areas) (advance self.old now)).0 }
+        ensures state { self.new ≡ (deleted key.now (held key.now (advance self.old now).live.areas)
+            (advance self.old now)).1 }
     {
         self.live.advance(now);
         match self.live.areas.take(key.as_bytes()) {
@@ -247,7 +274,8 @@ impl Plain {
 
     /// Takes all items out, at once or so many seconds later.
     pub(crate) fn flush(&mut self, now: Moment, delay: u32)
-        ensures { self.new ≡ with_live (advance self.old now) (flushed delay (advance self.old now).live) }
+        ensures { self.new
+            ≡ with_live (advance self.old now) (flushed delay (advance self.old now).live) }
     {
         self.live.advance(now);
         self.live.flush(delay);
@@ -287,7 +315,8 @@ impl Plain {
 
     /// Counts a command that came to this outcome.
     pub(crate) fn note(&mut self, command: &Command, outcome: &Outcome)
-        ensures { self.new ≡ record self.old { counters = noted command.now outcome.now self.old.counters } }
+        ensures { self.new
+            ≡ record self.old { counters = noted command.now outcome.now self.old.counters } }
     {
         self.counters.note(command, outcome);
     }

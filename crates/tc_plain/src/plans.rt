@@ -10,8 +10,8 @@ ghost use Rattle.tc_plain.specs.Doing.{counted, counted_under};
 ghost use Rattle.tc_plain.specs.AreaLists.{areas_of, live_of, HasRoom};
 ghost use Rattle.tc_plain.specs.Plans.{outcome_of, with_cas, planned, IsLightPlan};
 
-use crate::ends::End;
-use crate::{Entry, Live};
+use crate::end::End;
+use crate::{Entry, EvictionState};
 use std::alloc::Global;
 use tc_grammar::Way;
 use tc_item::{Blob, Item, Key, NoMemory};
@@ -32,8 +32,11 @@ pub fn plan_item(
     key: &Key,
     item: Item,
 ) -> Result<Plan, NoMemory>
-    ensures plan { IfOk result (λ plan. (k : UserCache) → k.largest ≡ largest → k.live.limits.main ≡ main → planned k plan ≡ accepted k key.now (Offered (with_cas (k.last + 1) item))) }
-    ensures light { IfOk result (λ plan. (limits : Limits) → limits.main ≡ main → IsLightPlan limits plan) }
+    ensures plan { IfOk result (λ plan. (k : UserCache) → k.largest ≡ largest
+        → k.live.limits.main ≡ main
+        → planned k plan ≡ accepted k key.now (Offered (with_cas (k.last + 1) item))) }
+    ensures light { IfOk result (λ plan. (limits : Limits) → limits.main ≡ main
+        → IsLightPlan limits plan) }
 {
     let key = key.copy(alloc)?;
     let entry = Entry { key, item };
@@ -64,8 +67,10 @@ fn spell(alloc: Global, number: u64) -> Result<Blob, NoMemory>
 
 /// What counting an entry's data will do: it is no number, or the entry is used with the new number's text.
 pub fn plan_count(alloc: Global, entry: &Entry, way: Way, by: u64) -> Result<Plan, NoMemory>
-    ensures plan { IfOk result (λ plan. (k : UserCache) → planned k plan ≡ counted_under way by (Some entry.now) k) }
-    ensures light { IfOk result (λ plan. (limits : Limits) → weight_of entry.now.key 20 ≤ limits.main → IsLightPlan limits plan) }
+    ensures plan { IfOk result (λ plan. (k : UserCache)
+        → planned k plan ≡ counted_under way by (Some entry.now) k) }
+    ensures light { IfOk result (λ plan. (limits : Limits)
+        → weight_of entry.now.key 20 ≤ limits.main → IsLightPlan limits plan) }
 {
     let Some(number) = tc_counter::read(entry.item.blob.as_slice()) else {
         return Ok(Plan::Ends(End::NotNumeric));
@@ -81,7 +86,7 @@ pub fn plan_count(alloc: Global, entry: &Entry, way: Way, by: u64) -> Result<Pla
     Ok(Plan::Changes(End::Number(number), Entry { key, item }))
 }
 
-impl Live {
+impl EvictionState {
     /// Carries a plan out, for which there is room: an entry gets the next cas number after `last`, and
     /// each entry that is dropped for it is counted.
     pub(crate) fn carry_out(&mut self, plan: Plan, last: &mut u64, counters: &mut Counters) -> End
@@ -89,9 +94,12 @@ impl Live {
         requires light { IsLightPlan self.old.limits plan }
         requires main { self.old.limits.main < 2 ^ 63 }
         requires room { HasRoom 1 self.old.areas }
-        ensures outcome { (k : UserCache) → k.live ≡ live_of self.old → k.last ≡ last.old → outcome_of result ≡ (planned k plan).0 }
-        ensures state { (k : UserCache) → k.live ≡ live_of self.old → k.last ≡ last.old → k.counters ≡ counters.old
-            → (planned k plan).1 ≡ record k { live = live_of self.new; last = last.new; counters = counters.new } }
+        ensures outcome { (k : UserCache) → k.live ≡ live_of self.old → k.last ≡ last.old
+            → outcome_of result ≡ (planned k plan).0 }
+        ensures state { (k : UserCache) → k.live ≡ live_of self.old → k.last ≡ last.old
+            → k.counters ≡ counters.old
+            → (planned k plan).1
+            ≡ record k { live = live_of self.new; last = last.new; counters = counters.new } }
     {
         let (end, mut entry) = match plan {
             Plan::Ends(end) => return end,

@@ -1,5 +1,6 @@
 //! The ring of records that wait.
-ghost use Rattle.std.specs.Prelude.{◌≡◌, ◌↔◌, ◌≤◌, ◌∷◌, ◌++◌, [], length, IfOk, IsErr, OnErr, OnOk, IsTrue, MatchOption, slice_get};
+ghost use Rattle.std.specs.Prelude.{◌≡◌, ◌↔◌, ◌≤◌, ◌∷◌, ◌++◌, [], length, IfOk, IsErr, OnErr, OnOk, IsTrue, MatchOption};
+ghost use Rattle.std.specs.Prelude.{slice_get};
 
 use crate::noted::Noted;
 use circular_buffer::HeapCircularBuffer;
@@ -53,7 +54,8 @@ impl ReadBuf {
         Ok(ReadBuf { ring })
     }
 
-    /// Notes what a look-up found at a moment, behind the records that wait. `Full` where 128 wait, and nothing changes.
+    /// Notes what a look-up found at a moment, behind the records that wait. `Full` where 128 wait,
+    /// and nothing changes.
     pub fn note(&mut self, noted: Noted, moment: Moment) -> Result<(), Full>
         ensures noted { OnOk result (self.new ≡ self.old ++ (noted, moment) ∷ []) }
         ensures full { IsErr result ↔ (length self.old ≡ 128) }

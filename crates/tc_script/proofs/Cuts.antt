@@ -1,7 +1,8 @@
 -- The lines of a text, cut off its front one by one.
 use Rattle.std.specs.Prelude.{not, nat_lt, option_map, ◌==◌}
 use Rattle.std.specs.List.{prefix_len}
-use Rattle.std.proofs.Common.{◌≡◌, ℕ, zero, suc, ◌+◌, ◌<◌, ◌≤◌, Bool, true, false, cond, List, [], ◌∷◌, length, take, drop, Some, None, refl, ◌∙◌, ap, subst, arith, add-one}
+use Rattle.std.proofs.Common.{◌≡◌, ℕ, zero, suc, ◌+◌, ◌<◌, ◌≤◌, Bool, true, false, cond, List, [], ◌∷◌, length, take, drop, Some}
+use Rattle.std.proofs.Common.{None, refl, ◌∙◌, ap, subst, arith, add-one}
 use Rattle.std.proofs.lemmas.Bool.Decides.{nat_tests}
 use Rattle.tc_grammar.specs.Tokens.{lengthened}
 use Rattle.tc_script.specs.Texts.{sides, cut, lines_of}
@@ -19,7 +20,8 @@ are_cut : (text : List ℕ) → AreCutAt text (lines_of text) (line_end text)
 are_cut [] = record { first = λ h. absurd (omega arith); alone = λ h. refl }
 are_cut (b ∷ text) = go (are_cut text) (b == 10) (line_end (b ∷ text)) refl
   where
-    go : AreCutAt text (lines_of text) (line_end text) → (x : Bool) (place : ℕ) → place ≡ cond (not x) (1 + line_end text) 0 → AreCutAt (b ∷ text) (cond x ([] ∷ lines_of text) (lengthened b (lines_of text))) place
+    go : AreCutAt text (lines_of text) (line_end text) → (x : Bool) (place : ℕ) → place ≡ cond (not x) (1 + line_end text) 0
+        → AreCutAt (b ∷ text) (cond x ([] ∷ lines_of text) (lengthened b (lines_of text))) place
     go rest true zero e = record { first = λ h. refl; alone = λ h. absurd (omega arith) }
     go rest true (suc q) e = absurd (omega arith)
     go rest false zero e = absurd (omega arith)
@@ -32,10 +34,12 @@ are_cut (b ∷ text) = go (are_cut text) (b == 10) (line_end (b ∷ text)) refl
         }
 
 -- a text with a line feed has its first line, and the lines of what is behind it
-pub lines_of-cut : (text : List ℕ) (parts : List ℕ × List ℕ) → cut 10 text ≡ Some parts → lines_of text ≡ parts.0 ∷ lines_of parts.1
+pub lines_of-cut : (text : List ℕ) (parts : List ℕ × List ℕ) → cut 10 text ≡ Some parts
+    → lines_of text ≡ parts.0 ∷ lines_of parts.1
 lines_of-cut text parts e = go (nat_lt (line_end text) (length text)) refl e
   where
-    go : (x : Bool) → nat_lt (line_end text) (length text) ≡ x → option_map (sides text) (cond x (Some (line_end text)) None) ≡ Some parts → lines_of text ≡ parts.0 ∷ lines_of parts.1
+    go : (x : Bool) → nat_lt (line_end text) (length text) ≡ x
+        → option_map (sides text) (cond x (Some (line_end text)) None) ≡ Some parts → lines_of text ≡ parts.0 ∷ lines_of parts.1
     go true lt h =
         let within : line_end text < length text = grind (arith, nat_tests) in
         let same : sides text (line_end text) ≡ parts = cc in
@@ -46,7 +50,8 @@ lines_of-cut text parts e = go (nat_lt (line_end text) (length text)) refl e
 pub lines_of-alone : (text : List ℕ) → cut 10 text ≡ None → lines_of text ≡ text ∷ []
 lines_of-alone text e = go (nat_lt (line_end text) (length text)) refl e
   where
-    go : (x : Bool) → nat_lt (line_end text) (length text) ≡ x → option_map (sides text) (cond x (Some (line_end text)) None) ≡ None → lines_of text ≡ text ∷ []
+    go : (x : Bool) → nat_lt (line_end text) (length text) ≡ x
+        → option_map (sides text) (cond x (Some (line_end text)) None) ≡ None → lines_of text ≡ text ∷ []
     go true lt h = cc
     go false lt h =
         let past : length text ≤ line_end text = grind (arith, nat_tests) in

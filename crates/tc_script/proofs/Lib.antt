@@ -2,4 +2,4 @@ pub mod Unescaping
 pub mod Cuts
 pub mod Walks
 pub mod TakenLines
-pub mod Ends
+pub mod RunEnds

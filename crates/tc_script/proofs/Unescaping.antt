@@ -1,7 +1,9 @@
 -- A text stands for its first byte and then for what the text behind it stands for.
 use Rattle.std.specs.Prelude.{option_map, ◌==◌}
-use Rattle.std.proofs.Common.{◌≡◌, ℕ, ◌<◌, Bool, true, false, cond, List, [], ◌∷◌, ◌++◌, length, Option, Some, None, refl, sym, ◌∙◌, ap, arith, append_assoc, append-nil}
-use Rattle.tc_script.specs.Texts.{bind, put, put_some, short_escape, hex_pair, unescaped, escaped_letter, escaped_high, escaped_low, front_pair, front_escape, front_of}
+use Rattle.std.proofs.Common.{◌≡◌, ℕ, ◌<◌, Bool, true, false, cond, List, [], ◌∷◌, ◌++◌, length, Option, Some, None, refl, sym}
+use Rattle.std.proofs.Common.{◌∙◌, ap, arith, append_assoc, append-nil}
+use Rattle.tc_script.specs.Texts.{bind, put, put_some, short_escape, hex_pair, unescaped, escaped_letter, escaped_high}
+use Rattle.tc_script.specs.Texts.{escaped_low, front_pair, front_escape, front_of}
 
 -- what a text stands for, by the byte at its front and the text behind it
 abbrev pub of_front : Option (ℕ × List ℕ) → Option (List ℕ)
@@ -32,7 +34,8 @@ unfolding unescaped
 unescaped-front [] h = absurd (omega arith)
 unescaped-front (b ∷ text) h = go (b == 92)
   where
-    go : (x : Bool) → cond x (escaped_letter text) (put b (unescaped text)) ≡ of_front (cond x (front_escape text) (Some (b, text)))
+    go : (x : Bool)
+        → cond x (escaped_letter text) (put b (unescaped text)) ≡ of_front (cond x (front_escape text) (Some (b, text)))
     go true = of_escape text
     go false = refl
 
@@ -49,17 +52,20 @@ behind-put bytes b None = refl
 behind-put bytes b (Some bs) = ap Some (sym (append_assoc bytes (b ∷ []) bs))
 
 -- one more byte is read
-pub unescaped-step : (whole rest bytes : List ℕ) (b : ℕ) (next : List ℕ) → 0 < length rest → behind bytes (unescaped rest) ≡ unescaped whole → front_of rest ≡ Some (b, next)
+pub unescaped-step : (whole rest bytes : List ℕ) (b : ℕ) (next : List ℕ) → 0 < length rest
+    → behind bytes (unescaped rest) ≡ unescaped whole → front_of rest ≡ Some (b, next)
     → behind (bytes ++ b ∷ []) (unescaped next) ≡ unescaped whole
 unescaped-step whole rest bytes b next h e f =
     sym (behind-put bytes b (unescaped next)) ∙ (ap (behind bytes) (sym (unescaped-front rest h ∙ ap of_front f)) ∙ e)
 
 -- an escape is none
-pub unescaped-stuck : (whole rest bytes : List ℕ) → 0 < length rest → behind bytes (unescaped rest) ≡ unescaped whole → front_of rest ≡ None → unescaped whole ≡ None
+pub unescaped-stuck : (whole rest bytes : List ℕ) → 0 < length rest → behind bytes (unescaped rest) ≡ unescaped whole
+    → front_of rest ≡ None → unescaped whole ≡ None
 unescaped-stuck whole rest bytes h e f = sym e ∙ ap (behind bytes) (unescaped-front rest h ∙ ap of_front f)
 
 -- all is read
-pub unescaped-end : (whole rest bytes : List ℕ) → rest ≡ [] → behind bytes (unescaped rest) ≡ unescaped whole → Some bytes ≡ unescaped whole
+pub unescaped-end : (whole rest bytes : List ℕ) → rest ≡ [] → behind bytes (unescaped rest) ≡ unescaped whole
+    → Some bytes ≡ unescaped whole
 unfolding unescaped
 unescaped-end whole [] bytes h e = ap Some (sym (append-nil bytes)) ∙ e
 unescaped-end whole (b ∷ rest) bytes h e = cc

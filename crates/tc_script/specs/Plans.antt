@@ -1,5 +1,6 @@
 -- What a script asks for, line by line. Source: docs/PROTOCOL.md, 'Scripts'.
-use Rattle.std.specs.Prelude.{ℕ, ◌+◌, Bool, true, false, ◌==◌, if◌then◌else◌, List, [], ◌∷◌, ◌++◌, Option, Some, None, is_some, pos}
+use Rattle.std.specs.Prelude.{ℕ, ◌+◌, Bool, true, false, ◌==◌, if◌then◌else◌, List, [], ◌∷◌, ◌++◌, Option, Some, None, is_some}
+use Rattle.std.specs.Prelude.{pos}
 use Rattle.std.specs.List.{list_any}
 use Rattle.tc_model.specs.Connection.{user_at}
 use Rattle.tc_users.specs.declared.settings_fault.SettingsFault.{SettingsFault}
@@ -55,7 +56,8 @@ abbrev pub with_largest_for : Plan → ℕ → ℕ → Option UserSpec → Optio
 with_largest_for p user most None = None
 with_largest_for p user most (Some row) =
     if list_any (λ u. u == user) p.sized then None
-    else unless_fault (largest_fault user (pos most)) (record p { users = with_largest p.users user most; sized = p.sized ++ user ∷ [] })
+    else unless_fault (largest_fault user (pos most))
+    (record p { users = with_largest p.users user most; sized = p.sized ++ user ∷ [] })
 
 -- the same, of the user with this number
 abbrev pub with_largest_line : Plan → ℕ → ℕ → Option Plan

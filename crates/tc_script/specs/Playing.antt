@@ -5,9 +5,11 @@ use Rattle.tc_model.specs.Connection.{Open, Piece, Act, Shut}
 use Rattle.tc_model.specs.Server.{Step, On, Tick, Maintain, run}
 use Rattle.tc_core.specs.declared.outputs.Output.{Output}
 use Rattle.tc_core.specs.Sending.{output_of}
-use Rattle.tc_core.specs.Serving.{serving}
+use Rattle.tc_core.specs.ServerMachine.{server_machine}
 use Rattle.tc_script.specs.declared.action.Action.{Action}
-use Rattle.tc_script.specs.declared.action.Action.TheVariants.{Open as OpenAction, Piece as PieceAction, Fill as FillAction, Act as ActAction, Shut as ShutAction, Tick as TickAction, Keep as KeepAction}
+use Rattle.tc_script.specs.declared.action.Action.TheVariants.{Open as OpenAction, Piece as PieceAction, Fill as FillAction}
+use Rattle.tc_script.specs.declared.action.Action.TheVariants.{Act as ActAction, Shut as ShutAction, Tick as TickAction}
+use Rattle.tc_script.specs.declared.action.Action.TheVariants.{Keep as KeepAction}
 use Rattle.tc_script.specs.Plans.{Plan}
 
 -- the steps of the server that an action is
@@ -26,4 +28,4 @@ plan_steps p = flat_map steps_of p.actions
 
 -- what connections are sent: what the server's machine sends them on the plan's steps, by rising number
 abbrev pub outputs_for : Plan → List Output
-outputs_for p = map output_of (run serving p.users (plan_steps p)).world.connections
+outputs_for p = map output_of (run server_machine p.users (plan_steps p)).world.connections

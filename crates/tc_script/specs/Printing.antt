@@ -1,5 +1,6 @@
 -- What a script's run prints. Source: docs/PROTOCOL.md, 'Scripts'.
-use Rattle.std.specs.Prelude.{ℕ, ◌+◌, ◌/◌, ◌%◌, Bool, true, false, ◌&&◌, ◌==◌, nat_le, nat_lt, if◌then◌else◌, List, [], ◌∷◌, ◌++◌, codes}
+use Rattle.std.specs.Prelude.{ℕ, ◌+◌, ◌/◌, ◌%◌, Bool, true, false, ◌&&◌, ◌==◌, nat_le, nat_lt, if◌then◌else◌, List, [], ◌∷◌, ◌++◌}
+use Rattle.std.specs.Prelude.{codes}
 use Rattle.std.specs.List.{flat_map}
 use Rattle.tc_counter.specs.CounterText.{text_of}
 use Rattle.tc_core.specs.declared.outputs.Output.{Output}
@@ -8,7 +9,8 @@ use Rattle.tc_core.specs.declared.outputs.Output.{Output}
 abbrev pub lower_hex : ℕ → ℕ
 lower_hex n = if nat_lt n 10 then n + 48 else n + 87
 
--- a byte as it is printed: the backslash, the carriage return and the line feed by their letters, 32 to 126 as they are, others by two digits
+-- a byte as it is printed: the backslash, the carriage return and the line feed by
+-- their letters, 32 to 126 as they are, others by two digits
 abbrev pub escape_of : ℕ → List ℕ
 escape_of b =
     if b == 92 then 92 ∷ 92 ∷ []

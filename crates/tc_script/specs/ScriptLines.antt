@@ -1,5 +1,6 @@
 -- What a line of a script says. Source: docs/PROTOCOL.md, 'Scripts'.
-use Rattle.std.specs.Prelude.{ℕ, ◌-◌, ◌^◌, Bool, true, ◌==◌, bytes_eq, codes, if◌then◌else◌, List, [], ◌∷◌, Option, Some, None, option_map}
+use Rattle.std.specs.Prelude.{ℕ, ◌-◌, ◌^◌, Bool, true, ◌==◌, bytes_eq, codes, if◌then◌else◌, List, [], ◌∷◌, Option, Some, None}
+use Rattle.std.specs.Prelude.{option_map}
 use Rattle.tc_users.specs.declared.users.UserSpec.{UserSpec}
 use Rattle.tc_script.specs.declared.action.Action.{Action}
 use Rattle.tc_script.specs.declared.action.Action.TheVariants.{Open, Piece, Fill, Act, Shut, Tick, Keep}

@@ -1,5 +1,6 @@
 -- The lines, fields, numbers and texts of a script. Source: docs/PROTOCOL.md, 'Scripts'.
-use Rattle.std.specs.Prelude.{ℕ, ◌+◌, ◌-◌, ◌*◌, ◌^◌, ◌&&◌, ◌==◌, nat_le, if◌then◌else◌, List, [], ◌∷◌, length, take, drop, position, Option, Some, None, option_map}
+use Rattle.std.specs.Prelude.{ℕ, ◌+◌, ◌-◌, ◌*◌, ◌^◌, ◌&&◌, ◌==◌, nat_le, if◌then◌else◌, List, [], ◌∷◌, length, take, drop}
+use Rattle.std.specs.Prelude.{position, Option, Some, None, option_map}
 use Rattle.std.specs.Option.{option_and_then}
 use Rattle.tc_grammar.specs.Numbers.{number_of}
 use Rattle.tc_grammar.specs.Tokens.{lengthened}

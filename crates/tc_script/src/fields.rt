@@ -1,6 +1,7 @@
 //! The fields and numbers of a line.
 ghost use Rattle.std.specs.Prelude.{◌≡◌, ◌<◌, ◌≤◌, ◌+◌, None, Some, MatchOption, IfSome, length, position, ◌==◌};
-ghost use Rattle.tc_script.specs.Texts.{cut, first_field as first_field_of, short_number as short_number_of, word_number as word_number_of, count_of, hex_digit, hex_pair, hex_byte};
+ghost use Rattle.tc_script.specs.Texts.{cut, first_field as first_field_of, short_number as short_number_of};
+ghost use Rattle.tc_script.specs.Texts.{word_number as word_number_of, count_of, hex_digit, hex_pair, hex_byte};
 
 use tc_grammar::read_number;
 
@@ -17,7 +18,8 @@ fn place_of(text: &[u8], mark: u8) -> Option<usize>
 
 /// What stands before the first such byte, and behind it.
 pub fn cut(text: &[u8], mark: u8) -> Option<(&[u8], &[u8])>
-    ensures sides { MatchOption result (cut mark text.now ≡ None) (λ sides. cut mark text.now ≡ Some (sides.0.now, sides.1.now)) }
+    ensures sides { MatchOption result (cut mark text.now ≡ None)
+        (λ sides. cut mark text.now ≡ Some (sides.0.now, sides.1.now)) }
     ensures shorter { IfSome result (λ sides. length sides.1.now < length text.now) }
 {
     let place = place_of(text, mark)?;
@@ -26,7 +28,8 @@ pub fn cut(text: &[u8], mark: u8) -> Option<(&[u8], &[u8])>
 
 /// The field before the first space, and what stands behind it.
 pub fn first_field(text: &[u8]) -> Option<(&[u8], &[u8])>
-    ensures { MatchOption result (first_field_of text.now ≡ None) (λ sides. first_field_of text.now ≡ Some (sides.0.now, sides.1.now)) }
+    ensures { MatchOption result (first_field_of text.now ≡ None)
+        (λ sides. first_field_of text.now ≡ Some (sides.0.now, sides.1.now)) }
 {
     cut(text, b' ')
 }

@@ -3,7 +3,7 @@ ghost use Rattle.std.specs.Prelude.{◌≡◌, ℕ, ◌∷◌, [], IfOk, OnOk, r
 ghost use Rattle.std.specs.List.{flat_map};
 ghost use Rattle.tc_model.specs.Connection.{Act as ActHappening};
 ghost use Rattle.tc_model.specs.Server.{steps_from, On};
-ghost use Rattle.tc_core.specs.Serving.{serving};
+ghost use Rattle.tc_core.specs.ServerMachine.{server_machine};
 ghost use Rattle.tc_core.specs.Sending.{IsPromised};
 ghost use Rattle.tc_script.specs.Playing.{steps_of, plan_steps, outputs_for};
 
@@ -33,7 +33,8 @@ fn act_often<C: Cache>(
     count: u32,
 ) -> Result<(), NoMemory>
     ensures users { server.new.users ≡ server.old.users }
-    ensures world { OnOk result (server.new.world ≡ steps_from serving server.old.users server.old.world (replicate count (On connection ActHappening))) }
+    ensures world { OnOk result (server.new.world ≡ steps_from server_machine server.old.users
+        server.old.world (replicate count (On connection ActHappening))) }
 {
     for _ in 0..count {
         server.step(alloc, &Step::On(connection, Happening::Act))?;
@@ -44,7 +45,8 @@ fn act_often<C: Cache>(
 /// One action.
 fn perform<C: Cache>(server: &mut Server<C>, alloc: Global, action: &Action) -> Result<(), NoMemory>
     ensures users { server.new.users ≡ server.old.users }
-    ensures world { OnOk result (server.new.world ≡ steps_from serving server.old.users server.old.world (steps_of action.now)) }
+    ensures world { OnOk result (server.new.world
+        ≡ steps_from server_machine server.old.users server.old.world (steps_of action.now)) }
 {
     match action {
         Action::Open(connection) => server.step(alloc, &Step::On(*connection, Happening::Open)),
@@ -72,7 +74,8 @@ fn perform_all<C: Cache>(
     actions: &[Action],
 ) -> Result<(), NoMemory>
     ensures users { server.new.users ≡ server.old.users }
-    ensures world { OnOk result (server.new.world ≡ steps_from serving server.old.users server.old.world (flat_map steps_of actions.now)) }
+    ensures world { OnOk result (server.new.world ≡ steps_from server_machine server.old.users
+        server.old.world (flat_map steps_of actions.now)) }
 {
     for action in actions {
         perform(server, alloc, action)?;
@@ -105,7 +108,8 @@ pub fn play<C: Kind>(
     hasher: RandomState,
     script: Script,
 ) -> Result<Outputs, NoMemory>
-    ensures promised { IfOk result (λ outputs. IsPromised script.users (plan_steps script) outputs) }
+    ensures promised { IfOk result (λ outputs. IsPromised script.users
+        (plan_steps script) outputs) }
 {
     advancing();
     freshness();

@@ -38,7 +38,8 @@ fn ended_by(fault: ScriptFault) -> Ended
 
 /// All bytes that a reader has left.
 fn read_all<R: Read>(alloc: Global, input: &mut R) -> Result<Vec<u8>, Ended>
-    ensures text { IfOk result (λ text. IfSome (R.remaining input.old) (λ bytes. text.items ≡ bytes)) }
+    ensures text { IfOk result (λ text. IfSome (R.remaining input.old)
+        (λ bytes. text.items ≡ bytes)) }
     ensures fault { IfErr result IsUnread }
 {
     let mut text = Vec::new(alloc);
@@ -93,7 +94,8 @@ pub fn run_script<C: Kind, R: Read, W: Write>(
     input: &mut R,
     out: &mut W,
 ) -> Ended
-    ensures ended { IfSome (R.remaining input.old) (λ text. IsEndOf text (W.contents out.old) (W.contents out.new) result) }
+    ensures ended { IfSome (R.remaining input.old)
+        (λ text. IsEndOf text (W.contents out.old) (W.contents out.new) result) }
     ensures unwritten { IsUnwritten (W.contents out.old) (W.contents out.new) result }
 {
     let text = match read_all(alloc, input) {

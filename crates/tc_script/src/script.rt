@@ -1,7 +1,8 @@
 //! A whole script, read line by line.
 ghost use Rattle.std.specs.Prelude.{◌≡◌, ◌≤◌, ◌+◌, ◌++◌, ◌∷◌, [], ℕ, Bool, Some, None, IfOk, IfErr, OnOk, OnErr, length, ◌==◌};
 ghost use Rattle.std.specs.List.{list_any};
-ghost use Rattle.tc_script.specs.Plans.{no_plan, with_user_line, with_second_line, with_largest_line, with_line, with_text, reading_of, Good};
+ghost use Rattle.tc_script.specs.Plans.{no_plan, with_user_line, with_second_line, with_largest_line, with_line, with_text};
+ghost use Rattle.tc_script.specs.Plans.{reading_of, Good};
 ghost use Rattle.tc_script.specs.declared.script.ScriptFault.TheVariants.{NoMemory as OutOfMemory};
 ghost use Rattle.tc_script.specs.Refusing.{taken_as, IsFaultOf};
 
@@ -26,7 +27,11 @@ impl Model for Script {
 
     ghost Value = { Plan };
 
-    ghost view = { λ s. record { users = s.users; sized = s.sized.items; actions = s.actions.items } };
+    ghost view = { λ s. record {
+      users = s.users;
+      sized = s.sized.items;
+      actions = s.actions.items;
+    } };
 }
 
 /// Why a text is no script.
@@ -102,7 +107,8 @@ impl Script {
 
     /// Takes a largest item's line, and says whether it is good.
     fn take_largest(&mut self, user: u32, most: u64) -> Result<bool, NoMemory>
-        ensures { IfOk result (λ good. with_largest_line self.old user most ≡ taken_as good self.new) }
+        ensures { IfOk result (λ good. with_largest_line self.old user most
+            ≡ taken_as good self.new) }
     {
         let number = UserNo::new(user);
         match self.users.spec(number) {

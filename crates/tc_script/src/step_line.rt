@@ -1,6 +1,7 @@
 //! The lines of a script's steps.
 ghost use Rattle.std.specs.Prelude.{◌≡◌, IfOk};
-ghost use Rattle.tc_script.specs.ScriptLines.{open_line, piece_line, fill_line, act_line, shut_line, tick_line, keep_line, action_by};
+ghost use Rattle.tc_script.specs.ScriptLines.{open_line, piece_line, fill_line, act_line, shut_line, tick_line, keep_line};
+ghost use Rattle.tc_script.specs.ScriptLines.{action_by};
 
 use crate::action::Action;
 use crate::fields::{count, first_field, hex_byte, short_number, word_number};

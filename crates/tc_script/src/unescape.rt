@@ -21,7 +21,8 @@ fn short_escape(letter: u8) -> Option<u8>
 
 /// The byte at the front of a text that is not empty, and the text behind it.
 fn front(text: &[u8]) -> Option<(u8, &[u8])>
-    ensures front { MatchOption result (front_of text.now ≡ None) (λ f. front_of text.now ≡ Some (f.0, f.1.now)) }
+    ensures front { MatchOption result (front_of text.now ≡ None)
+        (λ f. front_of text.now ≡ Some (f.0, f.1.now)) }
     ensures shorter { IfSome result (λ f. length f.1.now < length text.now) }
 {
     match text {

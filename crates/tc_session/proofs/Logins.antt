@@ -5,8 +5,10 @@ use Rattle.tc_model.specs.Connection.{first_row}
 use Rattle.tc_model.specs.Place.{first_place}
 use Rattle.tc_users.specs.declared.users.UserSpec.{UserSpec}
 use Rattle.tc_users.specs.Login.{opens}
-use Rattle.tc_session.specs.Talking.{talking}
+use Rattle.tc_session.specs.TextProtocol.{text_protocol}
 
-pub first_row-first_place : (rows : List UserSpec) (text : List ℕ) → first_place (λ row. opens row text) rows ≡ first_row talking rows text
+pub first_row-first_place : (rows : List UserSpec) (text : List ℕ)
+    → first_place (λ row. opens row text) rows ≡ first_row text_protocol rows text
 first_row-first_place [] text = refl
-first_row-first_place (row ∷ rows) text = ap (λ o. cond (opens row text) (Some zero) (option_map suc o)) (first_row-first_place rows text)
+first_row-first_place (row ∷ rows) text =
+    ap (λ o. cond (opens row text) (Some zero) (option_map suc o)) (first_row-first_place rows text)

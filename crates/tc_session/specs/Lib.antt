@@ -1,5 +1,5 @@
 pub mod Texts
 pub mod Replies
-pub mod Talking
+pub mod TextProtocol
 pub mod Unsent
-pub mod Linked
+pub mod SessionView

@@ -6,12 +6,15 @@ use Rattle.tc_grammar.specs.declared.command.StoreKind.TheVariants.{Set, Cas}
 use Rattle.tc_grammar.specs.declared.command.Form.{Form}
 use Rattle.tc_grammar.specs.declared.command.Form.TheVariants.{Bare, WithCas}
 use Rattle.tc_grammar.specs.declared.command.Command.{Command}
-use Rattle.tc_grammar.specs.declared.command.Command.TheVariants.{Store, Get, Gat, Delete, Count, Touch, Flush, Stats as AskStats, Version as AskVersion, Verbosity, Quit}
-use Rattle.tc_grammar.specs.declared.fault.Fault.TheVariants.{TooLarge as TooLargeFault, NotNumeric as NotNumericFault, CasWorn as CasWornFault}
+use Rattle.tc_grammar.specs.declared.command.Command.TheVariants.{Store, Get, Gat, Delete, Count, Touch, Flush, Stats as AskStats}
+use Rattle.tc_grammar.specs.declared.command.Command.TheVariants.{Version as AskVersion, Verbosity, Quit}
+use Rattle.tc_grammar.specs.declared.fault.Fault.TheVariants.{TooLarge as TooLargeFault, NotNumeric as NotNumericFault}
+use Rattle.tc_grammar.specs.declared.fault.Fault.TheVariants.{CasWorn as CasWornFault}
 use Rattle.tc_stats.specs.declared.counters.Counters.{Counters}
 use Rattle.tc_stats.specs.declared.hits.Hit.{Hit}
 use Rattle.tc_stats.specs.declared.outcome.Outcome.{Outcome}
-use Rattle.tc_stats.specs.declared.outcome.Outcome.TheVariants.{Stored, NotStored, Exists, NotFound, Deleted, Touched, Number, Values, Done, Stats, Version, TooLarge, NotNumeric, CasWorn}
+use Rattle.tc_stats.specs.declared.outcome.Outcome.TheVariants.{Stored, NotStored, Exists, NotFound, Deleted, Touched, Number}
+use Rattle.tc_stats.specs.declared.outcome.Outcome.TheVariants.{Values, Done, Stats, Version, TooLarge, NotNumeric, CasWorn}
 use Rattle.tc_stats.specs.StatsRows.{version_text, stats_rows}
 use Rattle.tc_session.specs.Texts.{line_end, fault_line, unless_quiet}
 
@@ -77,7 +80,9 @@ cas_text WithCas cas = 32 ∷ decimal cas
 
 -- a VALUE line: key, flags and length, and the cas number where it is asked for
 unfoldable pub value_line : Form → Hit → List ℕ
-value_line form hit = codes "VALUE " ++ (hit.key ++ (32 ∷ decimal hit.flags ++ (32 ∷ decimal (length hit.blob) ++ (cas_text form hit.cas ++ line_end))))
+value_line form hit =
+    codes "VALUE "
+    ++ (hit.key ++ (32 ∷ decimal hit.flags ++ (32 ∷ decimal (length hit.blob) ++ (cas_text form hit.cas ++ line_end))))
 
 -- a VALUE line, the bytes and a line end
 unfoldable pub value_text : Form → Hit → List ℕ

@@ -1,12 +1,12 @@
 //! One connection: from bytes to a request, and from an outcome to bytes.
 //!
-//! The definition is `specs/Talking.antt`, an instance of the protocol of tc_model: what a request of
+//! The definition is `specs/TextProtocol.antt`, an instance of the protocol of tc_model: what a request of
 //! an unbound and of a bound connection asks for. Reply texts are `specs/Replies.antt`. A `Session` is
 //! seen as its endpoint (phase and reader), the bytes that wait to be sent, and the room for more.
 //! `next` and `answer` equal the definition, for both outcomes.
 #![tactic(auto)]
 
-mod ending;
+mod answering;
 mod output;
 mod reply;
 mod session;

@@ -26,7 +26,10 @@ impl Model for Output {
 
     ghost Value = { Unsent };
 
-    ghost view = { λ o. record { bytes = drop o.start o.bytes.items; room = vec_capacity o.bytes - vec_len o.bytes } };
+    ghost view = { λ o. record {
+      bytes = drop o.start o.bytes.items;
+      room = vec_capacity o.bytes - vec_len o.bytes;
+    } };
 
     ghost invariant = { λ o. o.start ≤ vec_len o.bytes };
 }

@@ -104,7 +104,8 @@ fn write_hit(out: &mut Output, form: Form, hit: &Hit) -> Result<(), NoMemory>
 #[tactic(auto, unfolding(crate::specs::Replies::values_text))]
 pub(crate) fn write_values(out: &mut Output, form: Form, hits: &[Hit]) -> Result<(), NoMemory>
     ensures bytes { OnOk result (out.new.bytes ≡ out.old.bytes ++ values_text form hits.now) }
-    ensures front_on_err { OnErr result (take (length out.old.bytes) out.new.bytes ≡ out.old.bytes) }
+    ensures front_on_err { OnErr result (take (length out.old.bytes) out.new.bytes
+        ≡ out.old.bytes) }
     ensures longer_on_err { OnErr result (length out.old.bytes ≤ length out.new.bytes) }
     ensures space { KeepsSpace out.old out.new }
 {
@@ -120,7 +121,8 @@ pub(crate) fn write_values(out: &mut Output, form: Form, hits: &[Hit]) -> Result
 #[tactic(auto, unfolding(crate::specs::Replies::stats_text))]
 pub(crate) fn write_stats(out: &mut Output, counters: &Counters) -> Result<(), NoMemory>
     ensures bytes { OnOk result (out.new.bytes ≡ out.old.bytes ++ stats_text counters.now) }
-    ensures front_on_err { OnErr result (take (length out.old.bytes) out.new.bytes ≡ out.old.bytes) }
+    ensures front_on_err { OnErr result (take (length out.old.bytes) out.new.bytes
+        ≡ out.old.bytes) }
     ensures longer_on_err { OnErr result (length out.old.bytes ≤ length out.new.bytes) }
     ensures space { KeepsSpace out.old out.new }
 {
@@ -133,7 +135,8 @@ pub(crate) fn write_stats(out: &mut Output, counters: &Counters) -> Result<(), N
 /// Writes the server's version.
 pub(crate) fn write_version(out: &mut Output)
     requires { 64 ≤ out.old.room }
-    ensures bytes { out.new.bytes ≡ out.old.bytes ++ (codes "VERSION " ++ (version_text ++ line_end)) }
+    ensures bytes { out.new.bytes
+        ≡ out.old.bytes ++ (codes "VERSION " ++ (version_text ++ line_end)) }
     ensures space { KeepsSpace out.old out.new }
 {
     out.write(b"VERSION ");

@@ -1,14 +1,16 @@
 //! A connection.
 ghost use Rattle.std.specs.Prelude.{◌≡◌, ◌≢◌, ◌+◌, ◌≤◌, ◌++◌, ℕ, [], false, codes, drop, length, None, IsOk, IfOk, OnOk, OnErr};
-ghost use Rattle.tc_model.specs.Connection.{turn, login, login_turn, unbound_turn, bound_turn, with_piece, shut_endpoint, new_endpoint, Unbound, Bound, Nothing, Close, is_closed};
+ghost use Rattle.tc_model.specs.Connection.{turn, login, login_turn, unbound_turn, bound_turn, with_piece, shut_endpoint};
+ghost use Rattle.tc_model.specs.Connection.{new_endpoint, Unbound, Bound, Nothing, Close, is_closed};
 ghost use Rattle.tc_grammar.specs.declared.fault.Fault.TheVariants.{AuthenticationFailure, NoMemory as OutOfMemory};
 ghost use Rattle.tc_session.specs.Texts.{fault_line, unless_quiet};
 ghost use Rattle.tc_session.specs.Replies.{is_quiet, render, is_long};
-ghost use Rattle.tc_session.specs.Talking.{talking, fault_said, unbound_asks, unbound_command, unbound_store, bound_wants, bound_command};
-ghost use Rattle.tc_session.specs.Linked.{Linked, want_of, fault_want, fault_phase, KeepsAtMost, most_resting};
+ghost use Rattle.tc_session.specs.TextProtocol.{text_protocol, fault_said, unbound_asks, unbound_command, unbound_store};
+ghost use Rattle.tc_session.specs.TextProtocol.{bound_wants, bound_command};
+ghost use Rattle.tc_session.specs.SessionView.{SessionView, want_of, fault_want, fault_phase, KeepsAtMost, most_resting};
 
 use crate::Want;
-use crate::ending::{write_refusal, write_reply};
+use crate::answering::{write_refusal, write_reply};
 use crate::output::Output;
 use crate::reply::{is_quiet, write_fault};
 use std::alloc::Global;
@@ -45,16 +47,20 @@ pub struct Session {
 }
 
 impl Model for Session {
-    ghost use Rattle.tc_session.specs.Linked.{Linked, phase_of};
+    ghost use Rattle.tc_session.specs.SessionView.{SessionView, phase_of};
 
-    ghost Value = { Linked };
+    ghost Value = { SessionView };
 
-    ghost view = { λ s. record { endpoint = record { phase = phase_of s.stage; reader = s.feed }; out = s.out.bytes; room = s.out.room } };
+    ghost view = { λ s. record {
+      endpoint = record { phase = phase_of s.stage; reader = s.feed };
+      out = s.out.bytes;
+      room = s.out.room;
+    } };
 }
 
 /// The user whom the data logs in.
 fn find_login(users: &Users, text: &[u8]) -> Option<UserNo>
-    ensures { result ≡ login talking users.now text.now }
+    ensures { result ≡ login text_protocol users.now text.now }
 {
     users.login(text)
 }
@@ -62,7 +68,7 @@ fn find_login(users: &Users, text: &[u8]) -> Option<UserNo>
 impl Session {
     /// A connection as it is opened: unbound, with nothing to read or to send.
     pub fn new(alloc: Global) -> Session
-        ensures endpoint { result.endpoint ≡ new_endpoint talking }
+        ensures endpoint { result.endpoint ≡ new_endpoint text_protocol }
         ensures out { result.out ≡ [] }
     {
         Session {
@@ -74,9 +80,11 @@ impl Session {
 
     /// Takes bytes that came; a closed connection takes none. A refusal changes nothing.
     pub fn push(&mut self, piece: &[u8]) -> Result<(), NoMemory>
-        ensures endpoint { OnOk result (self.new.endpoint ≡ with_piece talking self.old.endpoint piece.now) }
+        ensures endpoint { OnOk result (self.new.endpoint
+            ≡ with_piece text_protocol self.old.endpoint piece.now) }
         ensures out { self.new.out ≡ self.old.out }
-        ensures longer { length self.new.endpoint.reader.unread ≤ length self.old.endpoint.reader.unread + length piece.now }
+        ensures longer { length self.new.endpoint.reader.unread
+            ≤ length self.old.endpoint.reader.unread + length piece.now }
         ensures unchanged_on_err { OnErr result (self.new ≡ self.old) }
     {
         match self.stage {
@@ -89,13 +97,20 @@ impl Session {
     /// to do, at most 65,538 bytes and the limit of blocks are unread, unless it is closed. A refusal leaves
     /// the request unread.
     pub fn next(&mut self, alloc: Global, users: &Users) -> Result<Want, NoMemory>
-        ensures want { IfOk result (λ want. want_of want ≡ (turn talking users.now self.old.endpoint).want) }
-        ensures endpoint { OnOk result (self.new.endpoint ≡ (turn talking users.now self.old.endpoint).endpoint) }
-        ensures said { OnOk result (self.new.out ≡ self.old.out ++ (turn talking users.now self.old.endpoint).said) }
+        ensures want { IfOk result (λ want. want_of want
+            ≡ (turn text_protocol users.now self.old.endpoint).want) }
+        ensures endpoint { OnOk result (self.new.endpoint
+            ≡ (turn text_protocol users.now self.old.endpoint).endpoint) }
+        ensures said { OnOk result (self.new.out
+            ≡ self.old.out ++ (turn text_protocol users.now self.old.endpoint).said) }
         ensures room { OnOk result (64 ≤ self.new.room) }
-        ensures bounded { IfOk result (λ want. want_of want ≡ Nothing → KeepsAtMost self.old.endpoint.phase (length self.new.endpoint.reader.unread)) }
-        ensures open_bounded { IfOk result (λ want. want_of want ≡ Nothing → is_closed self.old.endpoint.phase ≡ false → length self.new.endpoint.reader.unread ≤ most_resting) }
-        ensures no_longer { length self.new.endpoint.reader.unread ≤ length self.old.endpoint.reader.unread }
+        ensures bounded { IfOk result (λ want. want_of want ≡ Nothing
+            → KeepsAtMost self.old.endpoint.phase (length self.new.endpoint.reader.unread)) }
+        ensures open_bounded { IfOk result (λ want. want_of want ≡ Nothing
+            → is_closed self.old.endpoint.phase ≡ false
+            → length self.new.endpoint.reader.unread ≤ most_resting) }
+        ensures no_longer { length self.new.endpoint.reader.unread
+            ≤ length self.old.endpoint.reader.unread }
         ensures endpoint_on_err { OnErr result (self.new.endpoint ≡ self.old.endpoint) }
         ensures out_on_err { OnErr result (self.new.out ≡ self.old.out) }
     {
@@ -117,10 +132,14 @@ impl Session {
     fn greet(&mut self, users: &Users, request: Option<Request>) -> Want
         requires room { 128 ≤ self.old.room }
         requires unbound { self.old.endpoint.phase ≡ Unbound }
-        ensures want { want_of result ≡ (unbound_turn talking users.now self.old.endpoint.reader (unbound_asks request)).want }
+        ensures want { want_of result ≡ (unbound_turn text_protocol users.now
+            self.old.endpoint.reader (unbound_asks request)).want }
         ensures rests { want_of result ≡ Nothing → request ≡ None }
-        ensures endpoint { self.new.endpoint ≡ (unbound_turn talking users.now self.old.endpoint.reader (unbound_asks request)).endpoint }
-        ensures said { self.new.out ≡ self.old.out ++ (unbound_turn talking users.now self.old.endpoint.reader (unbound_asks request)).said }
+        ensures endpoint { self.new.endpoint ≡ (unbound_turn text_protocol users.now
+            self.old.endpoint.reader (unbound_asks request)).endpoint }
+        ensures said { self.new.out ≡ self.old.out
+            ++ (unbound_turn text_protocol users.now self.old.endpoint.reader
+            (unbound_asks request)).said }
         ensures reader { self.new.endpoint.reader ≡ self.old.endpoint.reader }
         ensures room { 64 ≤ self.new.room }
     {
@@ -135,10 +154,14 @@ impl Session {
     fn greet_command(&mut self, users: &Users, command: &Command) -> Want
         requires room { 128 ≤ self.old.room }
         requires unbound { self.old.endpoint.phase ≡ Unbound }
-        ensures want { want_of result ≡ (unbound_turn talking users.now self.old.endpoint.reader (unbound_command command.now)).want }
+        ensures want { want_of result ≡ (unbound_turn text_protocol users.now
+            self.old.endpoint.reader (unbound_command command.now)).want }
         ensures busy { want_of result ≢ Nothing }
-        ensures endpoint { self.new.endpoint ≡ (unbound_turn talking users.now self.old.endpoint.reader (unbound_command command.now)).endpoint }
-        ensures said { self.new.out ≡ self.old.out ++ (unbound_turn talking users.now self.old.endpoint.reader (unbound_command command.now)).said }
+        ensures endpoint { self.new.endpoint ≡ (unbound_turn text_protocol users.now
+            self.old.endpoint.reader (unbound_command command.now)).endpoint }
+        ensures said { self.new.out ≡ self.old.out
+            ++ (unbound_turn text_protocol users.now self.old.endpoint.reader
+            (unbound_command command.now)).said }
         ensures reader { self.new.endpoint.reader ≡ self.old.endpoint.reader }
         ensures room { 64 ≤ self.new.room }
     {
@@ -156,10 +179,14 @@ impl Session {
     fn greet_store(&mut self, users: &Users, head: &Head, blob: &[u8]) -> Want
         requires room { 128 ≤ self.old.room }
         requires unbound { self.old.endpoint.phase ≡ Unbound }
-        ensures want { want_of result ≡ (unbound_turn talking users.now self.old.endpoint.reader (unbound_store head.now.kind head.now blob.now)).want }
+        ensures want { want_of result ≡ (unbound_turn text_protocol users.now
+            self.old.endpoint.reader (unbound_store head.now.kind head.now blob.now)).want }
         ensures busy { want_of result ≢ Nothing }
-        ensures endpoint { self.new.endpoint ≡ (unbound_turn talking users.now self.old.endpoint.reader (unbound_store head.now.kind head.now blob.now)).endpoint }
-        ensures said { self.new.out ≡ self.old.out ++ (unbound_turn talking users.now self.old.endpoint.reader (unbound_store head.now.kind head.now blob.now)).said }
+        ensures endpoint { self.new.endpoint ≡ (unbound_turn text_protocol users.now
+            self.old.endpoint.reader (unbound_store head.now.kind head.now blob.now)).endpoint }
+        ensures said { self.new.out ≡ self.old.out
+            ++ (unbound_turn text_protocol users.now self.old.endpoint.reader
+            (unbound_store head.now.kind head.now blob.now)).said }
         ensures reader { self.new.endpoint.reader ≡ self.old.endpoint.reader }
         ensures room { 64 ≤ self.new.room }
     {
@@ -174,8 +201,13 @@ impl Session {
     fn log_in(&mut self, users: &Users, quiet: bool, text: &[u8])
         requires room { 128 ≤ self.old.room }
         requires unbound { self.old.endpoint.phase ≡ Unbound }
-        ensures endpoint { self.new.endpoint ≡ (login_turn talking self.old.endpoint.reader (unless_quiet quiet (codes "STORED\r\n")) (fault_said AuthenticationFailure quiet) (login talking users.now text.now)).endpoint }
-        ensures said { self.new.out ≡ self.old.out ++ (login_turn talking self.old.endpoint.reader (unless_quiet quiet (codes "STORED\r\n")) (fault_said AuthenticationFailure quiet) (login talking users.now text.now)).said }
+        ensures endpoint { self.new.endpoint ≡ (login_turn text_protocol self.old.endpoint.reader
+            (unless_quiet quiet (codes "STORED\r\n")) (fault_said AuthenticationFailure quiet)
+            (login text_protocol users.now text.now)).endpoint }
+        ensures said { self.new.out ≡ self.old.out
+            ++ (login_turn text_protocol self.old.endpoint.reader
+            (unless_quiet quiet (codes "STORED\r\n")) (fault_said AuthenticationFailure quiet)
+            (login text_protocol users.now text.now)).said }
         ensures reader { self.new.endpoint.reader ≡ self.old.endpoint.reader }
         ensures room { 64 ≤ self.new.room }
     {
@@ -192,10 +224,13 @@ impl Session {
     fn serve(&mut self, user: UserNo, request: Option<Request>) -> Want
         requires room { 128 ≤ self.old.room }
         requires bound { self.old.endpoint.phase ≡ Bound user }
-        ensures want { want_of result ≡ (bound_turn talking user self.old.endpoint.reader (bound_wants request)).want }
+        ensures want { want_of result
+            ≡ (bound_turn text_protocol user self.old.endpoint.reader (bound_wants request)).want }
         ensures rests { want_of result ≡ Nothing → request ≡ None }
-        ensures endpoint { self.new.endpoint ≡ (bound_turn talking user self.old.endpoint.reader (bound_wants request)).endpoint }
-        ensures said { self.new.out ≡ self.old.out ++ (bound_turn talking user self.old.endpoint.reader (bound_wants request)).said }
+        ensures endpoint { self.new.endpoint ≡ (bound_turn text_protocol user
+            self.old.endpoint.reader (bound_wants request)).endpoint }
+        ensures said { self.new.out ≡ self.old.out
+            ++ (bound_turn text_protocol user self.old.endpoint.reader (bound_wants request)).said }
         ensures reader { self.new.endpoint.reader ≡ self.old.endpoint.reader }
         ensures room { 64 ≤ self.new.room }
     {
@@ -210,10 +245,14 @@ impl Session {
     fn serve_command(&mut self, user: UserNo, command: Command) -> Want
         requires room { 128 ≤ self.old.room }
         requires bound { self.old.endpoint.phase ≡ Bound user }
-        ensures want { want_of result ≡ (bound_turn talking user self.old.endpoint.reader (bound_command command)).want }
+        ensures want { want_of result ≡ (bound_turn text_protocol user self.old.endpoint.reader
+            (bound_command command)).want }
         ensures busy { want_of result ≢ Nothing }
-        ensures endpoint { self.new.endpoint ≡ (bound_turn talking user self.old.endpoint.reader (bound_command command)).endpoint }
-        ensures said { self.new.out ≡ self.old.out ++ (bound_turn talking user self.old.endpoint.reader (bound_command command)).said }
+        ensures endpoint { self.new.endpoint ≡ (bound_turn text_protocol user
+            self.old.endpoint.reader (bound_command command)).endpoint }
+        ensures said { self.new.out ≡ self.old.out
+            ++ (bound_turn text_protocol user self.old.endpoint.reader
+            (bound_command command)).said }
         ensures reader { self.new.endpoint.reader ≡ self.old.endpoint.reader }
         ensures room { 64 ≤ self.new.room }
     {
@@ -269,8 +308,10 @@ impl Session {
     pub fn answer(&mut self, command: &Command, outcome: &Outcome) -> Result<(), NoMemory>
         requires { 64 ≤ self.old.room }
         ensures endpoint { self.new.endpoint ≡ self.old.endpoint }
-        ensures reply { OnOk result (self.new.out ≡ self.old.out ++ render command.now outcome.now) }
-        ensures refused { OnErr result (self.new.out ≡ self.old.out ++ unless_quiet (is_quiet command.now) (fault_line OutOfMemory)) }
+        ensures reply { OnOk result (self.new.out
+            ≡ self.old.out ++ render command.now outcome.now) }
+        ensures refused { OnErr result (self.new.out
+            ≡ self.old.out ++ unless_quiet (is_quiet command.now) (fault_line OutOfMemory)) }
         ensures short { is_long outcome.now ≡ false → IsOk result }
     {
         write_reply(&mut self.out, command, outcome)
@@ -280,7 +321,8 @@ impl Session {
     pub fn refuse(&mut self, command: &Command)
         requires { 64 ≤ self.old.room }
         ensures endpoint { self.new.endpoint ≡ self.old.endpoint }
-        ensures refused { self.new.out ≡ self.old.out ++ unless_quiet (is_quiet command.now) (fault_line OutOfMemory) }
+        ensures refused { self.new.out
+            ≡ self.old.out ++ unless_quiet (is_quiet command.now) (fault_line OutOfMemory) }
     {
         write_refusal(&mut self.out, command);
     }
@@ -316,7 +358,7 @@ impl Session {
 
     /// Ends the connection.
     pub fn shut(&mut self)
-        ensures endpoint { self.new.endpoint ≡ shut_endpoint talking self.old.endpoint }
+        ensures endpoint { self.new.endpoint ≡ shut_endpoint text_protocol self.old.endpoint }
         ensures out { self.new.out ≡ self.old.out }
     {
         let _ = self.close();
@@ -325,7 +367,7 @@ impl Session {
     /// Ends the connection, which is to be closed once its output is sent.
     fn close(&mut self) -> Want
         ensures want { want_of result ≡ Close }
-        ensures endpoint { self.new.endpoint ≡ shut_endpoint talking self.old.endpoint }
+        ensures endpoint { self.new.endpoint ≡ shut_endpoint text_protocol self.old.endpoint }
         ensures out { self.new.out ≡ self.old.out }
         ensures reader { self.new.endpoint.reader ≡ self.old.endpoint.reader }
         ensures room { self.new.room ≡ self.old.room }

@@ -1,6 +1,7 @@
 -- The least power of two that is at least a number, by its leading zeros.
 use Rattle.std.specs.Prelude.{nat_le}
-use Rattle.std.proofs.Common.{◌≡◌, ℕ, zero, suc, ◌+◌, ◌-◌, ◌*◌, ◌/◌, ◌^◌, ◌<◌, ◌≤◌, Bool, true, false, cond, refl, inl, inr, arith}
+use Rattle.std.proofs.Common.{◌≡◌, ℕ, zero, suc, ◌+◌, ◌-◌, ◌*◌, ◌/◌, ◌^◌, ◌<◌, ◌≤◌, Bool, true, false, cond, refl, inl, inr}
+use Rattle.std.proofs.Common.{arith}
 use Rattle.std.proofs.Math.Nat.{pow-le-pow_right, pow-suc}
 use Rattle.std.proofs.lemmas.Bool.{cases_eq, cases_lt}
 use Rattle.std.proofs.lemmas.Bool.Decides.{nat_tests}
@@ -13,9 +14,13 @@ first_power_is : (tries b n m : ℕ) → b ≤ m → m ≤ b + tries → n ≤ 2
 first_power_is zero b n m h k e l = omega arith
 first_power_is (suc tries) b n m h k e l = go (nat_le n (2 ^ b)) refl (λ f. first_power_is tries (suc b) n m f (omega arith) e l)
   where
-    go : (t : Bool) → nat_le n (2 ^ b) ≡ t → (b < m → first_power tries (suc b) n ≡ m) → cond t b (first_power tries (suc b) n) ≡ m
-    go true t next = elim (cases_eq b m) [ inl f ↦ f | inr f ↦ absurd (let s : 2 ^ b < n = l b (omega arith) in grind (arith, nat_tests)) ]
-    go false t next = next (elim (cases_eq b m) [ inl f ↦ absurd (let s : n ≤ 2 ^ b = rw f e in grind (arith, nat_tests)) | inr f ↦ omega arith ])
+    go : (t : Bool) → nat_le n (2 ^ b) ≡ t → (b < m → first_power tries (suc b) n ≡ m)
+        → cond t b (first_power tries (suc b) n) ≡ m
+    go true t next =
+        elim (cases_eq b m) [ inl f ↦ f | inr f ↦ absurd (let s : 2 ^ b < n = l b (omega arith) in grind (arith, nat_tests)) ]
+    go false t next =
+        next (elim (cases_eq b m)
+        [ inl f ↦ absurd (let s : n ≤ 2 ^ b = rw f e in grind (arith, nat_tests)) | inr f ↦ omega arith ])
 
 -- where m is as large as it needs to be
 pub record IsLeast (n m : ℕ) : Type 0 where
@@ -27,7 +32,8 @@ half_below a p h = omega arith
 
 -- a power below the m-th is too small
 too_small : (a m b : ℕ) → 2 ^ m ≤ 2 * a + 1 → b < m → 2 ^ b ≤ a
-too_small a m b h l = half_below a (2 ^ b) (omega (arith, pow-suc 2 b, pow-le-pow_right {n = 2} (omega arith) {i = suc b} {j = m} l))
+too_small a m b h l =
+    half_below a (2 ^ b) (omega (arith, pow-suc 2 b, pow-le-pow_right {n = 2} (omega arith) {i = suc b} {j = m} l))
 
 needed_from : (n a m : ℕ) → n ≡ a + 1 → 2 ^ m ≤ 2 * a + 1 → (b : ℕ) → n ≤ 2 ^ b → m ≤ b
 needed_from n a m e g b f = elim (cases_lt b m) [ inl l ↦ absurd (omega (arith, too_small a m b g l)) | inr l ↦ l ]
@@ -61,7 +67,15 @@ width_of_is budget m h s = first_power_is 64 0 (budget / 256) m (omega arith) h 
     below j l = elim (cases_lt (2 ^ j) (budget / 256)) [ inl f ↦ f | inr f ↦ absurd (omega (arith, s.needed j f)) ]
 
 pub least-at_least_8 : (budget m : ℕ) → IsLeast (budget / 256) m → 65536 ≤ budget → 8 ≤ m
-least-at_least_8 budget m s h = elim (cases_lt m 8) [ inl l ↦ absurd (omega (arith, s.enough, pow-le-pow_right {n = 2} (omega arith) {i = m} {j = 7} (omega arith))) | inr l ↦ l ]
+least-at_least_8 budget m s h =
+    elim (cases_lt m 8) [
+      | inl l ↦ absurd (omega (
+        arith,
+        s.enough,
+        pow-le-pow_right {n = 2} (omega arith) {i = m} {j = 7} (omega arith),
+      ))
+      | inr l ↦ l
+    ]
 
 pub least-at_most_22 : (budget m : ℕ) → IsLeast (budget / 256) m → budget ≤ 2 ^ 30 → m ≤ 22
 least-at_most_22 budget m s h = s.needed 22 (omega arith)

@@ -1,3 +1,3 @@
 pub mod Sketch
 pub mod Lanes
-pub mod Counting
+pub mod CountingLaw

@@ -1,5 +1,7 @@
--- How often each key was seen of late: a count-min sketch that ages (the TinyLFU paper, Einziger, Friedman and Manes, 2017; hashes by FNV-1a, the page of Fowler, Noll and Vo).
-use Rattle.std.specs.Prelude.{ℕ, zero, suc, ◌+◌, ◌-◌, ◌*◌, ◌/◌, ◌%◌, ◌^◌, min, if◌then◌else◌, List, map, fold, replicate, slice_index, slice_set, bit_xor, nat_lt, nat_le, ◌==◌}
+-- How often each key was seen of late: a count-min sketch that ages (the TinyLFU paper, Einziger,
+-- Friedman and Manes, 2017; hashes by FNV-1a, the page of Fowler, Noll and Vo).
+use Rattle.std.specs.Prelude.{ℕ, zero, suc, ◌+◌, ◌-◌, ◌*◌, ◌/◌, ◌%◌, ◌^◌, min, if◌then◌else◌, List, map, fold, replicate}
+use Rattle.std.specs.Prelude.{slice_index, slice_set, bit_xor, nat_lt, nat_le, ◌==◌}
 
 -- four rows of 2^width counters from 0 to 15, and the number of records, which is halved with them
 pub record Sketch : Type 0 where

@@ -2,7 +2,7 @@
 //!
 //! The definition, four lists of numbers and a count, is `specs/Sketch.antt`; contracts see a
 //! `Sketch` as that, and never the words that it is packed in. `Sketch::record` also carries the
-//! counting law of `specs/Counting.antt`. Nothing is said of how good an estimate it makes.
+//! counting law of `specs/CountingLaw.antt`. Nothing is said of how good an estimate it makes.
 #![tactic(auto)]
 
 mod fnv;

@@ -2,7 +2,7 @@
 
 ghost use Rattle.std.specs.Prelude.{◌≡◌, ◌+◌, ◌*◌, ◌^◌, ◌<◌, ◌≤◌, IfOk, replicate};
 ghost use Rattle.tc_sketch.specs.Sketch.{empty_sketch, place_of, recorded, aged, freq};
-ghost use Rattle.tc_sketch.specs.Counting.{IsSketch, CountsRecords};
+ghost use Rattle.tc_sketch.specs.CountingLaw.{IsSketch, CountsRecords};
 
 use crate::row::Row;
 use std::alloc::Global;
@@ -36,7 +36,7 @@ pub struct Sketch {
 impl Model for Sketch {
     ghost use Rattle.std.specs.Prelude.{◌*◌, ◌^◌, ◌<◌, ◌≤◌};
     ghost use Rattle.tc_sketch.specs.Sketch.{Sketch};
-    ghost use Rattle.tc_sketch.specs.Counting.{IsSketch};
+    ghost use Rattle.tc_sketch.specs.CountingLaw.{IsSketch};
 
     ghost Value = { Sketch };
 

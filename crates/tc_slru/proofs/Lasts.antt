@@ -28,12 +28,14 @@ held_in slot Protected a h = or_true (is_in (is_slot slot) a.window) _ (or_true 
 pub last_held : (p : Placed) (area : Area) (a : Areas Placed) → IsLast p area a → holds p.slot a ≡ true
 last_held p area a l = held_in p.slot area a (ap (λ ps. is_in (is_slot p.slot) ps) l.list ∙ in-push p.slot l.others p refl)
 
-with_total : (p : Placed) (area : Area) (a : Areas Placed) (others : List Placed) → list_in area a ≡ others ++ p ∷ [] → total weigh (with_list area others a) + p.weight ≡ total weigh a
+with_total : (p : Placed) (area : Area) (a : Areas Placed) (others : List Placed) → list_in area a ≡ others ++ p ∷ []
+    → total weigh (with_list area others a) + p.weight ≡ total weigh a
 with_total p Window a others e = omega (arith, ap (λ ps. sum_by weigh ps) e, sum_by_push weigh others p)
 with_total p Probation a others e = omega (arith, ap (λ ps. sum_by weigh ps) e, sum_by_push weigh others p)
 with_total p Protected a others e = omega (arith, ap (λ ps. sum_by weigh ps) e, sum_by_push weigh others p)
 
-pub last_total : (p : Placed) (area : Area) (a : Areas Placed) → IsLast p area a → total weigh (without_slot p.slot a) + p.weight ≡ total weigh a
+pub last_total : (p : Placed) (area : Area) (a : Areas Placed) → IsLast p area a
+    → total weigh (without_slot p.slot a) + p.weight ≡ total weigh a
 last_total p area a l = omega (arith, ap (λ z. total weigh z) l.left, with_total p area a l.others l.list)
 
 pub some_weigh : (ps : List Placed) → 0 < sum_by weigh ps → 0 < length ps

@@ -1,6 +1,7 @@
 -- More room changes no list; and no lists, with the room that there was.
 use Rattle.std.specs.Prelude.{Option, None, replicate, map, max, sum_by, if◌then◌else◌}
-use Rattle.std.proofs.Common.{◌≡◌, ℕ, zero, suc, ◌+◌, ◌-◌, ◌<◌, ◌≤◌, Bool, true, false, List, [], ◌∷◌, ◌++◌, length, refl, sym, ◌∙◌, ap, subst, arith, length-append}
+use Rattle.std.proofs.Common.{◌≡◌, ℕ, zero, suc, ◌+◌, ◌-◌, ◌<◌, ◌≤◌, Bool, true, false, List, [], ◌∷◌, ◌++◌, length, refl, sym}
+use Rattle.std.proofs.Common.{◌∙◌, ap, subst, arith, length-append}
 use Rattle.tc_model.specs.Areas.{Areas}
 use Rattle.tc_model.specs.Ring.{AreBelow}
 use Rattle.tc_model.proofs.Chained.{ring_grown, index-grown}
@@ -29,7 +30,8 @@ area_at-grown [] gs n h = absurd (omega arith)
 area_at-grown (x ∷ xs) gs zero h = refl
 area_at-grown (x ∷ xs) gs (suc n) h = area_at-grown xs gs n (omega arith)
 
-at-grown : (area : Area) (hs gs : List (Option Area)) (xs : List ℕ) → AreBelow (length hs) xs → AreAt area hs xs → AreAt area (hs ++ gs) xs
+at-grown : (area : Area) (hs gs : List (Option Area)) (xs : List ℕ) → AreBelow (length hs) xs → AreAt area hs xs
+    → AreAt area (hs ++ gs) xs
 at-grown area hs gs [] b k = tt
 at-grown area hs gs (x ∷ xs) b k = (k.0, area_at-grown hs gs x b.0 ∙ k.1, at-grown area hs gs xs b.1 k.2)
 
@@ -37,7 +39,8 @@ placed-grown : (ws zs xs : List ℕ) → AreBelow (length ws) xs → map (placed
 placed-grown ws zs [] b = refl
 placed-grown ws zs (x ∷ xs) b = rw (index-grown ws zs x b.0, placed-grown ws zs xs b.1) refl
 
-kept-grown : (area : Area) (ws zs : List ℕ) (hs gs : List (Option Area)) (size : Size) (xs : List ℕ) → AreBelow (length ws) xs → AreBelow (length hs) xs → AreKept area ws hs size xs → AreKept area (ws ++ zs) (hs ++ gs) size xs
+kept-grown : (area : Area) (ws zs : List ℕ) (hs gs : List (Option Area)) (size : Size) (xs : List ℕ) → AreBelow (length ws) xs
+    → AreBelow (length hs) xs → AreKept area ws hs size xs → AreKept area (ws ++ zs) (hs ++ gs) size xs
 kept-grown area ws zs hs gs size xs b d k = record {
   count = k.count;
   weight = k.weight ∙ sym (ap (λ (ps : List Placed). sum_by weigh ps) (placed-grown ws zs xs b));
@@ -48,16 +51,28 @@ nodes_grown : (n : ℕ) (l : Links) (s : Sizes) (a : Areas ℕ) → AreNodes l s
 nodes_grown n l s a k =
     let zs : List ℕ = replicate (n - length l.next) 0 in
     let gs : List (Option Area) = replicate (n - length l.next) None in
-    let low : (area : Area) → AreBelow (length l.weights) (list_in area a) = λ area. subst (λ m. AreBelow m (list_in area a)) (sym k.weights_long) (standing l s a k area).below in
-    let lower : (area : Area) → AreBelow (length l.areas) (list_in area a) = λ area. subst (λ m. AreBelow m (list_in area a)) (sym k.areas_long) (standing l s a k area).below in
+    let low : (area : Area) → AreBelow (length l.weights) (list_in area a) =
+    λ area. subst (λ m. AreBelow m (list_in area a)) (sym k.weights_long) (standing l s a k area).below in
+    let lower : (area : Area) → AreBelow (length l.areas) (list_in area a) =
+    λ area. subst (λ m. AreBelow m (list_in area a)) (sym k.areas_long) (standing l s a k area).below in
     record {
       ring = ring_grown l.next l.prev zs zs 0 (a.window ++ (1 ∷ (a.probation ++ (2 ∷ (a.protected ++ []))))) refl k.ring;
       window = kept-grown Window l.weights zs l.areas gs s.window a.window (low Window) (lower Window) k.window;
-      probation = kept-grown Probation l.weights zs l.areas gs s.probation a.probation (low Probation) (lower Probation) k.probation;
-      protected = kept-grown Protected l.weights zs l.areas gs s.protected a.protected (low Protected) (lower Protected) k.protected;
+      probation =
+          kept-grown Probation l.weights zs l.areas gs s.probation a.probation (low Probation) (lower Probation) k.probation;
+      protected =
+          kept-grown Protected l.weights zs l.areas gs s.protected a.protected (low Protected) (lower Protected) k.protected;
       weights_long = omega (arith, length-append l.weights zs, length-append l.next zs, k.weights_long);
       free = λ m big h. free_grown l.areas (n - length l.next) m (k.free m big h);
-      areas_long = omega (arith, length-grown l.areas gs, length-append l.next zs, k.areas_long, length-replicate_own {A = Option Area} (n - length l.next) None, length-replicate_own {A = ℕ} (n - length l.next) 0);
+      areas_long =
+          omega (
+            arith,
+            length-grown l.areas gs,
+            length-append l.next zs,
+            k.areas_long,
+            length-replicate_own {A = Option Area} (n - length l.next) None,
+            length-replicate_own {A = ℕ} (n - length l.next) 0,
+          );
     }
 
 -- the kept lists and the shown ones
@@ -65,19 +80,24 @@ pub record IsReserved (slots : ℕ) (l : Links) (s : Sizes) (m : Links) : Type 0
   pub nodes : AreNodes m s (nodes_by m.next s)
   pub shows : shown_by m s ≡ record (shown_by l s) { slots = max (shown_by l s).slots slots }
 
-pub reserved_by : (slots : ℕ) (l : Links) (s : Sizes) (m : Links) → m ≡ grown (slots + 3) l → AreNodes l s (nodes_by l.next s) → IsReserved slots l s m
+pub reserved_by : (slots : ℕ) (l : Links) (s : Sizes) (m : Links) → m ≡ grown (slots + 3) l → AreNodes l s (nodes_by l.next s)
+    → IsReserved slots l s m
 reserved_by slots l s m e k =
     let a : Areas ℕ = nodes_by l.next s in
     let g : Links = grown (slots + 3) l in
     let zs : List ℕ = replicate (slots + 3 - length l.next) 0 in
     let done : AreNodes g s a = nodes_grown (slots + 3) l s a k in
     let again : nodes_by g.next s ≡ a = nodes_again g s a done in
-    let long : length g.next - 3 ≡ max (length l.next - 3) slots = omega (arith, length-append l.next zs, length-replicate_own {A = ℕ} (slots + 3 - length l.next) 0) in
+    let long : length g.next - 3 ≡ max (length l.next - 3) slots =
+    omega (arith, length-append l.next zs, length-replicate_own {A = ℕ} (slots + 3 - length l.next) 0) in
     let kept : (area : Area) → map (placed_of g.weights) (list_in area a) ≡ map (placed_of l.weights) (list_in area a)
-    = λ area. placed-grown l.weights zs (list_in area a) (subst (λ m. AreBelow m (list_in area a)) (sym k.weights_long) (standing l s a k area).below) in
+    = λ area. placed-grown l.weights zs (list_in area a)
+    (subst (λ m. AreBelow m (list_in area a)) (sym k.weights_long) (standing l s a k area).below) in
     let same : IsReserved slots l s g = record {
       nodes = subst (λ z. AreNodes g s z) (sym again) done;
-      shows = same_shown _ _ _ _ long (ap (λ z. placed_areas g.weights z) again ∙ same_areas _ _ _ _ _ _ (kept Window) (kept Probation) (kept Protected));
+      shows =
+          same_shown _ _ _ _ long
+          (ap (λ z. placed_areas g.weights z) again ∙ same_areas _ _ _ _ _ _ (kept Window) (kept Probation) (kept Protected));
     } in
     subst (λ (x : Links). IsReserved slots l s x) (sym e) same
 
@@ -85,7 +105,8 @@ reserved_by slots l s m e k =
 abbrev pub roomier : Bool → ℕ → Shown → Shown
 roomier b slots v = if b then (record v { slots = max v.slots slots }) else v
 
-pub reserved_if : (b : Bool) (slots : ℕ) (l : Links) (s : Sizes) (v : Shown) (m : Links) → m ≡ (if b then (grown (slots + 3) l) else l) → shown_by l s ≡ v → AreNodes l s (nodes_by l.next s)
+pub reserved_if : (b : Bool) (slots : ℕ) (l : Links) (s : Sizes) (v : Shown) (m : Links)
+    → m ≡ (if b then (grown (slots + 3) l) else l) → shown_by l s ≡ v → AreNodes l s (nodes_by l.next s)
     → AreNodes m s (nodes_by m.next s) × (shown_by m s ≡ roomier b slots v)
 reserved_if true slots l s v m e w k =
     let r : IsReserved slots l s m = reserved_by slots l s m e k in
@@ -128,6 +149,7 @@ pub cleared_by : (all : ℕ) (m : Links) → 3 ≤ all → m ≡ grown all marks
     → AreNodes m no_sizes (nodes_by m.next no_sizes) × (shown_by m no_sizes ≡ record { slots = all - 3; areas = no_areas })
 cleared_by all m h e =
     let same : all ≡ all - 3 + 3 = omega arith in
-    let r : IsReserved (all - 3) marks_alone no_sizes m = reserved_by (all - 3) marks_alone no_sizes m (e ∙ ap (λ n. grown n marks_alone) same) nodes_alone in
+    let r : IsReserved (all - 3) marks_alone no_sizes m =
+    reserved_by (all - 3) marks_alone no_sizes m (e ∙ ap (λ n. grown n marks_alone) same) nodes_alone in
     let room : max (3 - 3) (all - 3) ≡ all - 3 = omega arith in
     (r.nodes, r.shows ∙ same_shown _ _ _ _ room refl)

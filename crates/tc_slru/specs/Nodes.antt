@@ -6,7 +6,12 @@ use Rattle.tc_slru.specs.declared.nodes.Nodes.TheInside.{Inside}
 
 -- the links of these nodes
 abbrev pub links : List Node → Links
-links ns = record { next = map (λ n. n.next) ns; prev = map (λ n. n.prev) ns; weights = map (λ n. n.weight) ns; areas = map (λ n. n.area) ns }
+links ns = record {
+  next = map (λ n. n.next) ns;
+  prev = map (λ n. n.prev) ns;
+  weights = map (λ n. n.weight) ns;
+  areas = map (λ n. n.area) ns;
+}
 
 -- the marks come first
 abbrev pub links_of : Inside → Links

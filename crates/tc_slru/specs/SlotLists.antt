@@ -41,7 +41,11 @@ accessed_at slot weight l = record l { areas = accessed weigh l.limits (is_slot 
 
 -- what the areas weigh
 abbrev pub weights_of : Areas Placed → Weights
-weights_of a = record { window = sum_by weigh a.window; probation = sum_by weigh a.probation; protected = sum_by weigh a.protected }
+weights_of a = record {
+  window = sum_by weigh a.window;
+  probation = sum_by weigh a.probation;
+  protected = sum_by weigh a.protected;
+}
 
 -- what settle makes of the lists, where each slot was seen so often
 abbrev pub settled : (ℕ → ℕ) → SlotLists → Settled Placed
@@ -50,7 +54,8 @@ settled seen l = settle weigh (λ p. seen p.slot) l.limits l.areas
 -- settle dropped this slot, and goes on from the lists after; or none, and the lists after are settled
 abbrev pub DropsNext : Option Slot → (ℕ → ℕ) → SlotLists → SlotLists → Type 0
 DropsNext None seen before after = settled seen before ≡ record { areas = after.areas; dropped = [] }
-DropsNext (Some slot) seen before after = (weight : ℕ) × (settled seen before ≡ and_then (placed slot.0 weight ∷ []) (settled seen after))
+DropsNext (Some slot) seen before after =
+    (weight : ℕ) × (settled seen before ≡ and_then (placed slot.0 weight ∷ []) (settled seen after))
 
 -- no slot of this list weighs more
 abbrev pub AreLight : ℕ → List Placed → Type 0

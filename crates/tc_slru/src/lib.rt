@@ -1,14 +1,16 @@
 //! The lists of one partition's items, by slot: window, probation and protected under access and settle.
 //!
-//! `Lists` meets the areas of `tc_model/specs/Areas.antt`, of slots: `access` is `accessed`, and `settle_step`, called
-//! until it gives nothing, is `settle`. Callers see limits, reserved slots and three lists of slots with their weights,
-//! front to back (`specs/SlotLists.antt`); the contracts are the equations of that file. Every call but `reserve` takes
-//! no memory and, settle's victims and protected's demotions apart, a fixed number of steps.
+//! `Lists` meets the areas of `tc_model/specs/Areas.antt`, of slots: `access` is `accessed`, and
+//! `settle_step`, called until it gives nothing, is `settle`. Callers see limits, reserved slots
+//! and three lists of slots with their weights, front to back (`specs/SlotLists.antt`); the
+//! contracts are the equations of that file. Every call but `reserve` takes no memory and, settle's
+//! victims and protected's demotions apart, a fixed number of steps.
 //!
-//! How many steps a settle can take: each demotion, entry and drop is a fixed number. A candidate is compared with its
-//! k victims in one walk from main's tail, which ends at the first that was seen as often. Where they all stand in
-//! probation it then enters at once, and they go as what main is too heavy by: k comparisons. Where they reach into
-//! protected it waits, and each call walks those that are left: at most k * (k + 1) / 2.
+//! How many steps a settle can take: each demotion, entry and drop is a fixed number. A candidate
+//! is compared with its k victims in one walk from main's tail, which ends at the first that was
+//! seen as often. Where they all stand in probation it then enters at once, and they go as what
+//! main is too heavy by: k comparisons. Where they reach into protected it waits, and each call
+//! walks those that are left: at most k * (k + 1) / 2.
 //!
 //! Nothing is said of how often a closure is asked, nor of a closure that answers two ways for one slot.
 #![tactic(auto)]

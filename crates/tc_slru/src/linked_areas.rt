@@ -11,7 +11,8 @@
 //!    weigh; each of them is a slot's, and this list is noted at it.
 //! 3. `free`: at the node of every other slot no list is noted.
 //! 4. `weights_long`, `areas_long`: each node has a place for its weight and its list.
-ghost use Rattle.std.specs.Prelude.{◌≡◌, ℕ, reverse, ◌+◌, ◌-◌, ◌<◌, ◌≤◌, ◌^◌, true, false, length, max, slice_index, is_ok, IfOk, map, OnErr, sum_by, if◌then◌else◌};
+ghost use Rattle.std.specs.Prelude.{◌≡◌, ℕ, reverse, ◌+◌, ◌-◌, ◌<◌, ◌≤◌, ◌^◌, true, false, length, max, slice_index, is_ok, IfOk};
+ghost use Rattle.std.specs.Prelude.{map, OnErr, sum_by, if◌then◌else◌};
 ghost use Rattle.tc_model.specs.Areas.{total};
 ghost use Rattle.tc_model.specs.Ring.{HasPlace};
 ghost use Rattle.tc_slru.specs.Links.{unlinked, linked_behind};
@@ -207,8 +208,8 @@ impl LinkedAreas {
         }
     }
 
-    /// What is left of a need once the last of a list are counted, as few as there must be; `None` where one of them
-    /// was not seen less often than `level`.
+    /// What is left of a need once the last of a list are counted, as few as there must be; `None`
+    /// where one of them was not seen less often than `level`.
     pub fn shortfall<F>(&self, area: Area, freq: &F, level: u8, mut need: u64) -> Option<u64>
     where
         F: Fn(Slot) -> u8,

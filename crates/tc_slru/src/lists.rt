@@ -41,8 +41,8 @@ impl Model for Lists {
 }
 
 impl Lists {
-    /// Empty lists with room for no slot: the window may weigh `window`, probation and protected together `main`, and
-    /// protected alone `protected`. Takes no memory.
+    /// Empty lists with room for no slot: the window may weigh `window`, probation and protected
+    /// together `main`, and protected alone `protected`. Takes no memory.
     pub fn new(alloc: Global, window: u64, main: u64, protected: u64) -> Lists
         ensures { result ≡ fresh window main protected }
     {
@@ -131,8 +131,8 @@ impl Lists {
         let _area = self.areas.take(slot);
     }
 
-    /// An access: the slot weighs `weight` from now on, and goes to the front of its list, from probation to the front of
-    /// protected, which is then held to its limit.
+    /// An access: the slot weighs `weight` from now on, and goes to the front of its list, from
+    /// probation to the front of protected, which is then held to its limit.
     pub fn access(&mut self, slot: Slot, weight: u64)
         requires held { holds slot.0 self.old.areas ≡ true }
         requires light { weight ≤ self.old.limits.main }
@@ -144,8 +144,8 @@ impl Lists {
         hold_protected(&mut self.areas, self.limits.protected);
     }
 
-    /// The next slot that settle drops, dropped, or `None` where nothing is left to drop. `freq` gives how often a slot
-    /// was seen.
+    /// The next slot that settle drops, dropped, or `None` where nothing is left to drop. `freq`
+    /// gives how often a slot was seen.
     pub fn settle_step<F: Fn(Slot) -> u8>(&mut self, freq: F) -> Option<Slot>
         requires { F.IsAlwaysCallable freq }
         ensures kept { self.new ≡ record self.old { areas = self.new.areas } }

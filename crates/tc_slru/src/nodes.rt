@@ -1,6 +1,7 @@
 //! The nodes of the ring, by number. The first three are the marks before window, probation and
 //! protected; slot n is node n + 3.
-ghost use Rattle.std.specs.Prelude.{◌≡◌, ◌+◌, ◌<◌, ◌≤◌, ◌^◌, length, Some, None, slice_index, slice_set, is_ok, OnErr, if◌then◌else◌};
+ghost use Rattle.std.specs.Prelude.{◌≡◌, ◌+◌, ◌<◌, ◌≤◌, ◌^◌, length, Some, None, slice_index, slice_set, is_ok, OnErr};
+ghost use Rattle.std.specs.Prelude.{if◌then◌else◌};
 ghost use Rattle.tc_slru.specs.Links.{area_at, marks_alone, grown, noted, freed};
 
 use crate::area::Area;

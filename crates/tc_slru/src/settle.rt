@@ -57,7 +57,8 @@ fn drop_last(areas: &mut LinkedAreas) -> Slot
     last.slot
 }
 
-/// Whether all victims were seen less often than `level`: the shortest run from main's tail that weighs `need`.
+/// Whether all victims were seen less often than `level`: the shortest run from main's tail that
+/// weighs `need`.
 fn outranks<F: Fn(Slot) -> u8>(areas: &LinkedAreas, freq: &F, level: u8, need: u64) -> bool
     requires { F.IsAlwaysCallable freq.now }
     ensures { (seen : ℕ → ℕ) → Counts (F.post freq.now) seen

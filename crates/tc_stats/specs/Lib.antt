@@ -1,4 +1,4 @@
 pub mod HitLists
-pub mod Counting
+pub mod UserCounters
 pub mod StatsRows
 pub mod Sameness

@@ -1,6 +1,7 @@
 //! How commands and what they come to raise a user's counters.
 ghost use Rattle.std.specs.Prelude.{◌≡◌};
-ghost use Rattle.tc_stats.specs.Counting.{no_counts, more, noted_store, noted_cas, noted_by_kind, hit_count, noted_get, noted_touch, noted_touched, noted_delete, noted_count, noted};
+ghost use Rattle.tc_stats.specs.UserCounters.{no_counts, more, noted_store, noted_cas, noted_by_kind, hit_count, noted_get};
+ghost use Rattle.tc_stats.specs.UserCounters.{noted_touch, noted_touched, noted_delete, noted_count, noted};
 
 use crate::{Counters, Outcome};
 use tc_grammar::{Command, StoreKind, Way};

@@ -1,5 +1,6 @@
 //! A user's counters as the rows of `stats`.
-ghost use Rattle.std.specs.Prelude.{◌≡◌, ◌+◌, ◌*◌, ◌<◌, ◌≤◌, ◌++◌, IsTrue, nat_le, decimal, map, length, vec_len, vec_capacity, OnOk, OnErr};
+ghost use Rattle.std.specs.Prelude.{◌≡◌, ◌+◌, ◌*◌, ◌<◌, ◌≤◌, ◌++◌, IsTrue, nat_le, decimal, map, length, vec_len, vec_capacity};
+ghost use Rattle.std.specs.Prelude.{OnOk, OnErr};
 ghost use Rattle.std.specs.List.{flat_map, list_all};
 ghost use Rattle.tc_stats.specs.StatsRows.{named_numbers, row_of, stats_rows};
 

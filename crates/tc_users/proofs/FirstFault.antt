@@ -2,7 +2,8 @@
 use Rattle.std.specs.Prelude.{nat_le, ◌&&◌, ◌^◌}
 use Rattle.std.specs.Option.{option_or}
 use Rattle.std.specs.List.{All}
-use Rattle.std.proofs.Common.{◌≡◌, ℕ, zero, suc, ◌+◌, ◌<◌, ◌≤◌, Bool, true, false, cond, List, [], ◌∷◌, ◌++◌, length, get_or, slice_get, take, drop, Option, Some, None, IfSome, refl, ◌∙◌, ap, arith}
+use Rattle.std.proofs.Common.{◌≡◌, ℕ, zero, suc, ◌+◌, ◌<◌, ◌≤◌, Bool, true, false, cond, List, [], ◌∷◌, ◌++◌, length, get_or}
+use Rattle.std.proofs.Common.{slice_get, take, drop, Option, Some, None, IfSome, refl, ◌∙◌, ap, arith}
 use Rattle.std.proofs.lemmas.Bool.Decides.{nat_tests}
 use Rattle.std.proofs.lemmas.List.{take_more, drop_more}
 use Rattle.tc_users.specs.declared.users.UserSpec.{UserSpec}
@@ -12,12 +13,14 @@ use Rattle.tc_users.specs.Faults.{row_fault, user_fault, fault_after, first_faul
 
 -- the first fault from a row on is that row's, or that of the rows behind it
 pub fault_after-row : (rows : List UserSpec) (i : ℕ) (d : UserSpec) → i < length rows
-    → fault_after (take i rows) (drop i rows) ≡ option_or (user_fault (take i rows) (get_or rows i d)) (fault_after (take (i + 1) rows) (drop (i + 1) rows))
+    → fault_after (take i rows) (drop i rows)
+    ≡ option_or (user_fault (take i rows) (get_or rows i d)) (fault_after (take (i + 1) rows) (drop (i + 1) rows))
 fault_after-row rows i d h = rw (take_more rows i d h, drop_more rows i d h)
 
 -- a loop that comes to a row with a fault
 pub fault_after-found : (rows : List UserSpec) (i : ℕ) (d : UserSpec) (fault : SettingsFault) → i < length rows
-    → fault_after [] rows ≡ fault_after (take i rows) (drop i rows) → user_fault (take i rows) (get_or rows i d) ≡ Some fault → fault_after [] rows ≡ Some fault
+    → fault_after [] rows ≡ fault_after (take i rows) (drop i rows) → user_fault (take i rows) (get_or rows i d) ≡ Some fault
+    → fault_after [] rows ≡ Some fault
 fault_after-found rows i d fault h e at =
     e ∙ fault_after-row rows i d h ∙ ap (λ o. option_or o (fault_after (take (i + 1) rows) (drop (i + 1) rows))) at
 
@@ -77,5 +80,6 @@ All-IsSoundRow-from_first_fault rows e = All-IsSoundRow-from_fault_after [] rows
 -- a table without a fault is numbered by 32 bits
 pub length-from_first_fault : (rows : List UserSpec) → first_fault rows ≡ None → length rows < 2 ^ 32
 length-from_first_fault rows e =
-    let few : nat_le (2 ^ 32) (length rows) ≡ false = (cond-none_else (nat_le (2 ^ 32) (length rows)) (TooManyUsers (length rows)) (fault_after [] rows) e).0 in
+    let few : nat_le (2 ^ 32) (length rows) ≡ false =
+    (cond-none_else (nat_le (2 ^ 32) (length rows)) (TooManyUsers (length rows)) (fault_after [] rows) e).0 in
     grind (arith, nat_tests)

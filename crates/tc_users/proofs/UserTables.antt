@@ -2,7 +2,8 @@
 use Rattle.std.specs.Prelude.{nat_abs, not, nat_le, ◌&&◌, ◌==◌, ◌^◌, if◌then◌else◌, is_some}
 use Rattle.std.specs.List.{list_all}
 use Rattle.std.specs.Option.{option_or}
-use Rattle.std.proofs.Common.{◌≡◌, ℕ, ℤ, pos, negsuc, ◌+◌, ◌<◌, Bool, List, [], ◌∷◌, ◌++◌, length, map, get_or, drop, Option, Some, None, refl, sym, ◌∙◌, ap, arith, append_assoc, append-nil, inl, inr}
+use Rattle.std.proofs.Common.{◌≡◌, ℕ, ℤ, pos, negsuc, ◌+◌, ◌<◌, Bool, List, [], ◌∷◌, ◌++◌, length, map, get_or, drop, Option}
+use Rattle.std.proofs.Common.{Some, None, refl, sym, ◌∙◌, ap, arith, append_assoc, append-nil, inl, inr}
 use Rattle.std.proofs.lemmas.List.{drop_more, length-map}
 use Rattle.toml.specs.Data.{Data, string, integer, float, boolean, datetime, array, table, Items, no_members, as_array, as_table}
 use Rattle.toml.specs.Errors.{IsBlank}
@@ -12,33 +13,41 @@ use Rattle.toml.specs.declared.value.Value.{Value}
 use Rattle.tc_users.specs.declared.settings_fault.SettingsFault.{SettingsFault}
 use Rattle.tc_users.specs.declared.settings_fault.Field.TheVariants.{Users, Name, Token, Budget, SecondToken, Largest}
 use Rattle.tc_users.specs.declared.settings_fault.Found.TheVariants.{Array}
-use Rattle.tc_users.specs.declared.settings_fault.SettingsFault.TheVariants.{Missing, BudgetRange, NoUser, NoMemory, LargestRange, TooManyUsers}
+use Rattle.tc_users.specs.declared.settings_fault.SettingsFault.TheVariants.{Missing, BudgetRange, NoUser, NoMemory, LargestRange}
+use Rattle.tc_users.specs.declared.settings_fault.SettingsFault.TheVariants.{TooManyUsers}
 use Rattle.tc_users.specs.declared.users.UserSpec.{UserSpec}
 use Rattle.tc_users.specs.Faults.{first_of, range_fault, second_fault, largest_fault, same_name_fault, user_fault, fault_after}
 use Rattle.tc_users.specs.Fields.{field_in, number_in, missing_text_in, missing_number_in, if_there, list_of}
-use Rattle.tc_users.specs.SettingsTable.{row_in, second_in, largest_in, name_fault_in, token_fault_in, budget_fault_in, second_fault_in, largest_fault_in, user_fault_at, user_fault_in, users_fault_after, tables_fault, user_field_fault, users_in, fields_fault, settings_fault, IsFaultOfTable}
+use Rattle.tc_users.specs.SettingsTable.{row_in, second_in, largest_in, name_fault_in, token_fault_in, budget_fault_in}
+use Rattle.tc_users.specs.SettingsTable.{second_fault_in, largest_fault_in, user_fault_at, user_fault_in, users_fault_after}
+use Rattle.tc_users.specs.SettingsTable.{tables_fault, user_field_fault, users_in, fields_fault, settings_fault, IsFaultOfTable}
 use Rattle.tc_users.proofs.FirstFault.{option_or-none}
 
 -- a name that another user has is the first fault where nothing else is wrong
 pub user_fault_at-same_name : (n : ℕ) (before : List UserSpec) (user : Data) (fault : SettingsFault)
-    → name_fault_in n user ≡ None → token_fault_in n user ≡ None → budget_fault_in n user ≡ None → second_fault_in n user ≡ None → largest_fault_in n user ≡ None
+    → name_fault_in n user ≡ None → token_fault_in n user ≡ None → budget_fault_in n user ≡ None → second_fault_in n user ≡ None
+    → largest_fault_in n user ≡ None
     → same_name_fault before (row_in user).name ≡ Some fault → user_fault_at n before user ≡ Some fault
 user_fault_at-same_name n before user fault name token budget second largest e = rw (name, token, budget, second, largest, e)
 
 -- a number in a range of numbers from 0 is one from 0
-range_fault-nat_abs : (low high : ℕ) (fault : ℤ → SettingsFault) (z : ℤ) → range_fault low high fault z ≡ None → range_fault low high fault (pos (nat_abs z)) ≡ None
+range_fault-nat_abs : (low high : ℕ) (fault : ℤ → SettingsFault) (z : ℤ) → range_fault low high fault z ≡ None
+    → range_fault low high fault (pos (nat_abs z)) ≡ None
 range_fault-nat_abs low high fault (pos n) e = e
 range_fault-nat_abs low high fault (negsuc n) e = absurd (grind arith)
 
 second_fault-none : (n : ℕ) (token : List ℕ) (missing : Option SettingsFault) (second : Option Data)
-    → if_there second (option_or missing (second_fault n token (second_in second))) ≡ None → second_fault n token (second_in second) ≡ None
+    → if_there second (option_or missing (second_fault n token (second_in second))) ≡ None
+    → second_fault n token (second_in second) ≡ None
 second_fault-none n token missing None e = refl
 second_fault-none n token missing (Some d) e = (option_or-none _ _ e).1
 
 largest_fault-none : (n : ℕ) (missing : Option SettingsFault) (largest : Option Data)
-    → if_there largest (option_or missing (largest_fault n (number_in largest))) ≡ None → largest_fault n (pos (nat_abs (largest_in largest))) ≡ None
+    → if_there largest (option_or missing (largest_fault n (number_in largest))) ≡ None
+    → largest_fault n (pos (nat_abs (largest_in largest))) ≡ None
 largest_fault-none n missing None e = refl
-largest_fault-none n missing (Some d) e = range_fault-nat_abs 1 1048576 (LargestRange n) (number_in (Some d)) (option_or-none _ _ e).1
+largest_fault-none n missing (Some d) e =
+    range_fault-nat_abs 1 1048576 (LargestRange n) (number_in (Some d)) (option_or-none _ _ e).1
 
 -- where none of six is there, their first is not
 first_of_six-none : (a b c d e f : Option SettingsFault) → a ≡ None → b ≡ None → c ≡ None → d ≡ None → e ≡ None → f ≡ None
@@ -46,7 +55,8 @@ first_of_six-none : (a b c d e f : Option SettingsFault) → a ≡ None → b �
 first_of_six-none a b c d e f p q r s t u = rw (p, q, r, s, t, u)
 
 -- a user's table without a fault holds a good row
-pub user_fault-row_in : (before : List UserSpec) (user : Data) → user_fault_in before user ≡ None → user_fault before (row_in user) ≡ None
+pub user_fault-row_in : (before : List UserSpec) (user : Data) → user_fault_in before user ≡ None
+    → user_fault before (row_in user) ≡ None
 user_fault-row_in before user e =
     let n = length before + 1 in
     let a = option_or-none (name_fault_in n user) _ e in
@@ -65,21 +75,26 @@ user_fault-row_in before user e =
     own.0
 
 -- one more row
-pub fault_after-push : (before rows : List UserSpec) (row : UserSpec) → fault_after before rows ≡ None → user_fault (before ++ rows) row ≡ None → fault_after before (rows ++ row ∷ []) ≡ None
+pub fault_after-push : (before rows : List UserSpec) (row : UserSpec) → fault_after before rows ≡ None
+    → user_fault (before ++ rows) row ≡ None → fault_after before (rows ++ row ∷ []) ≡ None
 fault_after-push before [] row e good = ap (λ o. option_or o None) (ap (λ b. user_fault b row) (sym (append-nil before)) ∙ good)
 fault_after-push before (first ∷ rows) row e good =
     let p = option_or-none (user_fault before first) (fault_after (before ++ first ∷ []) rows) e in
-    let next = fault_after-push (before ++ first ∷ []) rows row p.1 (ap (λ b. user_fault b row) (append_assoc before (first ∷ []) rows) ∙ good) in
+    let next = fault_after-push (before ++ first ∷ []) rows row p.1
+    (ap (λ b. user_fault b row) (append_assoc before (first ∷ []) rows) ∙ good) in
     rw (p.0, next)
 
 -- the tables from one on, seen as data
-pub map-view-drop : (tables : List Value) (i : ℕ) (v : Value) → i < length tables → v ≡ get_or tables i v → map view (drop i tables) ≡ view v ∷ map view (drop (i + 1) tables)
+pub map-view-drop : (tables : List Value) (i : ℕ) (v : Value) → i < length tables → v ≡ get_or tables i v
+    → map view (drop i tables) ≡ view v ∷ map view (drop (i + 1) tables)
 map-view-drop tables i v h e = rw (drop_more tables i v h, ← e)
 
 -- a loop that goes past a user without a fault
-pub users_fault_after-past : (before : List UserSpec) (user : Data) (users more : List Data) → more ≡ user ∷ users → user_fault_in before user ≡ None
+pub users_fault_after-past : (before : List UserSpec) (user : Data) (users more : List Data) → more ≡ user ∷ users
+    → user_fault_in before user ≡ None
     → users_fault_after before more ≡ users_fault_after (before ++ row_in user ∷ []) users
-users_fault_after-past before user users more e good = rw e (ap (λ o. option_or o (users_fault_after (before ++ row_in user ∷ []) users)) good)
+users_fault_after-past before user users more e good =
+    rw e (ap (λ o. option_or o (users_fault_after (before ++ row_in user ∷ []) users)) good)
 
 -- and has its row
 pub rows-past : (before : List UserSpec) (user : Data) (users more : List Data) → more ≡ user ∷ users
@@ -102,12 +117,14 @@ array-from_as_array (array ds) items e = cc
 array-from_as_array (table fields) items e = cc
 
 -- a field that holds an array of these values
-pub user_field_fault-array : (field : Option Data) (d : Data) (values : List Value) → Some d ≡ field → Some (items_view values) ≡ as_array d
+pub user_field_fault-array : (field : Option Data) (d : Data) (values : List Value) → Some d ≡ field
+    → Some (items_view values) ≡ as_array d
     → user_field_fault field ≡ tables_fault (map view values)
 user_field_fault-array field d values e there =
     rw (← e, array-from_as_array d _ (sym there)) (ap tables_fault (list_of-items_view values))
 
-pub users_in-array : (field : Option Data) (d : Data) (values : List Value) → Some d ≡ field → Some (items_view values) ≡ as_array d → map view values ≡ users_in field
+pub users_in-array : (field : Option Data) (d : Data) (values : List Value) → Some d ≡ field
+    → Some (items_view values) ≡ as_array d → map view values ≡ users_in field
 users_in-array field d values e there = rw (← e, array-from_as_array d _ (sym there)) (sym (list_of-items_view values))
 
 -- a test of the data that the values are

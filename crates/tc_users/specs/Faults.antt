@@ -1,5 +1,7 @@
--- Which users' rows are good, and the first fault where one is not. Source: docs/OPERATING.md, 'Settings', whose table gives the ranges and the order of the checks.
-use Rattle.std.specs.Prelude.{ℕ, ◌+◌, ◌^◌, ◌≤◌, ℤ, pos, int_le, Bool, ◌&&◌, ◌||◌, not, nat_lt, nat_le, ◌==◌, if◌then◌else◌, List, [], ◌∷◌, ◌++◌, length, slice_index, position, Option, Some, None, option_map}
+-- Which users' rows are good, and the first fault where one is not. Source: docs/OPERATING.md,
+-- 'Settings', whose table gives the ranges and the order of the checks.
+use Rattle.std.specs.Prelude.{ℕ, ◌+◌, ◌^◌, ◌≤◌, ℤ, pos, int_le, Bool, ◌&&◌, ◌||◌, not, nat_lt, nat_le, ◌==◌, if◌then◌else◌, List}
+use Rattle.std.specs.Prelude.{[], ◌∷◌, ◌++◌, length, slice_index, position, Option, Some, None, option_map}
 use Rattle.std.specs.Option.{option_or}
 use Rattle.std.specs.Char.{is_ascii_alphanumeric}
 use Rattle.std.specs.Str.{bytes_eq}
@@ -8,7 +10,9 @@ use Rattle.tc_users.specs.declared.settings_fault.Field.TheVariants.{Token, Seco
 use Rattle.tc_users.specs.declared.settings_fault.TextFault.{TextFault}
 use Rattle.tc_users.specs.declared.settings_fault.TextFault.TheVariants.{Empty, TooLong, BadByte}
 use Rattle.tc_users.specs.declared.settings_fault.SettingsFault.{SettingsFault}
-use Rattle.tc_users.specs.declared.settings_fault.SettingsFault.TheVariants.{NotToml, Missing, BadName, SameName, BudgetRange, NoUser, WorkersRange, JournalRange, NoMemory, BadToken, LargestRange, SameToken, TooManyUsers}
+use Rattle.tc_users.specs.declared.settings_fault.SettingsFault.TheVariants.{NotToml, Missing, BadName, SameName, BudgetRange}
+use Rattle.tc_users.specs.declared.settings_fault.SettingsFault.TheVariants.{NoUser, WorkersRange, JournalRange, NoMemory}
+use Rattle.tc_users.specs.declared.settings_fault.SettingsFault.TheVariants.{BadToken, LargestRange, SameToken, TooManyUsers}
 use Rattle.tc_users.specs.declared.users.UserSpec.{UserSpec}
 
 -- the number of a fault
@@ -70,7 +74,8 @@ other_token_fault user token second = if bytes_eq second token then Some (SameTo
 -- a second token, where there is one, is a token, and another one
 abbrev pub second_fault : ℕ → List ℕ → Option (List ℕ) → Option SettingsFault
 second_fault user token None = None
-second_fault user token (Some second) = first_of (token_fault (SecondToken user) second ∷ other_token_fault user token second ∷ [])
+second_fault user token (Some second) =
+    first_of (token_fault (SecondToken user) second ∷ other_token_fault user token second ∷ [])
 
 -- a largest item is 1 to 1,048,576 bytes
 abbrev pub largest_fault : ℕ → ℤ → Option SettingsFault
@@ -78,7 +83,8 @@ largest_fault user found = range_fault 1 1048576 (LargestRange user) found
 
 -- no user before has the name
 abbrev pub same_name_fault : List UserSpec → List ℕ → Option SettingsFault
-same_name_fault before name = option_map (λ place. SameName (length before + 1) (place + 1)) (position (λ other. bytes_eq other.name name) before)
+same_name_fault before name =
+    option_map (λ place. SameName (length before + 1) (place + 1)) (position (λ other. bytes_eq other.name name) before)
 
 -- the first fault of a user's row by itself, in the order of its fields
 abbrev pub row_fault : ℕ → UserSpec → Option SettingsFault

@@ -1,10 +1,13 @@
--- The fields of a settings text, as a TOML reader gives them. Source: docs/OPERATING.md, 'Settings', and TOML's own definition (toml.io).
+-- The fields of a settings text, as a TOML reader gives them. Source:
+-- docs/OPERATING.md, 'Settings', and TOML's own definition (toml.io).
 use Rattle.std.specs.Prelude.{ℕ, ℤ, pos, codes, List, [], ◌∷◌, Option, Some, None}
 use Rattle.toml.specs.Data.{Data, string, integer, float, boolean, datetime, array, table, Items, no_items, item, get}
 use Rattle.tc_users.specs.declared.settings_fault.Field.{Field}
-use Rattle.tc_users.specs.declared.settings_fault.Field.TheVariants.{Listen, Workers, Journal, Users, Name, Token, Budget, SecondToken, Largest}
+use Rattle.tc_users.specs.declared.settings_fault.Field.TheVariants.{Listen, Workers, Journal, Users, Name, Token, Budget}
+use Rattle.tc_users.specs.declared.settings_fault.Field.TheVariants.{SecondToken, Largest}
 use Rattle.tc_users.specs.declared.settings_fault.Found.{Found}
-use Rattle.tc_users.specs.declared.settings_fault.Found.TheVariants.{Nothing, Text, WholeNumber, Float, Boolean, DateTime, Array, Table}
+use Rattle.tc_users.specs.declared.settings_fault.Found.TheVariants.{Nothing, Text, WholeNumber, Float, Boolean, DateTime, Array}
+use Rattle.tc_users.specs.declared.settings_fault.Found.TheVariants.{Table}
 use Rattle.tc_users.specs.declared.settings_fault.SettingsFault.{SettingsFault}
 use Rattle.tc_users.specs.declared.settings_fault.SettingsFault.TheVariants.{Missing}
 

@@ -1,15 +1,20 @@
--- What a settings table holds, and its first fault. Source: docs/OPERATING.md, 'Settings': the fields are looked at in the order of its table, then user by user, each first for being there and then for its range.
-use Rattle.std.specs.Prelude.{◌≡◌, ℕ, ◌+◌, ◌^◌, ◌≤◌, ◌==◌, ◌⊎◌, ℤ, pos, nat_abs, not, nat_le, if◌then◌else◌, is_some, List, [], ◌∷◌, ◌++◌, length, map, Option, Some, None, Result, Ok, Err}
+-- What a settings table holds, and its first fault. Source: docs/OPERATING.md, 'Settings': the fields are looked at in
+-- the order of its table, then user by user, each first for being there and then for its range.
+use Rattle.std.specs.Prelude.{◌≡◌, ℕ, ◌+◌, ◌^◌, ◌≤◌, ◌==◌, ◌⊎◌, ℤ, pos, nat_abs, not, nat_le, if◌then◌else◌, is_some, List, []}
+use Rattle.std.specs.Prelude.{◌∷◌, ◌++◌, length, map, Option, Some, None, Result, Ok, Err}
 use Rattle.std.specs.List.{list_all}
 use Rattle.std.specs.Option.{option_or}
 use Rattle.toml.specs.Data.{Data, array, table, as_table, Members}
 use Rattle.tc_users.specs.declared.settings.Settings.{Settings}
-use Rattle.tc_users.specs.declared.settings_fault.Field.TheVariants.{Listen, Workers, Journal, Users, Name, Token, Budget, SecondToken, Largest}
+use Rattle.tc_users.specs.declared.settings_fault.Field.TheVariants.{Listen, Workers, Journal, Users, Name, Token, Budget}
+use Rattle.tc_users.specs.declared.settings_fault.Field.TheVariants.{SecondToken, Largest}
 use Rattle.tc_users.specs.declared.settings_fault.Found.TheVariants.{Array}
 use Rattle.tc_users.specs.declared.settings_fault.SettingsFault.{SettingsFault}
-use Rattle.tc_users.specs.declared.settings_fault.SettingsFault.TheVariants.{NotToml, Missing, NoUser, WorkersRange, JournalRange, NoMemory, TooManyUsers}
+use Rattle.tc_users.specs.declared.settings_fault.SettingsFault.TheVariants.{NotToml, Missing, NoUser, WorkersRange, JournalRange}
+use Rattle.tc_users.specs.declared.settings_fault.SettingsFault.TheVariants.{NoMemory, TooManyUsers}
 use Rattle.tc_users.specs.declared.users.UserSpec.{UserSpec}
-use Rattle.tc_users.specs.Faults.{first_of, range_fault, name_fault, token_fault, budget_fault, second_fault, largest_fault, same_name_fault}
+use Rattle.tc_users.specs.Faults.{first_of, range_fault, name_fault, token_fault, budget_fault, second_fault, largest_fault}
+use Rattle.tc_users.specs.Faults.{same_name_fault}
 use Rattle.tc_users.specs.Fields.{field_in, found_in, text_in, number_in, missing_text_in, missing_number_in, if_there, list_of}
 
 -- a second token, where there is one
@@ -47,12 +52,14 @@ budget_fault_in n user = option_or (missing_number_in (Budget n) user) (budget_f
 -- a second token may be left out; where it is there, it is a text, and then good
 abbrev pub second_fault_in : ℕ → Data → Option SettingsFault
 second_fault_in n user =
-    if_there (field_in (SecondToken n) user) (option_or (missing_text_in (SecondToken n) user) (second_fault n (row_in user).token (row_in user).second))
+    if_there (field_in (SecondToken n) user)
+    (option_or (missing_text_in (SecondToken n) user) (second_fault n (row_in user).token (row_in user).second))
 
 -- a largest item may be left out; where it is there, it is a whole number, and then in its range
 abbrev pub largest_fault_in : ℕ → Data → Option SettingsFault
 largest_fault_in n user =
-    if_there (field_in (Largest n) user) (option_or (missing_number_in (Largest n) user) (largest_fault n (number_in (field_in (Largest n) user))))
+    if_there (field_in (Largest n) user)
+    (option_or (missing_number_in (Largest n) user) (largest_fault n (number_in (field_in (Largest n) user))))
 
 -- the first fault of the table of user n, field by field
 abbrev pub user_fault_at : ℕ → List UserSpec → Data → Option SettingsFault
@@ -72,7 +79,8 @@ user_fault_in before user = user_fault_at (length before + 1) before user
 -- the first fault of the users' tables after these rows, user by user
 abbrev pub users_fault_after : List UserSpec → List Data → Option SettingsFault
 users_fault_after before [] = None
-users_fault_after before (user ∷ users) = option_or (user_fault_in before user) (users_fault_after (before ++ row_in user ∷ []) users)
+users_fault_after before (user ∷ users) =
+    option_or (user_fault_in before user) (users_fault_after (before ++ row_in user ∷ []) users)
 
 -- at least one user is wanted, each a table, and fewer than 2^32
 abbrev pub tables_fault : List Data → Option SettingsFault
@@ -145,7 +153,8 @@ IsNotTomlOrRefused (NotToml error) = Unit {0}
 IsNotTomlOrRefused NoMemory = Unit {0}
 IsNotTomlOrRefused fault = ⊥
 
--- what is answered to a text, by the fields that it has where it is TOML: its settings where nothing is wrong, else the first fault
+-- what is answered to a text, by the fields that it has where it is TOML: its
+-- settings where nothing is wrong, else the first fault
 abbrev pub IsAnswer : Option Members → Result Settings SettingsFault → Type 0
 IsAnswer None (Ok settings) = ⊥
 IsAnswer None (Err fault) = IsNotTomlOrRefused fault

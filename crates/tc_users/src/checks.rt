@@ -2,7 +2,9 @@
 ghost use Rattle.std.specs.Prelude.{◌≡◌, ◌<◌, ◌+◌, ◌^◌, ◌∷◌, [], not, length, position, option_map, IfSome, pos};
 ghost use Rattle.std.specs.Result.{result_err};
 ghost use Rattle.std.specs.Str.{bytes_eq};
-ghost use Rattle.tc_users.specs.Faults.{is_name_byte, is_token_byte, text_fault, name_fault, token_fault, budget_fault, other_token_fault, second_fault, largest_fault, same_name_fault, row_fault, user_fault, fault_after};
+ghost use Rattle.tc_users.specs.Faults.{is_name_byte, is_token_byte, text_fault, name_fault, token_fault, budget_fault};
+ghost use Rattle.tc_users.specs.Faults.{other_token_fault, second_fault, largest_fault, same_name_fault, row_fault, user_fault};
+ghost use Rattle.tc_users.specs.Faults.{fault_after};
 
 use crate::users::UserSpec;
 use crate::{Field, SettingsFault, Text, TextFault};

@@ -6,7 +6,9 @@ ghost use Rattle.toml.specs.Data.{as_table};
 ghost use Rattle.toml.specs.Errors.{IsBlank};
 ghost use Rattle.toml.specs.Parse.{parse_document};
 ghost use Rattle.toml.specs.View.{view};
-ghost use Rattle.tc_users.specs.SettingsTable.{row_in, tables_fault, tables_fault_in, tables_in, workers_fault_in, journal_fault_in, settings_fault, settings_in, IsFaultOfTable, IsAnswer, AreSoundNumbers};
+ghost use Rattle.tc_users.specs.SettingsTable.{row_in, tables_fault, tables_fault_in, tables_in, workers_fault_in};
+ghost use Rattle.tc_users.specs.SettingsTable.{journal_fault_in, settings_fault, settings_in, IsFaultOfTable, IsAnswer};
+ghost use Rattle.tc_users.specs.SettingsTable.{AreSoundNumbers};
 
 use crate::fields::{find_field, found_of, read_number, read_text};
 use crate::user_table::read_rows;

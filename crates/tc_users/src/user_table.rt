@@ -3,7 +3,8 @@ ghost use Rattle.std.specs.Prelude.{◌≡◌, ◌<◌, ◌+◌, ◌^◌, [], �
 ghost use Rattle.std.specs.Result.{result_err};
 ghost use Rattle.toml.specs.View.{view};
 ghost use Rattle.tc_users.specs.Faults.{fault_after};
-ghost use Rattle.tc_users.specs.SettingsTable.{row_in, name_fault_in, token_fault_in, budget_fault_in, second_fault_in, largest_fault_in, user_fault_in, users_fault_after, IsFirstOrRefused};
+ghost use Rattle.tc_users.specs.SettingsTable.{row_in, name_fault_in, token_fault_in, budget_fault_in, second_fault_in};
+ghost use Rattle.tc_users.specs.SettingsTable.{largest_fault_in, user_fault_in, users_fault_after, IsFirstOrRefused};
 
 use crate::checks::{
     check_budget, check_largest, check_name, check_other_token, check_own_name, check_token,

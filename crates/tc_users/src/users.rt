@@ -1,5 +1,6 @@
 //! The table of users.
-ghost use Rattle.std.specs.Prelude.{◌≡◌, ◌<◌, ◌+◌, ◌≤◌, ◌^◌, ◌∷◌, ◌++◌, ◌||◌, [], length, suc, option_map, option_copied, IfSome, IfOk, IfErr, OnOk, OnErr, None, pos, All, List, ℕ};
+ghost use Rattle.std.specs.Prelude.{◌≡◌, ◌<◌, ◌+◌, ◌≤◌, ◌^◌, ◌∷◌, ◌++◌, ◌||◌, [], length, suc, option_map, option_copied, IfSome};
+ghost use Rattle.std.specs.Prelude.{IfOk, IfErr, OnOk, OnErr, None, pos, All, List, ℕ};
 ghost use Rattle.std.specs.Result.{result_err};
 ghost use Rattle.std.specs.Str.{bytes_eq};
 ghost use Rattle.tc_model.specs.Place.{first_place};

@@ -1,6 +1,7 @@
 -- The marks alone, and more room.
 use Rattle.std.specs.Prelude.{Option, None, Some, ◌-◌, ◌%◌, replicate, map, slice_index, slice_index_or, slice_set}
-use Rattle.std.proofs.Common.{◌≡◌, ◌⊎◌, inl, inr, ℕ, zero, suc, ◌+◌, ◌<◌, ◌≤◌, true, false, List, [], ◌∷◌, ◌++◌, length, refl, sym, ◌∙◌, ap, subst, arith, length-append}
+use Rattle.std.proofs.Common.{◌≡◌, ◌⊎◌, inl, inr, ℕ, zero, suc, ◌+◌, ◌<◌, ◌≤◌, true, false, List, [], ◌∷◌, ◌++◌, length, refl}
+use Rattle.std.proofs.Common.{sym, ◌∙◌, ap, subst, arith, length-append}
 use Rattle.std.proofs.lemmas.Bool.{cases_lt}
 use Rattle.std.proofs.lemmas.List.{get_or-set_same, get_or-set_other}
 use Rattle.tc_model.specs.Ring.{Linked, IsAway, AreDistinct, AreBelow, IsRing}
@@ -62,7 +63,10 @@ kept_alone k moment left m l h = record {
   ring = subst (λ xs. IsLoop l.next l.prev xs) (sym (marked_alone 0 (suc k))) (marks_ring k m l h);
   dues_long = h.dues_long ∙ sym h.next_long;
   marks = λ n small. h.dues n;
-  kept = λ i n small. none_at n i ∙ sym (ap (λ o. stands_in k i (is_among n (list_at k (replicate (suc k) []))) o) (h.dues n) ∙ stands_none k i (is_among n (list_at k (replicate (suc k) []))));
+  kept =
+      λ i n small. none_at n i
+      ∙ sym (ap (λ o. stands_in k i (is_among n (list_at k (replicate (suc k) []))) o) (h.dues n)
+      ∙ stands_none k i (is_among n (list_at k (replicate (suc k) []))));
   late = λ n among. absurd (let f : false ≡ true = sym (none_at n k) ∙ among in cc);
   rest = λ n d out noted_is early. absurd (let f : None ≡ Some d = sym (h.dues n) ∙ noted_is in cc);
 }
@@ -96,19 +100,24 @@ none_behind [] (suc n) h = refl
 none_behind (d ∷ dues) zero h = h 0
 none_behind (d ∷ dues) (suc n) h = none_behind dues n (λ i. h (suc i))
 
-index_pushed : (f : Node → ℕ) (g : ℕ → ℕ) (m : ℕ) (ns : List Node) (x : Node) → length ns ≡ m → f x ≡ g m → ((n : ℕ) → n < m → slice_index (map f ns) n ≡ g n) → (n : ℕ) → n < m + 1 → slice_index (map f (ns ++ x ∷ [])) n ≡ g n
+index_pushed : (f : Node → ℕ) (g : ℕ → ℕ) (m : ℕ) (ns : List Node) (x : Node) → length ns ≡ m → f x ≡ g m
+    → ((n : ℕ) → n < m → slice_index (map f ns) n ≡ g n) → (n : ℕ) → n < m + 1 → slice_index (map f (ns ++ x ∷ [])) n ≡ g n
 index_pushed f g m ns x long e h n small = ap (λ xs. slice_index xs n) (map-append f ns (x ∷ [])) ∙ go (cases_lt n m)
   where
     go : (n < m) ⊎ (m ≤ n) → slice_index (map f ns ++ f x ∷ []) n ≡ g n
     go (inl less) = index-grown (map f ns) (f x ∷ []) n (omega (arith, length-map_own f ns)) ∙ h n less
-    go (inr more) = let same : m ≡ n = omega arith in index_last (map f ns) (f x) n (omega (arith, length-map_own f ns)) ∙ e ∙ ap g same
+    go (inr more) =
+        let same : m ≡ n = omega arith in index_last (map f ns) (f x) n (omega (arith, length-map_own f ns)) ∙ e ∙ ap g same
 
-pub first_pushed : (k m : ℕ) (ns all : List Node) (x : Node) → all ≡ ns ++ x ∷ [] → x.next ≡ (m + 1) % k → x.prev ≡ (m + (k - 1)) % k → x.due ≡ None → AreFirst k m ns → AreFirst k (m + 1) all
+pub first_pushed : (k m : ℕ) (ns all : List Node) (x : Node) → all ≡ ns ++ x ∷ [] → x.next ≡ (m + 1) % k
+    → x.prev ≡ (m + (k - 1)) % k → x.due ≡ None → AreFirst k m ns → AreFirst k (m + 1) all
 first_pushed k m ns all x e en ep ed h = subst (λ ys. AreFirst k (m + 1) ys) (sym e) (record {
   long = omega (arith, length-append ns (x ∷ []), h.long);
   next = index_pushed (λ (y : Node). y.next) (λ i. (i + 1) % k) m ns x h.long en h.next;
   prev = index_pushed (λ (y : Node). y.prev) (λ i. (i + (k - 1)) % k) m ns x h.long ep h.prev;
-  dues = λ n. ap (λ ds. due_at ds n) (map-append (λ (y : Node). y.due) ns (x ∷ [])) ∙ ap (λ d. due_at (map (λ (y : Node). y.due) ns ++ d ∷ []) n) ed ∙ none_behind (map (λ (y : Node). y.due) ns) n h.dues;
+  dues =
+      λ n. ap (λ ds. due_at ds n) (map-append (λ (y : Node). y.due) ns (x ∷ []))
+      ∙ ap (λ d. due_at (map (λ (y : Node). y.due) ns ++ d ∷ []) n) ed ∙ none_behind (map (λ (y : Node). y.due) ns) n h.dues;
 })
 
 -- the first m of n nodes, as they are written
@@ -118,7 +127,8 @@ pub record AreWritten (k m n : ℕ) (ns : List Node) : Type 0 where
   pub prev : (i : ℕ) → i < m → slice_index (map (λ (x : Node). x.prev) ns) i ≡ (i + (k - 1)) % k
   pub dues : (i : ℕ) → i < m → due_at (map (λ (x : Node). x.due) ns) i ≡ None
 
-field_written : {B : Type 0} (f : Node → B) (g : ℕ → B) (d : B) (m : ℕ) (ns : List Node) (x : Node) → m < length ns → f x ≡ g m → ((i : ℕ) → i < m → slice_index_or (map f ns) i d ≡ g i)
+field_written : {B : Type 0} (f : Node → B) (g : ℕ → B) (d : B) (m : ℕ) (ns : List Node) (x : Node) → m < length ns → f x ≡ g m
+    → ((i : ℕ) → i < m → slice_index_or (map f ns) i d ≡ g i)
     → (i : ℕ) → i < m + 1 → slice_index_or (map f (slice_set ns m x)) i d ≡ g i
 field_written f g d m ns x here e h i small = ap (λ ys. slice_index_or ys i d) (map-set f ns m x) ∙ go (cases_lt i m)
   where
@@ -126,12 +136,19 @@ field_written f g d m ns x here e h i small = ap (λ ys. slice_index_or ys i d) 
     go (inl less) = get_or-set_other (map f ns) m i (f x) d (omega arith) ∙ h i less
     go (inr more) =
         let same : m ≡ i = omega arith in
-        ap (λ j. slice_index_or (slice_set (map f ns) m (f x)) j d) (sym same) ∙ get_or-set_same (map f ns) m (f x) d (omega (arith, length-map_own f ns)) ∙ e ∙ ap g same
+        ap (λ j. slice_index_or (slice_set (map f ns) m (f x)) j d) (sym same)
+        ∙ get_or-set_same (map f ns) m (f x) d (omega (arith, length-map_own f ns)) ∙ e ∙ ap g same
 
 pub none_written : (k n : ℕ) (ns : List Node) → length ns ≡ n → AreWritten k 0 n ns
-none_written k n ns e = record { long = e; next = λ i small. absurd (omega arith); prev = λ i small. absurd (omega arith); dues = λ i small. absurd (omega arith) }
+none_written k n ns e = record {
+  long = e;
+  next = λ i small. absurd (omega arith);
+  prev = λ i small. absurd (omega arith);
+  dues = λ i small. absurd (omega arith);
+}
 
-pub one_written : (k m n : ℕ) (ns : List Node) (x : Node) → m < n → x.next ≡ (m + 1) % k → x.prev ≡ (m + (k - 1)) % k → x.due ≡ None → AreWritten k m n ns → AreWritten k (m + 1) n (slice_set ns m x)
+pub one_written : (k m n : ℕ) (ns : List Node) (x : Node) → m < n → x.next ≡ (m + 1) % k → x.prev ≡ (m + (k - 1)) % k
+    → x.due ≡ None → AreWritten k m n ns → AreWritten k (m + 1) n (slice_set ns m x)
 one_written k m n ns x small en ep ed h =
     let here : m < length ns = omega (arith, h.long) in
     record {
@@ -169,7 +186,8 @@ marks_written n ns all h = record {
     none_at i (inr more) = beyond (links ns).dues i (omega (arith, length-map_own (λ (x : Node). x.due) ns, h.long))
 
 pub marks_of : (ns : List Node) → AreFirst 4097 4097 ns → AreMarks 4097 4097 (links ns)
-marks_of ns h = marks_written 4097 ns (omega arith) (record { long = h.long; next = h.next; prev = h.prev; dues = λ i small. h.dues i })
+marks_of ns h =
+    marks_written 4097 ns (omega arith) (record { long = h.long; next = h.next; prev = h.prev; dues = λ i small. h.dues i })
 
 -- more room
 
@@ -187,7 +205,8 @@ length-room : {A : Type 0} (n : ℕ) (x : A) → length (replicate n x) ≡ n
 length-room zero x = refl
 length-room (suc n) x = ap suc (length-room n x)
 
-chained_grown : (next prev : List ℕ) (n : ℕ) (lists : List (List ℕ)) → AreChained next prev lists → AreChained (next ++ replicate n 0) (prev ++ replicate n 0) lists
+chained_grown : (next prev : List ℕ) (n : ℕ) (lists : List (List ℕ)) → AreChained next prev lists
+    → AreChained (next ++ replicate n 0) (prev ++ replicate n 0) lists
 chained_grown next prev n [] h = tt
 chained_grown next prev n (xs ∷ xss) h = ring_grown next prev (replicate n 0) (replicate n 0) 0 (xs ++ marked 1 xss) refl h
 
@@ -201,7 +220,15 @@ swept_grown k moment left all l s =
       kept = record {
         count = a.count;
         ring = chained_grown l.next l.prev n s.lists a.ring;
-        dues_long = omega (arith, a.dues_long, length-append l.dues (replicate n None), length-append l.next (replicate n 0), length-room {A = Option ℕ} n None, length-room {A = ℕ} n 0);
+        dues_long =
+            omega (
+              arith,
+              a.dues_long,
+              length-append l.dues (replicate n None),
+              length-append l.next (replicate n 0),
+              length-room {A = Option ℕ} n None,
+              length-room {A = ℕ} n 0,
+            );
         marks = λ i small. same i ∙ a.marks i small;
         kept = λ i m small. a.kept i m small ∙ sym (ap (λ o. stands_in k i (is_among m (list_at k s.lists)) o) (same m));
         late = λ m among. ap (λ o. is_due moment o) (same m) ∙ a.late m among;

@@ -21,7 +21,8 @@ awaits_soon k moment left due early within =
     let same : moment - back ≡ due + k * turns = omega (arith, whole) in
     record { back = back; within = within; same = sym (add-mul-mod_self_left due k turns) ∙ ap (λ x. x % k) (sym same) }
 
-awaits_passed : (k since moment left due : ℕ) → 0 < k → due ≤ moment → (due ≤ since → Awaits k since left due) → since ≤ moment → Awaits k moment (min (left + (moment - since)) k) due
+awaits_passed : (k since moment left due : ℕ) → 0 < k → due ≤ moment → (due ≤ since → Awaits k since left due) → since ≤ moment
+    → Awaits k moment (min (left + (moment - since)) k) due
 awaits_passed k since moment left due some early before order = go (cases_lt (left + (moment - since)) k) (cases_lt since due)
   where
     low : (moment - due) % k < k
@@ -30,7 +31,8 @@ awaits_passed k since moment left due some early before order = go (cases_lt (le
     whole : k * ((moment - due) / k) + (moment - due) % k ≡ moment - due
     whole = div-add-mod (moment - due) k
 
-    go : (left + (moment - since) < k) ⊎ (k ≤ left + (moment - since)) → (since < due) ⊎ (due ≤ since) → Awaits k moment (min (left + (moment - since)) k) due
+    go : (left + (moment - since) < k) ⊎ (k ≤ left + (moment - since)) → (since < due) ⊎ (due ≤ since)
+        → Awaits k moment (min (left + (moment - since)) k) due
     go (inr full) c = awaits_soon k moment (min (left + (moment - since)) k) due early (omega (arith, low))
     go (inl few) (inl after) = awaits_soon k moment (min (left + (moment - since)) k) due early (omega (arith, whole))
     go (inl few) (inr h) =
@@ -40,7 +42,8 @@ awaits_passed k since moment left due some early before order = go (cases_lt (le
         record { back = back; within = omega (arith, w.within); same = w.same ∙ ap (λ x. x % k) same }
 
 -- the moment goes on: these buckets are to be walked
-pub swept_passed : (k since moment left : ℕ) (l : Links) → 0 < k → since ≤ moment → IsSwept k since left l → IsSwept k moment (min (left + (moment - since)) k) l
+pub swept_passed : (k since moment left : ℕ) (l : Links) → 0 < k → since ≤ moment → IsSwept k since left l
+    → IsSwept k moment (min (left + (moment - since)) k) l
 swept_passed k since moment left l some order s =
     let a : AreKept k since left l s.lists = s.kept in
     record {

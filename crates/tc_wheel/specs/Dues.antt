@@ -1,5 +1,6 @@
 -- What callers see of the expiry wheel (a hashed timing wheel, Varghese and Lauck 1987), and what each call makes of it.
-use Rattle.std.specs.Prelude.{◌≡◌, Bool, true, false, is_some, Option, Some, None, ℕ, ◌-◌, max, nat_le, List, [], ◌++◌, length, replicate, slice_index_or, slice_set}
+use Rattle.std.specs.Prelude.{◌≡◌, Bool, true, false, is_some, Option, Some, None, ℕ, ◌-◌, max, nat_le, List, [], ◌++◌, length}
+use Rattle.std.specs.Prelude.{replicate, slice_index_or, slice_set}
 use Rattle.tc_item.specs.declared.slot.Slot.{Slot}
 
 -- the latest moment that the wheel was advanced to, and at place n when slot n is due, where it is held
@@ -47,4 +48,5 @@ advanced moment w = record w { moment = max w.moment moment }
 -- a slot that was due at the moment is given and held no longer; or none, and no slot was due
 abbrev pub Gives : Option Slot → ℕ → Dues → Dues → Type 0
 Gives None moment before after = ((slot : ℕ) → is_due moment (due_at before.dues slot) ≡ false) × (after ≡ advanced moment before)
-Gives (Some slot) moment before after = (is_due moment (due_at before.dues slot.0) ≡ true) × (after ≡ removed slot.0 (advanced moment before))
+Gives (Some slot) moment before after =
+    (is_due moment (due_at before.dues slot.0) ≡ true) × (after ≡ removed slot.0 (advanced moment before))

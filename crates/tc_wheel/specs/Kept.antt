@@ -1,5 +1,6 @@
 -- How slots stand in the ring: k buckets, and behind them the list of what is due (timing wheels, Varghese and Lauck 1987).
-use Rattle.std.specs.Prelude.{◌≡◌, Bool, true, false, ◌==◌, Option, Some, None, ℕ, zero, suc, ◌-◌, ◌%◌, ◌<◌, ◌≤◌, nat_le, cond, List, [], ◌∷◌, length}
+use Rattle.std.specs.Prelude.{◌≡◌, Bool, true, false, ◌==◌, Option, Some, None, ℕ, zero, suc, ◌-◌, ◌%◌, ◌<◌, ◌≤◌, nat_le, cond}
+use Rattle.std.specs.Prelude.{List, [], ◌∷◌, length}
 use Rattle.tc_model.specs.Chains.{AreChained, is_among}
 use Rattle.tc_wheel.specs.Dues.{due_at, is_due}
 use Rattle.tc_wheel.specs.Links.{Links}
@@ -38,7 +39,8 @@ pub record AreKept (k moment left : ℕ) (l : Links) (lists : List (List ℕ)) :
   pub marks : (n : ℕ) → n ≤ k → due_at l.dues n ≡ None
   pub kept : (i n : ℕ) → i < k → is_among n (list_at i lists) ≡ stands_in k i (is_among n (list_at k lists)) (due_at l.dues n)
   pub late : (n : ℕ) → is_among n (list_at k lists) ≡ true → is_due moment (due_at l.dues n) ≡ true
-  pub rest : (n due : ℕ) → is_among n (list_at k lists) ≡ false → due_at l.dues n ≡ Some due → due ≤ moment → Awaits k moment left due
+  pub rest : (n due : ℕ) → is_among n (list_at k lists) ≡ false → due_at l.dues n ≡ Some due → due ≤ moment
+      → Awaits k moment left due
 
 -- lists of these links are kept so
 pub record IsSwept (k moment left : ℕ) (l : Links) : Type 0 where

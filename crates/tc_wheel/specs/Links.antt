@@ -1,5 +1,6 @@
 -- The ring as lists by node: links forward and back, and when the slot of a node is due (a doubly linked list by index).
-use Rattle.std.specs.Prelude.{◌≡◌, Option, Some, None, slice_index, slice_set, ℕ, suc, ◌-◌, ◌<◌, ◌≤◌, List, ◌++◌, length, replicate}
+use Rattle.std.specs.Prelude.{◌≡◌, Option, Some, None, slice_index, slice_set, ℕ, suc, ◌-◌, ◌<◌, ◌≤◌, List, ◌++◌, length}
+use Rattle.std.specs.Prelude.{replicate}
 use Rattle.tc_model.specs.Ring.{put_next, put_prev, cut_next, cut_prev}
 use Rattle.tc_wheel.specs.Dues.{due_at}
 

@@ -88,9 +88,10 @@ fn next_due(nodes: &Nodes, moment: Moment) -> Option<usize>
     None
 }
 
-/// A node that is due at a moment, not later than `now`, or `None` where none is. The buckets of the seconds up to `now`
-/// that are left to walk are walked until there is one. Between two of them the list of what is due is looked at: where
-/// the moment is `now`, its first is due, and else all of it is gone through.
+/// A node that is due at a moment, not later than `now`, or `None` where none is. The buckets of
+/// the seconds up to `now` that are left to walk are walked until there is one. Between two of them
+/// the list of what is due is looked at: where the moment is `now`, its first is due, and else all
+/// of it is gone through.
 pub fn find_due(nodes: &mut Nodes, now: Moment, left: &mut u64, moment: Moment) -> Option<usize>
     requires order { moment ≤ now }
     requires passed { left.old ≤ now }

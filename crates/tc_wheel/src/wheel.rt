@@ -1,8 +1,8 @@
 //! The wheel.
 //!
-//! Terms: a node is a number. Marks 0 to 4,095 stand before the buckets and mark 4,096 before the list of what is due;
-//! slot n is node n + 4,097. A list's front stands behind its mark, and its last before the next mark, so no list is
-//! ever empty in the ring and no call has a case for one.
+//! Terms: a node is a number. Marks 0 to 4,095 stand before the buckets and mark 4,096 before the
+//! list of what is due; slot n is node n + 4,097. A list's front stands behind its mark, and its
+//! last before the next mark, so no list is ever empty in the ring and no call has a case for one.
 //!
 //! What is always true (`AreKept` in `specs/Kept.antt`):
 //! 1. `ring`: the marks, each with the nodes of its list behind it, are linked in this order, both ways.
@@ -10,7 +10,8 @@
 //! 3. `marks`: no due is noted at a mark.
 //! 4. `kept`: a held slot stands in the list of what is due, or else in the bucket of its due modulo 4,096.
 //! 5. `late`: what stands in the list of what is due is due at the wheel's moment.
-//! 6. `rest`: what stands in a bucket is due later, or awaits one of the last seconds, whose buckets are left to walk.
+//! 6. `rest`: what stands in a bucket is due later, or awaits one of the last seconds, whose
+//! buckets are left to walk.
 ghost use Rattle.std.specs.Prelude.{◌≡◌, ◌<◌, length, false, is_ok, IfOk, OnErr, if◌then◌else◌};
 ghost use Rattle.tc_wheel.specs.Dues.{no_dues, reserved, cleared, added, removed, holds, Gives};
 
@@ -110,8 +111,8 @@ impl Wheel {
         }
     }
 
-    /// A slot that is due at the moment, which is held no longer, or `None` where none is left. The wheel's moment never
-    /// goes back.
+    /// A slot that is due at the moment, which is held no longer, or `None` where none is left. The
+    /// wheel's moment never goes back.
     pub fn advance(&mut self, moment: Moment) -> Option<Slot>
         ensures { Gives result moment self.old self.new }
     {

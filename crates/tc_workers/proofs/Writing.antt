@@ -9,5 +9,9 @@ use Rattle.tc_locked.specs.Calls.{Wrote}
 use Rattle.tc_workers.specs.Turns.{WritesAtMost}
 
 -- a call adds one note
-pub wrote_one : {user now conn : ℕ} {command : Command} {slip : Slip} {before after : SeatState} → Wrote user before now conn command slip after → WritesAtMost 1 before after
-wrote_one {user} {slip = slip} {before = before} w = (ap (λ s. s.number) w.seat, omega (arith, ap (λ s. length s.notes) w.seat, length_push before.notes (note user slip.page w.entry)))
+pub wrote_one : {user now conn : ℕ} {command : Command} {slip : Slip} {before after : SeatState}
+    → Wrote user before now conn command slip after → WritesAtMost 1 before after
+wrote_one {user} {slip = slip} {before = before} w = (
+  ap (λ s. s.number) w.seat,
+  omega (arith, ap (λ s. length s.notes) w.seat, length_push before.notes (note user slip.page w.entry)),
+)

@@ -148,7 +148,8 @@ fn start_all<
     seats: &mut Vec<Seat<N>>,
 ) -> Vec<(Worker<W, N>, I)>
     requires empty { (vec_len handles.old ≡ 0) × (vec_len seats.old ≡ 0) }
-    requires room { (vec_len crew ≤ vec_capacity handles.old) × (vec_len crew ≤ vec_capacity seats.old) }
+    requires room { (vec_len crew ≤ vec_capacity handles.old)
+        × (vec_len crew ≤ vec_capacity seats.old) }
     ensures all { vec_len handles.new + vec_len seats.new + vec_len result ≡ vec_len crew }
     ensures room { vec_len crew ≤ vec_capacity seats.new }
 {
@@ -291,7 +292,8 @@ pub fn run_crew<
         thread::scope_env(),
         rt,
         move |scope| -> Stood<W, N, I>
-            ensures { (vec_len result.seats + vec_len result.rest ≡ vec_len roster.crew) × (result.went ≡ true → vec_len result.rest ≡ 0) }
+            ensures { (vec_len result.seats + vec_len result.rest ≡ vec_len roster.crew)
+                × (result.went ≡ true → vec_len result.rest ≡ 0) }
         { staff(scope, post, keeper, roster, source) },
     );
     let Stood { went, seats, rest } = stood;

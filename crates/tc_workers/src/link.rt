@@ -1,7 +1,7 @@
 //! One connection of a worker.
 ghost use Rattle.std.specs.Prelude.{◌≡◌, ◌≤◌, true, false, length};
 ghost use Rattle.tc_model.specs.Connection.{is_closed};
-ghost use Rattle.tc_session.specs.Linked.{most_resting};
+ghost use Rattle.tc_session.specs.SessionView.{most_resting};
 ghost use Rattle.tc_workers.specs.Turns.{most_kept, WritesAtMost};
 
 use crate::gate::{Gate, Place};

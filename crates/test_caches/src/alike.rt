@@ -11,7 +11,7 @@ use tc_grammar::Command;
 use tc_item::{Moment, NoMemory};
 use tc_kinds::Kind;
 use tc_partition::Fast;
-use tc_plain::{Cache, Live, Plain};
+use tc_plain::{Cache, EvictionState, Plain};
 use tc_sketch::{Sketch, hash};
 use tc_stats::Outcome;
 
@@ -80,7 +80,7 @@ fn is_seen_alike(alloc: Global, first: &Sketch, second: &Sketch) -> Result<bool,
 }
 
 /// Whether the same entries stand in the same areas, with the same moment and pending flush.
-fn holds_alike(first: &Live, second: &Live) -> bool {
+fn holds_alike(first: &EvictionState, second: &EvictionState) -> bool {
     first.areas.window.as_slice() == second.areas.window.as_slice()
         && first.areas.probation.as_slice() == second.areas.probation.as_slice()
         && first.areas.protected.as_slice() == second.areas.protected.as_slice()

@@ -4,4 +4,11 @@ use Rattle.partcached.proofs.main.Given as goal
 
 -- the hall over the table that was opened for these users
 abbrev pub ghosts-serve : goal.ghosts-serve
-ghosts-serve g a = record { table = a.beginning.opened; terms = record { begins = map fresh_cache a.beginning.settings.users; seats = a.beginning.settings.workers; journal = a.beginning.settings.journal } }
+ghosts-serve g a = record {
+  table = a.beginning.opened;
+  terms = record {
+    begins = map fresh_cache a.beginning.settings.users;
+    seats = a.beginning.settings.workers;
+    journal = a.beginning.settings.journal;
+  };
+}

@@ -4,4 +4,7 @@ use Rattle.bench.proofs.hall.call_users.Given as goal
 
 -- the hall over the table that was opened for these users
 abbrev pub ghosts-call_hall : goal.ghosts-call_hall
-ghosts-call_hall g a = record { table = a.begun.0; terms = record { begins = map fresh_cache a.asked.users.now; seats = a.asked.shape.threads; journal = a.asked.pages.journal } }
+ghosts-call_hall g a = record {
+  table = a.begun.0;
+  terms = record { begins = map fresh_cache a.asked.users.now; seats = a.asked.shape.threads; journal = a.asked.pages.journal };
+}

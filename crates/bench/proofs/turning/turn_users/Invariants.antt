@@ -4,4 +4,7 @@ use Rattle.bench.proofs.turning.turn_users.Given as goal
 
 -- the hall over the table that was opened for these users
 abbrev pub ghosts-turn_hall : goal.ghosts-turn_hall
-ghosts-turn_hall g a = record { table = a.begun.0; terms = record { begins = map fresh_cache a.users.now; seats = 1; journal = a.load.journal } }
+ghosts-turn_hall g a = record {
+  table = a.begun.0;
+  terms = record { begins = map fresh_cache a.users.now; seats = 1; journal = a.load.journal };
+}

@@ -1,12 +1,13 @@
 use Rattle.std.specs.Prelude.{map}
 use Rattle.tc_model.specs.Connection.{turn}
-use Rattle.tc_session.specs.Talking.{talking}
+use Rattle.tc_session.specs.TextProtocol.{text_protocol}
 use Rattle.tc_core.proofs.Calls.{act-refused}
 use Rattle.tc_core.proofs.doing.act_step.Goals as goal
 
 pub returns-in-Call-clause-refused : goal.returns-in-Call-clause-refused
 returns-in-Call-clause-refused g c =
     act-refused c.args.clock (map g.C.Cache.settled c.args.caches.now.items) (map g.C.Cache.settled c.call_step.new.caches.items)
-    c.args.session.now c.next.new.self c.call_step.new.session (turn talking c.args.users.now c.args.session.now.endpoint)
-    c.in_ok-next.field-0 c.in-Call.user c.in-Call.command c.in_ok-next.ensures.want c.in-Call.is c.in_ok-next.ensures.endpoint c.in_ok-next.ensures.said
+    c.args.session.now c.next.new.self c.call_step.new.session (turn text_protocol c.args.users.now c.args.session.now.endpoint)
+    c.in_ok-next.field-0 c.in-Call.user c.in-Call.command c.in_ok-next.ensures.want c.in-Call.is c.in_ok-next.ensures.endpoint
+    c.in_ok-next.ensures.said
     c.call_step.ensures.endpoint c.call_step.result c.call_step.ensures.told c.call_step.ensures.refused

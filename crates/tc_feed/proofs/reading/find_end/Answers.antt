@@ -7,11 +7,13 @@ use Rattle.tc_feed.proofs.reading.find_end.Goals as goal
 pub returns-clause-value : goal.returns-clause-value
 returns-clause-value c =
     let u = c.args.unread.now in
-    let seen : take c.min-seen.result u ≡ take line_room u = ap (λ n. take n u) (c.min-seen.ensures ∙ ap (λ n. min (length u) n) (sym line_room-is)) ∙ take_seen line_room u in
+    let seen : take c.min-seen.result u ≡ take line_room u =
+    ap (λ n. take n u) (c.min-seen.ensures ∙ ap (λ n. min (length u) n) (sym line_room-is)) ∙ take_seen line_room u in
     c.find_line.ensures ∙ ap line_length seen
 
 pub returns-clause-within : goal.returns-clause-within
 returns-clause-within c = end_within c.args.unread.now c.min-seen.result c.find_line.result (sym c.find_line.ensures)
 
 pub returns-clause-short : goal.returns-clause-short
-returns-clause-short c = end_below c.args.unread.now c.min-seen.result c.find_line.result (sym c.find_line.ensures) c.min-seen.ensures
+returns-clause-short c =
+    end_below c.args.unread.now c.min-seen.result c.find_line.result (sym c.find_line.ensures) c.min-seen.ensures

@@ -20,5 +20,6 @@ pub returns : goal.returns
 returns c =
     let all = all_read c.loop-token.keys c.loop-token.tokens c.args.tokens c.loop-token.invariant.all c.in_default.ensures.0 in
     let some : 0 < length c.loop-token.keys = length-some c.loop-token.keys (λ e. grind (arith, c.is_empty.ensures.1 e)) in
-    let good : list_all is_key c.args.tokens ≡ true = sym c.loop-token.invariant.good ∙ ap (list_all is_key) c.in_default.ensures.0 in
+    let good : list_all is_key c.args.tokens ≡ true =
+    sym c.loop-token.invariant.good ∙ ap (list_all is_key) c.in_default.ensures.0 in
     ap Some all ∙ sym (keys_of-good c.args.tokens (omega (arith, some, ap length all)) good)

@@ -6,5 +6,7 @@ use Rattle.tc_locked.proofs.book.keep_last.Goals as goal
 
 pub returns : goal.returns
 returns c =
-    let was : c.args.entries.now.items ≡ c.pop.new.self.items ++ c.in-Some.last ∷ [] = c.pop.ensures.items ∙ ap (λ o. c.pop.new.self.items ++ option_to_list o) c.in-Some.is in
-    c.push_reserved.ensures.items ∙ ap (λ l. l ++ c.in-Some.last ∷ []) c.clear.ensures.items ∙ sym (ap last_alone was ∙ last_alone-push c.pop.new.self.items c.in-Some.last)
+    let was : c.args.entries.now.items ≡ c.pop.new.self.items ++ c.in-Some.last ∷ [] =
+    c.pop.ensures.items ∙ ap (λ o. c.pop.new.self.items ++ option_to_list o) c.in-Some.is in
+    c.push_reserved.ensures.items ∙ ap (λ l. l ++ c.in-Some.last ∷ []) c.clear.ensures.items
+    ∙ sym (ap last_alone was ∙ last_alone-push c.pop.new.self.items c.in-Some.last)

@@ -1,5 +1,5 @@
 use Rattle.std.proofs.Common.{◌≡◌, take}
-use Rattle.tc_plain.specs.Live.{at_moment}
+use Rattle.tc_plain.specs.EvictionState.{at_moment}
 use Rattle.tc_plain.specs.Doing.{all_looked_up}
 use Rattle.tc_partition.specs.LiveSlots.{live_of}
 use Rattle.tc_partition.proofs.looking.seek_all.Given as goal

@@ -1,6 +1,6 @@
 use Rattle.std.proofs.Common.{ℕ, List, subst}
 use Rattle.tc_script.specs.Answering.{IsPrintOf, IsBegun}
-use Rattle.tc_script.proofs.Ends.{ended-stream}
+use Rattle.tc_script.proofs.RunEnds.{ended-stream}
 use Rattle.tc_script.proofs.running.run_script.Goals as goal
 
 pub returns-clause-ended : goal.returns-clause-ended

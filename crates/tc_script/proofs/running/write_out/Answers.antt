@@ -1,7 +1,7 @@
 use Rattle.std.proofs.Common.{List, ℕ, sym, subst}
 use Rattle.std.proofs.lemmas.List.{take_rest}
 use Rattle.tc_script.specs.Answering.{IsWrittenTo}
-use Rattle.tc_script.proofs.Ends.{written_to-more, written_to-kept}
+use Rattle.tc_script.proofs.RunEnds.{written_to-more, written_to-kept}
 use Rattle.tc_script.proofs.running.write_out.Goals as goal
 use Rattle.tc_script.proofs.running.write_out.Goals.{in-Ok, in-Err}
 

@@ -23,4 +23,5 @@ returns-in_ok-check_tables-in-Some-as_array-clause-fault c =
 pub returns-in_ok-check_tables-in-Some-as_array-clause-tables :
     goal.returns-in_ok-check_tables-in-Some-as_array-clause-tables
 returns-in_ok-check_tables-in-Some-as_array-clause-tables c =
-    ap (map view) c.deref-in-Some-as_array.ensures.value ∙ users_in-array _ _ c.in-Some-as_array.tables.now.items c.in-Some.ensures c.in-Some-as_array.ensures
+    ap (map view) c.deref-in-Some-as_array.ensures.value
+    ∙ users_in-array _ _ c.in-Some-as_array.tables.now.items c.in-Some.ensures c.in-Some-as_array.ensures

@@ -7,9 +7,11 @@ use Rattle.tc_users.proofs.users.find_row.Goals as goal
 pub returns-then-opens-clause-place : goal.returns-then-opens-clause-place
 returns-then-opens-clause-place c =
     let test = λ (row : UserSpec). opens row c.args.text.now in
-    sym (first_place-found test c.args.rows.now c.loop-i.i c.index-rows-i.result c.loop-i-test.true c.loop-i.invariant (ap test (sym c.index-rows-i.is) ∙ (sym c.opens.ensures ∙ c.if-opens.true)))
+    sym (first_place-found test c.args.rows.now c.loop-i.i c.index-rows-i.result c.loop-i-test.true c.loop-i.invariant
+    (ap test (sym c.index-rows-i.is) ∙ (sym c.opens.ensures ∙ c.if-opens.true)))
 
 pub loop-i-preserved : goal.loop-i-preserved
 loop-i-preserved c =
     let test = λ (row : UserSpec). opens row c.args.text.now in
-    first_place-past test c.args.rows.now c.loop-i.i c.index-rows-i.result c.loop-i-test.true c.loop-i.invariant (ap test (sym c.index-rows-i.is) ∙ (sym c.opens.ensures ∙ c.if-opens.false))
+    first_place-past test c.args.rows.now c.loop-i.i c.index-rows-i.result c.loop-i-test.true c.loop-i.invariant
+    (ap test (sym c.index-rows-i.is) ∙ (sym c.opens.ensures ∙ c.if-opens.false))

@@ -6,19 +6,32 @@ pub node-at-requires : goal.node-at-requires
 node-at-requires c = mark_within 4096 _ _ _ 4096 (omega arith) c.requires.2
 
 pub loop-step-init : goal.loop-step-init
-loop-step-init c = seek_starts c.args.moment c.node-at.result.next c.slots-step-end.result c.args.nodes.now c.node-at.ensures.next c.slots-step-end.ensures
+loop-step-init c =
+    seek_starts c.args.moment c.node-at.result.next c.slots-step-end.result c.args.nodes.now c.node-at.ensures.next
+    c.slots-step-end.ensures
 
 pub returns-then-at-lt-MARKS : goal.returns-then-at-lt-MARKS
-returns-then-at-lt-MARKS c = seek_done c.args.moment c.slots-step-end.result c.loop-step._step c.args.nodes.now c.loop-step.at c.if-at-lt-MARKS.true c.loop-step.invariant
+returns-then-at-lt-MARKS c =
+    seek_done c.args.moment c.slots-step-end.result c.loop-step._step c.args.nodes.now c.loop-step.at c.if-at-lt-MARKS.true
+    c.loop-step.invariant
 
 pub is_due-requires : goal.is_due-requires
-is_due-requires c = (seek_place c.requires.0 c.requires.1 c.args.moment c.slots-step-end.result c.loop-step._step c.args.nodes.now c.loop-step.at c.if-at-lt-MARKS.false c.requires.2 c.loop-step.invariant).own
+is_due-requires c =
+    (seek_place c.requires.0 c.requires.1 c.args.moment c.slots-step-end.result c.loop-step._step c.args.nodes.now c.loop-step.at
+    c.if-at-lt-MARKS.false c.requires.2 c.loop-step.invariant).own
 
 pub node-at-requires-in-loop-step : goal.node-at-requires-in-loop-step
-node-at-requires-in-loop-step c = (seek_place c.requires.0 c.requires.1 c.args.moment c.slots-step-end.result c.loop-step._step c.args.nodes.now c.loop-step.at c.if-at-lt-MARKS.false c.requires.2 c.loop-step.invariant).own
+node-at-requires-in-loop-step c =
+    (seek_place c.requires.0 c.requires.1 c.args.moment c.slots-step-end.result c.loop-step._step c.args.nodes.now c.loop-step.at
+    c.if-at-lt-MARKS.false c.requires.2 c.loop-step.invariant).own
 
 pub loop-step-preserved : goal.loop-step-preserved
-loop-step-preserved c = seek_over c.args.moment c.slots-step-end.result c.loop-step._step c.node-at-in-loop-step.result.next c.args.nodes.now c.loop-step.at c.if-at-lt-MARKS.false c.node-at-in-loop-step.ensures.next (sym c.is_due.ensures ∙ c.if-is_due.false) c.loop-step.invariant
+loop-step-preserved c =
+    seek_over c.args.moment c.slots-step-end.result c.loop-step._step c.node-at-in-loop-step.result.next c.args.nodes.now
+    c.loop-step.at c.if-at-lt-MARKS.false c.node-at-in-loop-step.ensures.next
+    (sym c.is_due.ensures ∙ c.if-is_due.false) c.loop-step.invariant
 
 pub returns : goal.returns
-returns c = seek_ends c.args.moment c.slots-step-end.result c.loop-step._step c.args.nodes.now c.loop-step.at (omega arith) c.loop-step.invariant
+returns c =
+    seek_ends c.args.moment c.slots-step-end.result c.loop-step._step c.args.nodes.now c.loop-step.at
+    (omega arith) c.loop-step.invariant

@@ -4,4 +4,11 @@ use Rattle.test_server.proofs.serving.a_client_is_served_and_the_server_ends_wit
 
 -- the hall over the table that was opened for these users
 abbrev pub ghosts-serve : goal.ghosts-serve
-ghosts-serve g a = record { table = a.beginning.opened; terms = record { begins = map fresh_cache a.beginning.settings.users; seats = a.beginning.settings.workers; journal = a.beginning.settings.journal } }
+ghosts-serve g a = record {
+  table = a.beginning.opened;
+  terms = record {
+    begins = map fresh_cache a.beginning.settings.users;
+    seats = a.beginning.settings.workers;
+    journal = a.beginning.settings.journal;
+  };
+}

@@ -16,4 +16,5 @@ returns-clause-state g c =
 pub returns-clause-settled : goal.returns-clause-settled
 returns-clause-settled g c =
     subst (λ (k : UserCache). IfOk c.freeze.result (λ plain. plain ≡ k))
-    (c.maintain.ensures.advanced ∙ is_settled c.self.invariant.start _ _ c.self.invariant.stands ∙ ap (λ (b : BookState). b.settled) c.self.view_is) c.freeze.ensures.settled
+    (c.maintain.ensures.advanced ∙ is_settled c.self.invariant.start _ _ c.self.invariant.stands
+    ∙ ap (λ (b : BookState). b.settled) c.self.view_is) c.freeze.ensures.settled

@@ -13,7 +13,8 @@ returns-then-user-number-clause-some g c =
     subst (λ (k : ClosedState). IsBookOf c.args.user k.books x) c.self.view_is
     (book_found c.args.user c.self.inside.books.items c.self.inside.all.me.0.books i x c.self.invariant.2
     (subst (λ (l : List ShutState). i < length l) e c.loop-shut-test.true)
-    (c.shut-item.is ∙ ap (λ (l : List ShutState). get_or l i x) e) (sym c.user.ensures ∙ c.if-user-number.true ∙ c.number-number.ensures))
+    (c.shut-item.is ∙ ap (λ (l : List ShutState). get_or l i x) e)
+    (sym c.user.ensures ∙ c.if-user-number.true ∙ c.number-number.ensures))
 
 pub returns-then-user-number-clause-known : goal.returns-then-user-number-clause-known
 returns-then-user-number-clause-known g c =
@@ -23,7 +24,8 @@ returns-then-user-number-clause-known g c =
     user_known g.N.Naming.terms c.args.user (with_logs c.self.inside.books.items c.self.inside.all.me.0.books) x
     (book_found c.args.user c.self.inside.books.items c.self.inside.all.me.0.books i x c.self.invariant.2
     (subst (λ (l : List ShutState). i < length l) e c.loop-shut-test.true)
-    (c.shut-item.is ∙ ap (λ (l : List ShutState). get_or l i x) e) (sym c.user.ensures ∙ c.if-user-number.true ∙ c.number-number.ensures))
+    (c.shut-item.is ∙ ap (λ (l : List ShutState). get_or l i x) e)
+    (sym c.user.ensures ∙ c.if-user-number.true ∙ c.number-number.ensures))
     c.self.invariant.0
 
 pub returns-then-user-number-clause-first : goal.returns-then-user-number-clause-first
@@ -34,19 +36,27 @@ returns-then-user-number-clause-first g c =
     subst (λ (k : ClosedState). Some x.book ≡ book_of c.args.user k.books) c.self.view_is
     (book_of-found c.args.user c.self.inside.books.items c.self.inside.all.me.0.books i x c.self.invariant.2
     (subst (λ (l : List ShutState). i < length l) e c.loop-shut-test.true)
-    (c.shut-item.is ∙ ap (λ (l : List ShutState). get_or l i x) e) (sym c.user.ensures ∙ c.if-user-number.true ∙ c.number-number.ensures)
-    (subst (λ (l : List ShutState × ℕ). All (λ (s : ShutState). (s.user == l.1) ≡ false) (take i l.0)) (λ j. (e j, c.number-number.ensures j)) c.loop-shut.invariant))
+    (c.shut-item.is ∙ ap (λ (l : List ShutState). get_or l i x) e)
+    (sym c.user.ensures ∙ c.if-user-number.true ∙ c.number-number.ensures)
+    (subst (λ (l : List ShutState × ℕ). All (λ (s : ShutState). (s.user == l.1) ≡ false) (take i l.0))
+    (λ j. (e j, c.number-number.ensures j)) c.loop-shut.invariant))
 
 pub returns-clause-first : goal.returns-clause-first
 returns-clause-first g c =
     let e = c.deref-shut-items.ensures.value in
     subst (λ (k : ClosedState). None ≡ book_of c.args.user k.books) c.self.view_is
     (book_of-none c.args.user c.self.inside.books.items c.self.inside.all.me.0.books
-    (subst (λ (l : List ShutState × ℕ). All (λ (s : ShutState). (s.user == l.1) ≡ false) l.0) (λ j. ((take_all c.loop-shut.shut-index c.deref-shut-items.result.now c.loop-shut-test.false ∙ e) j, c.number-number.ensures j)) c.loop-shut.invariant))
+    (subst (λ (l : List ShutState × ℕ). All (λ (s : ShutState). (s.user == l.1) ≡ false) l.0)
+    (λ j. (
+      (take_all c.loop-shut.shut-index c.deref-shut-items.result.now c.loop-shut-test.false ∙ e) j,
+      c.number-number.ensures j,
+    )) c.loop-shut.invariant))
 
 pub returns-clause-none : goal.returns-clause-none
 returns-clause-none g c =
     let e = c.deref-shut-items.ensures.value in
     λ is. none_found c.number-number.result c.self.inside.books.items c.self.inside.all.me.0.books
-    (subst (λ (l : List ShutState). All (λ (s : ShutState). (s.user == c.number-number.result) ≡ false) l) (take_all c.loop-shut.shut-index c.deref-shut-items.result.now c.loop-shut-test.false ∙ e) c.loop-shut.invariant)
-    (subst (λ (u : ℕ). HasUser u (with_logs c.self.inside.books.items c.self.inside.all.me.0.books)) (sym c.number-number.ensures) (c.self.invariant.3 c.args.user is))
+    (subst (λ (l : List ShutState). All (λ (s : ShutState). (s.user == c.number-number.result) ≡ false) l)
+    (take_all c.loop-shut.shut-index c.deref-shut-items.result.now c.loop-shut-test.false ∙ e) c.loop-shut.invariant)
+    (subst (λ (u : ℕ). HasUser u (with_logs c.self.inside.books.items c.self.inside.all.me.0.books)) (sym c.number-number.ensures)
+    (c.self.invariant.3 c.args.user is))

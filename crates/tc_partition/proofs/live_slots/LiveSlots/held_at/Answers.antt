@@ -9,7 +9,8 @@ use Rattle.tc_partition.specs.WaitingSlots.{SeeksSlot}
 use Rattle.tc_partition.proofs.live_slots.LiveSlots.held_at.Goals as goal
 
 -- a reference to what is held shows it
-shows : (r : Option (Bor Entry)) (o : Option Entry) (e : Entry) → option_copied r ≡ Some e → o ≡ Some e → MatchOption r (o ≡ None) (λ x. o ≡ Some x.now)
+shows : (r : Option (Bor Entry)) (o : Option Entry) (e : Entry) → option_copied r ≡ Some e → o ≡ Some e
+    → MatchOption r (o ≡ None) (λ x. o ≡ Some x.now)
 shows None o e f g = absurd (cc (f))
 shows (Some x) o e f g = g ∙ sym f
 

@@ -10,7 +10,8 @@ use Rattle.tc_partition.proofs.live_slots.LiveSlots.seek_from.Goals as goal
 
 pub returns-in_err-slot : goal.returns-in_err-slot
 returns-in_err-slot c =
-    rw c.from_residual.ensures (held_later c.args.key.now c.args.moment (live_of c.args.self.now) None (sym c.if-is_flush_due.ensures)
+    rw c.from_residual.ensures
+    (held_later c.args.key.now c.args.moment (live_of c.args.self.now) None (sym c.if-is_flush_due.ensures)
     (held_kept_none c.args.key.now (lives c.args.moment) c.args.self.now.held.areas c.in_err-slot.ensures.0))
 
 pub returns-then-alive : goal.returns-then-alive
@@ -21,7 +22,8 @@ returns-then-alive c =
       sym c.in-Some.ensures,
       sym (ap (λ (z : Entry). z.key) same) ∙ f.own,
       held_later c.args.key.now c.args.moment (live_of c.args.self.now) (Some c.in-Some.entry.now) (sym c.if-is_flush_due.ensures)
-          (held_kept c.args.key.now (lives c.args.moment) c.args.self.now.held.areas f.entry (c.requires.once c.args.key.now) f.held
+          (held_kept c.args.key.now (lives c.args.moment) c.args.self.now.held.areas f.entry
+          (c.requires.once c.args.key.now) f.held
           ∙ ap (λ (z : Entry). cond (lives c.args.moment z) (Some z) None) same
           ∙ ap (λ b. cond b (Some c.in-Some.entry.now) None) (sym c.if-alive.ensures)),
     )

@@ -1,7 +1,7 @@
 use Rattle.std.proofs.Common.{◌≡◌, sym, ◌∙◌, ap, subst, arith}
 use Rattle.tc_model.specs.Areas.{Limits, total}
 use Rattle.tc_plain.specs.Entries.{weight}
-use Rattle.tc_plain.specs.Live.{Live, advanced}
+use Rattle.tc_plain.specs.EvictionState.{EvictionState, advanced}
 use Rattle.tc_plain.specs.UserCache.{advance}
 use Rattle.tc_plain.specs.Plans.{IsLightPlan}
 use Rattle.tc_plain.proofs.Advances.{limits-at_moment}
@@ -15,22 +15,23 @@ use Rattle.tc_partition.proofs.slot_cache.SlotCache.change.Goals as goal
 pub carry_out-requires-clause-weight : goal.carry_out-requires-clause-weight
 carry_out-requires-clause-weight c =
     let k = cache_of c.args.self.now in
-    let come = c.advance.ensures.live ∙ ap (λ (l : Live). advanced l c.args.now) c.make_room.ensures.live in
-    let same : total weight c.advance.new.self.held.areas ≡ total weight (advance k c.args.now).live.areas = ap (λ (l : Live). total weight l.areas) come in
+    let come = c.advance.ensures.live ∙ ap (λ (l : EvictionState). advanced l c.args.now) c.make_room.ensures.live in
+    let same : total weight c.advance.new.self.held.areas ≡ total weight (advance k c.args.now).live.areas =
+    ap (λ (l : EvictionState). total weight l.areas) come in
     omega (arith, same, weighs_little (advance k c.args.now) (sound_advance k c.args.now c.requires.fast))
 
 pub carry_out-requires-clause-light : goal.carry_out-requires-clause-light
 carry_out-requires-clause-light c =
     let k = cache_of c.args.self.now in
-    let come = c.advance.ensures.live ∙ ap (λ (l : Live). advanced l c.args.now) c.make_room.ensures.live in
-    let same = ap (λ (l : Live). l.limits) come ∙ limits-at_moment _ k.live in
+    let come = c.advance.ensures.live ∙ ap (λ (l : EvictionState). advanced l c.args.now) c.make_room.ensures.live in
+    let same = ap (λ (l : EvictionState). l.limits) come ∙ limits-at_moment _ k.live in
     subst (λ (l : Limits). IsLightPlan l (plan_of c.args.work)) (sym same) c.requires.light
 
 pub carry_out-requires-clause-main : goal.carry_out-requires-clause-main
 carry_out-requires-clause-main c =
     let k = cache_of c.args.self.now in
-    let come = c.advance.ensures.live ∙ ap (λ (l : Live). advanced l c.args.now) c.make_room.ensures.live in
-    let same = ap (λ (l : Live). l.limits.main) come in
+    let come = c.advance.ensures.live ∙ ap (λ (l : EvictionState). advanced l c.args.now) c.make_room.ensures.live in
+    let same = ap (λ (l : EvictionState). l.limits.main) come in
     omega (arith, same, main_small (advance k c.args.now) (sound_advance k c.args.now c.requires.fast))
 
 pub carry_out-requires-clause-room : goal.carry_out-requires-clause-room

@@ -1,5 +1,5 @@
 use Rattle.std.proofs.Common.{sym, ◌∙◌, ap}
-use Rattle.tc_plain.specs.Live.{Live}
+use Rattle.tc_plain.specs.EvictionState.{EvictionState}
 use Rattle.tc_plain.specs.Placing.{without_key}
 use Rattle.tc_plain.specs.UserCache.{advance}
 use Rattle.tc_plain.specs.Doing.{with_live}
@@ -12,7 +12,7 @@ returns-then-remove-clause-state c =
     let k = cache_of c.args.self.now in
     let key = c.args.key.now in
     ap (with_live k) c.remove.ensures.live
-    ∙ ap (λ (j : Live). with_live k (record j { areas = without_key key j.areas })) c.advance.ensures.live
+    ∙ ap (λ (j : EvictionState). with_live k (record j { areas = without_key key j.areas })) c.advance.ensures.live
     ∙ sym (deleted_leaves key (advance k c.args.now))
 
 pub returns-else-remove-clause-state : goal.returns-else-remove-clause-state
@@ -20,5 +20,5 @@ returns-else-remove-clause-state c =
     let k = cache_of c.args.self.now in
     let key = c.args.key.now in
     ap (with_live k) c.remove.ensures.live
-    ∙ ap (λ (j : Live). with_live k (record j { areas = without_key key j.areas })) c.advance.ensures.live
+    ∙ ap (λ (j : EvictionState). with_live k (record j { areas = without_key key j.areas })) c.advance.ensures.live
     ∙ sym (deleted_leaves key (advance k c.args.now))

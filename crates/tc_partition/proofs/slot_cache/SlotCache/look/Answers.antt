@@ -1,5 +1,5 @@
 use Rattle.std.proofs.Common.{sym, subst}
-use Rattle.tc_plain.specs.Live.{Live}
+use Rattle.tc_plain.specs.EvictionState.{EvictionState}
 use Rattle.tc_plain.specs.Doing.{with_live}
 use Rattle.tc_plain.specs.Soundness.{IsSound}
 use Rattle.tc_plain.proofs.Stays.{sound_advance}
@@ -14,11 +14,15 @@ look_up-requires c = c.requires.areas
 pub look_all-requires-clause-sound : goal.look_all-requires-clause-sound
 look_all-requires-clause-sound c =
     let k = cache_of c.args.self.now in
-    let h : IsSound (with_live k (live_of c.advance.new.self)) = subst (λ (l : Live). IsSound (with_live k l)) (sym c.advance.ensures.live) (sound_advance k c.args.now c.requires) in
+    let h : IsSound (with_live k (live_of c.advance.new.self)) =
+    subst (λ (l : EvictionState). IsSound (with_live k l)) (sym c.advance.ensures.live)
+    (sound_advance k c.args.now c.requires) in
     h.areas
 
 pub look_all-requires-clause-light : goal.look_all-requires-clause-light
 look_all-requires-clause-light c =
     let k = cache_of c.args.self.now in
-    let h : IsSound (with_live k (live_of c.advance.new.self)) = subst (λ (l : Live). IsSound (with_live k l)) (sym c.advance.ensures.live) (sound_advance k c.args.now c.requires) in
+    let h : IsSound (with_live k (live_of c.advance.new.self)) =
+    subst (λ (l : EvictionState). IsSound (with_live k l)) (sym c.advance.ensures.live)
+    (sound_advance k c.args.now c.requires) in
     both_small (with_live k (live_of c.advance.new.self)) h

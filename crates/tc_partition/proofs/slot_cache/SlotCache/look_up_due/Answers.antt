@@ -11,14 +11,22 @@ use Rattle.tc_partition.proofs.slot_cache.SlotCache.look_up_due.Goals as goal
 pub returns-clause-outcome : goal.returns-clause-outcome
 returns-clause-outcome c =
     let k = advance (cache_of c.args.self.now) c.args.now in
-    subst (λ d. IfOk c.look_up.result (λ r. r.0 ≡ (as_values k (all_looked_up (change_of (Some d)) c.args.keys.now k.live)).0)) (c.due-due.ensures ∙ ap (λ z. due_of z k.live.moment) (to_z-of_z {w = w64} {z = c.args.exptime} c.ranges.exptime)) c.look_up.ensures.outcome
+    subst (λ d. IfOk c.look_up.result (λ r. r.0 ≡ (as_values k (all_looked_up (change_of (Some d)) c.args.keys.now k.live)).0))
+    (c.due-due.ensures ∙ ap (λ z. due_of z k.live.moment) (to_z-of_z {w = w64} {z = c.args.exptime} c.ranges.exptime))
+    c.look_up.ensures.outcome
 
 pub returns-clause-kept : goal.returns-clause-kept
 returns-clause-kept c =
     let k = advance (cache_of c.args.self.now) c.args.now in
-    subst (λ d. IfOk c.look_up.result (λ r. r.1 ≡ (as_values k (all_looked_up (change_of (Some d)) c.args.keys.now k.live)).0)) (c.due-due.ensures ∙ ap (λ z. due_of z k.live.moment) (to_z-of_z {w = w64} {z = c.args.exptime} c.ranges.exptime)) c.look_up.ensures.kept
+    subst (λ d. IfOk c.look_up.result (λ r. r.1 ≡ (as_values k (all_looked_up (change_of (Some d)) c.args.keys.now k.live)).0))
+    (c.due-due.ensures ∙ ap (λ z. due_of z k.live.moment) (to_z-of_z {w = w64} {z = c.args.exptime} c.ranges.exptime))
+    c.look_up.ensures.kept
 
 pub returns-clause-state : goal.returns-clause-state
 returns-clause-state c =
     let k = advance (cache_of c.args.self.now) c.args.now in
-    subst (λ d. OnOk c.look_up.result (cache_of c.look_up.new.self ≡ (as_values k (all_looked_up (change_of (Some d)) c.args.keys.now k.live)).1)) (c.due-due.ensures ∙ ap (λ z. due_of z k.live.moment) (to_z-of_z {w = w64} {z = c.args.exptime} c.ranges.exptime)) c.look_up.ensures.state
+    subst
+    (λ d. OnOk c.look_up.result
+    (cache_of c.look_up.new.self ≡ (as_values k (all_looked_up (change_of (Some d)) c.args.keys.now k.live)).1))
+    (c.due-due.ensures ∙ ap (λ z. due_of z k.live.moment) (to_z-of_z {w = w64} {z = c.args.exptime} c.ranges.exptime))
+    c.look_up.ensures.state

@@ -16,7 +16,11 @@ returns-in-Refused-clause-plan c =
     let head = c.args.head.now in
     let k = cache_of c.args.self.now in
     ap (λ b. accepted (advance k now) head.key (offer_of (k.last + 1) b)) (sym c.in-Refused.is)
-    ∙ stored_by k now c.later-moment.result head c.args.blob.now head.key c.in_ok-end.field-0 c.held_at-held.result c.later-moment.ensures refl (c.held_at-held.ensures _ _ (subst (λ t. SeeksSlot c.args.place t head.key c.args.self.now.live) (sym c.later-moment.ensures) c.requires.place)) c.in_ok-end.ensures
+    ∙ stored_by k now c.later-moment.result head c.args.blob.now head.key c.in_ok-end.field-0 c.held_at-held.result
+    c.later-moment.ensures refl
+    (c.held_at-held.ensures _ _
+    (subst (λ t. SeeksSlot c.args.place t head.key c.args.self.now.live) (sym c.later-moment.ensures) c.requires.place))
+    c.in_ok-end.ensures
 
 pub returns-in-Offered-clause-plan : goal.returns-in-Offered-clause-plan
 returns-in-Offered-clause-plan c =
@@ -27,9 +31,14 @@ returns-in-Offered-clause-plan c =
     IfOk-weaker c.plan_item.result _ _ (λ plan h.
     h (advance k now) refl main
     ∙ ap (λ b. accepted (advance k now) head.key (offer_of (k.last + 1) b)) (sym c.in-Offered.is)
-    ∙ stored_by k now c.later-moment.result head c.args.blob.now head.key c.in_ok-end.field-0 c.held_at-held.result c.later-moment.ensures refl (c.held_at-held.ensures _ _ (subst (λ t. SeeksSlot c.args.place t head.key c.args.self.now.live) (sym c.later-moment.ensures) c.requires.place)) c.in_ok-end.ensures
+    ∙ stored_by k now c.later-moment.result head c.args.blob.now head.key c.in_ok-end.field-0 c.held_at-held.result
+    c.later-moment.ensures refl
+    (c.held_at-held.ensures _ _
+    (subst (λ t. SeeksSlot c.args.place t head.key c.args.self.now.live) (sym c.later-moment.ensures) c.requires.place))
+    c.in_ok-end.ensures
     ) c.plan_item.ensures.plan
 
 pub returns-in-Offered-clause-light : goal.returns-in-Offered-clause-light
 returns-in-Offered-clause-light c =
-    IfOk-weaker c.plan_item.result _ _ (λ plan h. h (cache_of c.args.self.now).live.limits (sym c.heaviest-main.ensures)) c.plan_item.ensures.light
+    IfOk-weaker c.plan_item.result _ _ (λ plan h. h (cache_of c.args.self.now).live.limits (sym c.heaviest-main.ensures))
+    c.plan_item.ensures.light

@@ -15,31 +15,49 @@ pub access-requires-clause-held : goal.access-requires-clause-held
 access-requires-clause-held c =
     let i = c.self.inside in
     let f = c.requires.found in
-    let at : slab_get i.entries c.args.slot.0 ≡ Some f.entry = ap (λ (z : Held). slice_index_or z.slots c.args.slot.0 None) c.self.view_is ∙ f.at in
+    let at : slab_get i.entries c.args.slot.0 ≡ Some f.entry =
+    ap (λ (z : Held). slice_index_or z.slots c.args.slot.0 None) c.self.view_is ∙ f.at in
     holds_entry i.index i.entries i.lists i.wheel c.self.invariant.agree f.entry c.args.slot i.index i.entries at
 
 pub access-requires-clause-light : goal.access-requires-clause-light
 access-requires-clause-light c =
     let i = c.self.inside in
     let f = c.requires.found in
-    let at : slab_get i.entries c.args.slot.0 ≡ Some f.entry = ap (λ (z : Held). slice_index_or z.slots c.args.slot.0 None) c.self.view_is ∙ f.at in
-    omega (arith, c.weight_at-weight.ensures f.entry at, c.requires.light f.entry f.held, ap (λ (z : Held). z.limits.main) c.self.view_is)
+    let at : slab_get i.entries c.args.slot.0 ≡ Some f.entry =
+    ap (λ (z : Held). slice_index_or z.slots c.args.slot.0 None) c.self.view_is ∙ f.at in
+    omega (
+      arith,
+      c.weight_at-weight.ensures f.entry at,
+      c.requires.light f.entry f.held,
+      ap (λ (z : Held). z.limits.main) c.self.view_is,
+    )
 
 pub access-requires-clause-fits : goal.access-requires-clause-fits
 access-requires-clause-fits c =
     let i = c.self.inside in
     let f = c.requires.found in
-    let at : slab_get i.entries c.args.slot.0 ≡ Some f.entry = ap (λ (z : Held). slice_index_or z.slots c.args.slot.0 None) c.self.view_is ∙ f.at in
-    omega (arith, others_weigh i.index i.entries i.lists i.wheel c.self.invariant.agree f.entry c.args.slot at, ap (λ (z : Held). total weight z.areas) c.self.view_is, c.weight_at-weight.ensures f.entry at, c.requires.fits f.entry f.held)
+    let at : slab_get i.entries c.args.slot.0 ≡ Some f.entry =
+    ap (λ (z : Held). slice_index_or z.slots c.args.slot.0 None) c.self.view_is ∙ f.at in
+    omega (
+      arith,
+      others_weigh i.index i.entries i.lists i.wheel c.self.invariant.agree f.entry c.args.slot at,
+      ap (λ (z : Held). total weight z.areas) c.self.view_is,
+      c.weight_at-weight.ensures f.entry at,
+      c.requires.fits f.entry f.held,
+    )
 
 pub invariant_of-self : goal.invariant_of-self
 invariant_of-self c =
     let i = c.self.inside in
     let f = c.requires.found in
     let e = f.entry in
-    let at : slab_get i.entries c.args.slot.0 ≡ Some e = ap (λ (z : Held). slice_index_or z.slots c.args.slot.0 None) c.self.view_is ∙ f.at in
+    let at : slab_get i.entries c.args.slot.0 ≡ Some e =
+    ap (λ (z : Held). slice_index_or z.slots c.args.slot.0 None) c.self.view_is ∙ f.at in
     record {
-      agree = slots_replaced i.index i.entries i.lists i.wheel c.self.invariant.agree e e c.args.slot at refl c.weight_at-weight.result (c.weight_at-weight.ensures e at) i.entries (put_same (slab_get i.entries) c.args.slot.0 e at) c.access.new.self c.access.ensures
+      agree =
+          slots_replaced i.index i.entries i.lists i.wheel c.self.invariant.agree e e c.args.slot at refl
+          c.weight_at-weight.result (c.weight_at-weight.ensures e at) i.entries
+          (put_same (slab_get i.entries) c.args.slot.0 e at) c.access.new.self c.access.ensures
           i.wheel (time_same (slab_get i.entries) (due_at i.wheel.dues) c.args.slot.0 e at c.self.invariant.agree.timed);
       within = c.self.invariant.within;
     }
@@ -49,8 +67,12 @@ returns-clause-areas c = λ d h.
     let i = c.self.inside in
     let f = c.requires.found in
     let e = f.entry in
-    let at : slab_get i.entries c.args.slot.0 ≡ Some e = ap (λ (z : Held). slice_index_or z.slots c.args.slot.0 None) c.self.view_is ∙ f.at in
-    slots_replaced_areas i.index i.entries i.lists i.wheel c.self.invariant.agree e e c.args.slot at refl c.weight_at-weight.result (c.weight_at-weight.ensures e at) i.entries (put_same (slab_get i.entries) c.args.slot.0 e at) c.access.new.self c.access.ensures
+    let at : slab_get i.entries c.args.slot.0 ≡ Some e =
+    ap (λ (z : Held). slice_index_or z.slots c.args.slot.0 None) c.self.view_is ∙ f.at in
+    slots_replaced_areas i.index i.entries i.lists i.wheel c.self.invariant.agree e e c.args.slot at refl
+    c.weight_at-weight.result (c.weight_at-weight.ensures e at) i.entries
+    (put_same (slab_get i.entries) c.args.slot.0 e at) c.access.new.self c.access.ensures
     ∙ ap (λ (z : Held). accessed weight z.limits (has_key e.key) e z.areas) c.self.view_is
     ∙ ap (λ k. accessed weight c.args.self.now.limits (has_key k) e c.args.self.now.areas) f.own
-    ∙ ap (λ (z : Entry). accessed weight c.args.self.now.limits (has_key c.args.key.now) z c.args.self.now.areas) (some_same e d (sym f.held ∙ h))
+    ∙ ap (λ (z : Entry). accessed weight c.args.self.now.limits (has_key c.args.key.now) z c.args.self.now.areas)
+    (some_same e d (sym f.held ∙ h))

@@ -8,16 +8,23 @@ pub invariant_of-self : goal.invariant_of-self
 invariant_of-self c =
     let i = c.self.inside in
     record {
-      agree = slots_cleared c.clear.new.self c.clear-2.new.self i.lists c.clear-3.new.self i.wheel c.clear-4.new.self c.clear.ensures.empty c.clear-2.ensures.empty c.clear-3.ensures c.clear-4.ensures;
-      within = within_cleared c.clear.new.self c.clear-2.new.self i.lists c.clear-3.new.self i.wheel c.clear-4.new.self c.clear.ensures.empty c.clear-2.ensures.empty c.clear-3.ensures c.clear-4.ensures (length c.clear-4.new.self.dues);
+      agree =
+          slots_cleared c.clear.new.self c.clear-2.new.self i.lists c.clear-3.new.self i.wheel c.clear-4.new.self
+          c.clear.ensures.empty c.clear-2.ensures.empty c.clear-3.ensures c.clear-4.ensures;
+      within =
+          within_cleared c.clear.new.self c.clear-2.new.self i.lists c.clear-3.new.self i.wheel c.clear-4.new.self
+          c.clear.ensures.empty c.clear-2.ensures.empty c.clear-3.ensures c.clear-4.ensures (length c.clear-4.new.self.dues);
     }
 
 pub returns-clause-areas : goal.returns-clause-areas
 returns-clause-areas c =
     let i = c.self.inside in
-    slots_cleared_areas c.clear.new.self c.clear-2.new.self i.lists c.clear-3.new.self i.wheel c.clear-4.new.self c.clear.ensures.empty c.clear-2.ensures.empty c.clear-3.ensures c.clear-4.ensures
+    slots_cleared_areas c.clear.new.self c.clear-2.new.self i.lists c.clear-3.new.self i.wheel c.clear-4.new.self
+    c.clear.ensures.empty c.clear-2.ensures.empty c.clear-3.ensures c.clear-4.ensures
 
 pub returns-clause-room : goal.returns-clause-room
 returns-clause-room c = λ h.
     let i = c.self.inside in
-    room_cleared c.clear.new.self c.clear-2.new.self i.lists c.clear-3.new.self i.wheel c.clear-4.new.self c.clear.ensures.empty c.clear-2.ensures.empty c.clear-3.ensures c.clear-4.ensures i.index i.entries c.clear.ensures.capacity c.clear-2.ensures.capacity (ap (λ (z : Held). z.has_room) c.self.view_is ∙ h)
+    room_cleared c.clear.new.self c.clear-2.new.self i.lists c.clear-3.new.self i.wheel c.clear-4.new.self c.clear.ensures.empty
+    c.clear-2.ensures.empty c.clear-3.ensures c.clear-4.ensures i.index i.entries c.clear.ensures.capacity
+    c.clear-2.ensures.capacity (ap (λ (z : Held). z.has_room) c.self.view_is ∙ h)

@@ -13,7 +13,10 @@ returns c =
     let a = i.lists.areas in
     let k = c.self.invariant.agree.weighed in
     three_same _ _ _ _ _ _
-    (c.in_ok-window.ensures ∙ ap (entries_at S) (c.deref.ensures.value ∙ c.in_ok-first.ensures) ∙ copied_all S a.window (omega (arith, k)))
-    (c.in_ok-probation.ensures ∙ ap (entries_at S) (c.deref-2.ensures.value ∙ c.in_ok-second.ensures) ∙ copied_all S a.probation (omega (arith, k)))
-    (c.in_ok-protected.ensures ∙ ap (entries_at S) (c.deref-3.ensures.value ∙ c.in_ok-third.ensures) ∙ copied_all S a.protected (omega (arith, k)))
+    (c.in_ok-window.ensures ∙ ap (entries_at S) (c.deref.ensures.value ∙ c.in_ok-first.ensures)
+    ∙ copied_all S a.window (omega (arith, k)))
+    (c.in_ok-probation.ensures ∙ ap (entries_at S) (c.deref-2.ensures.value ∙ c.in_ok-second.ensures)
+    ∙ copied_all S a.probation (omega (arith, k)))
+    (c.in_ok-protected.ensures ∙ ap (entries_at S) (c.deref-3.ensures.value ∙ c.in_ok-third.ensures)
+    ∙ copied_all S a.protected (omega (arith, k)))
     ∙ ap (λ (z : Held). z.areas) c.self.view_is

@@ -2,7 +2,7 @@ use Rattle.std.specs.Prelude.{length}
 use Rattle.std.specs.Str.{bytes_eq}
 use Rattle.std.proofs.Common.{◌∙◌, ap}
 use Rattle.indexmap.specs.IndexMap.{get as index_get}
-use Rattle.tc_plain.specs.Live.{entries_of}
+use Rattle.tc_plain.specs.EvictionState.{entries_of}
 use Rattle.tc_wheel.specs.Dues.{due_at}
 use Rattle.tc_partition.specs.Held.{Held}
 use Rattle.tc_partition.proofs.Tally.{as_many}
@@ -11,4 +11,6 @@ use Rattle.tc_partition.proofs.slots.Slots.count.Goals as goal
 pub returns : goal.returns
 returns c =
     let i = c.self.inside in
-    c.len.ensures ∙ as_many (index_get bytes_eq i.index) i.entries.slots (due_at i.wheel.dues) i.lists.areas c.self.invariant.agree ∙ ap (λ (z : Held). length (entries_of z.areas)) c.self.view_is
+    c.len.ensures
+    ∙ as_many (index_get bytes_eq i.index) i.entries.slots (due_at i.wheel.dues) i.lists.areas c.self.invariant.agree
+    ∙ ap (λ (z : Held). length (entries_of z.areas)) c.self.view_is

@@ -9,23 +9,33 @@ use Rattle.tc_partition.proofs.slots.Slots.empty.Goals as goal
 pub remove-requires : goal.remove-requires
 remove-requires c =
     let i = c.self.inside in
-    let one = entry_of (slab_get i.entries c.args.slot.0) (subst (λ (z : Held). IsSome (slice_index_or z.slots c.args.slot.0 None)) (sym c.self.view_is) c.requires) in
-    holds_entry i.index i.entries i.lists i.wheel c.self.invariant.agree one.0 c.args.slot c.vacate.new.index c.vacate.new.entries one.1
+    let one = entry_of (slab_get i.entries c.args.slot.0)
+    (subst (λ (z : Held). IsSome (slice_index_or z.slots c.args.slot.0 None)) (sym c.self.view_is) c.requires) in
+    holds_entry i.index i.entries i.lists i.wheel c.self.invariant.agree one.0 c.args.slot c.vacate.new.index c.vacate.new.entries
+    one.1
 
 pub invariant_of-self : goal.invariant_of-self
 invariant_of-self c =
     let i = c.self.inside in
-    let one = entry_of (slab_get i.entries c.args.slot.0) (subst (λ (z : Held). IsSome (slice_index_or z.slots c.args.slot.0 None)) (sym c.self.view_is) c.requires) in
+    let one = entry_of (slab_get i.entries c.args.slot.0)
+    (subst (λ (z : Held). IsSome (slice_index_or z.slots c.args.slot.0 None)) (sym c.self.view_is) c.requires) in
     record {
-      agree = slots_emptied i.index i.entries i.lists i.wheel c.self.invariant.agree one.0 c.args.slot c.vacate.new.index c.vacate.new.entries one.1 (c.vacate.ensures one.0 one.1)
+      agree =
+          slots_emptied i.index i.entries i.lists i.wheel c.self.invariant.agree one.0 c.args.slot c.vacate.new.index
+          c.vacate.new.entries one.1 (c.vacate.ensures one.0 one.1)
           c.remove.new.self c.remove-2.new.self c.remove.ensures c.remove-2.ensures;
-      within = subst (λ n. AreWithin n (slab_get c.vacate.new.entries)) (sym (long_cleared i.wheel c.remove-2.new.self c.args.slot.0 c.remove-2.ensures))
-          (within_vacated (length i.wheel.dues) c.args.slot.0 (slab_get i.entries) (slab_get c.vacate.new.entries) (c.vacate.ensures one.0 one.1).entries c.self.invariant.within);
+      within =
+          subst (λ n. AreWithin n (slab_get c.vacate.new.entries))
+          (sym (long_cleared i.wheel c.remove-2.new.self c.args.slot.0 c.remove-2.ensures))
+          (within_vacated (length i.wheel.dues) c.args.slot.0 (slab_get i.entries) (slab_get c.vacate.new.entries)
+          (c.vacate.ensures one.0 one.1).entries c.self.invariant.within);
     }
 
 pub returns-clause-areas : goal.returns-clause-areas
 returns-clause-areas c = λ e h.
     let i = c.self.inside in
-    let at : slab_get i.entries c.args.slot.0 ≡ Some e = ap (λ (z : Held). slice_index_or z.slots c.args.slot.0 None) c.self.view_is ∙ h in
-    slots_emptied_areas i.index i.entries i.lists i.wheel c.self.invariant.agree e c.args.slot c.vacate.new.index c.vacate.new.entries at (c.vacate.ensures e at) c.remove.new.self c.remove.ensures
+    let at : slab_get i.entries c.args.slot.0 ≡ Some e =
+    ap (λ (z : Held). slice_index_or z.slots c.args.slot.0 None) c.self.view_is ∙ h in
+    slots_emptied_areas i.index i.entries i.lists i.wheel c.self.invariant.agree e c.args.slot c.vacate.new.index
+    c.vacate.new.entries at (c.vacate.ensures e at) c.remove.new.self c.remove.ensures
     ∙ ap (λ (z : Held). without_key e.key z.areas) c.self.view_is

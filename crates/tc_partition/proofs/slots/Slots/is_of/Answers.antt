@@ -3,7 +3,7 @@ use Rattle.std.proofs.Common.{◌≡◌, Some, sym, ◌∙◌, ap, subst}
 use Rattle.std.proofs.lemmas.Slice.Eq.{bytes_eq-Decides}
 use Rattle.indexmap.specs.IndexMap.{get as index_get}
 use Rattle.slab.specs.Slab.{get as slab_get}
-use Rattle.tc_plain.specs.Live.{held}
+use Rattle.tc_plain.specs.EvictionState.{held}
 use Rattle.tc_wheel.specs.Dues.{due_at}
 use Rattle.tc_partition.specs.Agreement.{areas_by}
 use Rattle.tc_partition.specs.Held.{Held, IsFound}
@@ -20,5 +20,8 @@ returns-in-Some c = λ t.
       entry = e;
       at = at;
       own = own;
-      held = sym (ap (λ k. held k (areas_by (slab_get i.entries) i.lists.areas)) own) ∙ held_filled (index_get bytes_eq i.index) (slab_get i.entries) (due_at i.wheel.dues) i.lists.areas c.self.invariant.agree e c.args.slot at;
+      held =
+          sym (ap (λ k. held k (areas_by (slab_get i.entries) i.lists.areas)) own)
+          ∙ held_filled (index_get bytes_eq i.index) (slab_get i.entries)
+          (due_at i.wheel.dues) i.lists.areas c.self.invariant.agree e c.args.slot at;
     })

@@ -4,7 +4,7 @@ use Rattle.std.proofs.Common.{◌≡◌, None, Some, sym, ◌∙◌, ap}
 use Rattle.indexmap.specs.IndexMap.{get as index_get}
 use Rattle.slab.specs.Slab.{get as slab_get}
 use Rattle.tc_item.specs.declared.slot.Slot.{Slot}
-use Rattle.tc_plain.specs.Live.{held}
+use Rattle.tc_plain.specs.EvictionState.{held}
 use Rattle.tc_wheel.specs.Dues.{due_at}
 use Rattle.tc_partition.specs.Held.{Held}
 use Rattle.tc_partition.proofs.Looked.{held_filled}
@@ -15,4 +15,6 @@ returns c = λ n e h.
     let i = c.self.inside in
     let v : Slot = record { 0 = n } in
     let at : slab_get i.entries n ≡ Some e = ap (λ (z : Held). slice_index_or z.slots n None) c.self.view_is ∙ h in
-    sym (ap (λ (z : Held). held e.key z.areas) c.self.view_is) ∙ held_filled (index_get bytes_eq i.index) (slab_get i.entries) (due_at i.wheel.dues) i.lists.areas c.self.invariant.agree e v at
+    sym (ap (λ (z : Held). held e.key z.areas) c.self.view_is)
+    ∙ held_filled (index_get bytes_eq i.index) (slab_get i.entries) (due_at i.wheel.dues) i.lists.areas c.self.invariant.agree e v
+    at

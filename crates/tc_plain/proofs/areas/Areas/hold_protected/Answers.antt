@@ -5,7 +5,8 @@ use Rattle.tc_plain.proofs.areas.Areas.hold_protected.Goals as goal
 
 pub loop-last-preserved : goal.loop-last-preserved
 loop-last-preserved c =
-    holding_moves c.args.most c.args.self.now c.loop-last.self _ c.in-Some.last c.loop-last.invariant refl c.put_first.ensures.items c.in-Some.ensures.popped.0 c.in-Some.ensures.popped.1
+    holding_moves c.args.most c.args.self.now c.loop-last.self _ c.in-Some.last c.loop-last.invariant refl
+    c.put_first.ensures.items c.in-Some.ensures.popped.0 c.in-Some.ensures.popped.1
     (record {
       count = omega (arith, c.put_first.ensures.len, c.in-Some.ensures.len);
       window = refl;
@@ -16,4 +17,5 @@ loop-last-preserved c =
 pub returns-clause-areas : goal.returns-clause-areas
 returns-clause-areas c = λ limits same.
     let b = c.loop-last.self in
-    ap (λ t. areas_by b.window.items b.probation.items t) c.in_default.ensures.popped.0 ∙ holding_ends c.args.most c.args.self.now b limits c.loop-last.invariant c.in_default.ensures.popped.1 same
+    ap (λ t. areas_by b.window.items b.probation.items t) c.in_default.ensures.popped.0
+    ∙ holding_ends c.args.most c.args.self.now b limits c.loop-last.invariant c.in_default.ensures.popped.1 same

@@ -4,7 +4,8 @@ use Rattle.tc_plain.proofs.Dropping.{IsAdmitting}
 use Rattle.tc_plain.proofs.areas.Areas.settle.Given as goal
 
 abbrev pub invariant-loop-candidate : goal.invariant-loop-candidate
-invariant-loop-candidate l = IsAdmitting (frequency_in l.sketch) l.fn.limits l.fn.evictions (areas_of l.fn.self) l.evictions l.self
+invariant-loop-candidate l =
+    IsAdmitting (frequency_in l.sketch) l.fn.limits l.fn.evictions (areas_of l.fn.self) l.evictions l.self
 
 abbrev pub decreases-loop-candidate : goal.decreases-loop-candidate
 decreases-loop-candidate l = length l.self.window.items

@@ -14,10 +14,18 @@ returns-in-Refused-clause-plan c =
     let now = c.args.now in
     let head = c.args.head.now in
     let i = c.self.inside in
-    let k : UserCache = record { budget = i.budget; largest = i.largest; live = live_of i.live; last = i.last; counters = i.counters } in
-    subst (λ (s : UserCache). (outcome_of c.in-Refused.end, advance s now) ≡ stored (advance s now) head c.args.blob.now) c.self.view_is (
+    let k : UserCache = record {
+      budget = i.budget;
+      largest = i.largest;
+      live = live_of i.live;
+      last = i.last;
+      counters = i.counters;
+    } in
+    subst (λ (s : UserCache). (outcome_of c.in-Refused.end, advance s now) ≡ stored (advance s now) head c.args.blob.now)
+    c.self.view_is (
     ap (λ b. accepted (advance k now) head.key (offer_of (k.last + 1) b)) (sym c.in-Refused.is)
-    ∙ stored_by k now c.later-moment.result head c.args.blob.now c.as_bytes.result.now c.in_ok-end.field-0 c.peek-held.result c.later-moment.ensures c.as_bytes.ensures.bytes c.peek-held.ensures c.in_ok-end.ensures
+    ∙ stored_by k now c.later-moment.result head c.args.blob.now c.as_bytes.result.now c.in_ok-end.field-0 c.peek-held.result
+    c.later-moment.ensures c.as_bytes.ensures.bytes c.peek-held.ensures c.in_ok-end.ensures
     )
 
 pub returns-in-Offered-clause-plan : goal.returns-in-Offered-clause-plan
@@ -25,11 +33,18 @@ returns-in-Offered-clause-plan c =
     let now = c.args.now in
     let head = c.args.head.now in
     let i = c.self.inside in
-    let k : UserCache = record { budget = i.budget; largest = i.largest; live = live_of i.live; last = i.last; counters = i.counters } in
+    let k : UserCache = record {
+      budget = i.budget;
+      largest = i.largest;
+      live = live_of i.live;
+      last = i.last;
+      counters = i.counters;
+    } in
     let main = ap (λ (l : Limits). l.main) (limits-at_moment _ k.live) in
     IfOk-weaker c.plan_item.result _ _ (λ plan h.
     subst (λ (s : UserCache). planned (advance s now) plan ≡ stored (advance s now) head c.args.blob.now) c.self.view_is (
     h (advance k now) refl (main ∙ sym c.main_limit.ensures)
     ∙ ap (λ b. accepted (advance k now) head.key (offer_of (k.last + 1) b)) (sym c.in-Offered.is)
-    ∙ stored_by k now c.later-moment.result head c.args.blob.now c.as_bytes.result.now c.in_ok-end.field-0 c.peek-held.result c.later-moment.ensures c.as_bytes.ensures.bytes c.peek-held.ensures c.in_ok-end.ensures
+    ∙ stored_by k now c.later-moment.result head c.args.blob.now c.as_bytes.result.now c.in_ok-end.field-0 c.peek-held.result
+    c.later-moment.ensures c.as_bytes.ensures.bytes c.peek-held.ensures c.in_ok-end.ensures
     )) c.plan_item.ensures.plan

@@ -23,7 +23,8 @@ returns-then-not-branch-clause-fault c =
     let cuts = lines_of-cut c.loop-line.rest.now (c.in-Some.line.now, c.in-Some.behind.now) c.in-Some.ensures.sides in
     let refused : c.in_ok-take_text.field-0 ≡ false = search rules in
     sym c.loop-line.invariant.reading ∙ (ap (reading_from s n) cuts
-    ∙ reading-refused s c.take_text.new.self n c.in-Some.line.now (lines_of c.in-Some.behind.now) c.in_ok-take_text.field-0 c.in_ok-take_text.ensures refused)
+    ∙ reading-refused s c.take_text.new.self n c.in-Some.line.now (lines_of c.in-Some.behind.now) c.in_ok-take_text.field-0
+    c.in_ok-take_text.ensures refused)
 
 pub loop-line-preserved : goal.loop-line-preserved
 loop-line-preserved c =
@@ -33,7 +34,8 @@ loop-line-preserved c =
     let taken : c.in_ok-take_text.field-0 ≡ true = search rules in
     record {
       reading =
-          sym (reading-taken s c.take_text.new.self n c.in-Some.line.now (lines_of c.in-Some.behind.now) c.in_ok-take_text.field-0 c.in_ok-take_text.ensures taken)
+          sym (reading-taken s c.take_text.new.self n c.in-Some.line.now
+          (lines_of c.in-Some.behind.now) c.in_ok-take_text.field-0 c.in_ok-take_text.ensures taken)
           ∙ (sym (ap (reading_from s n) cuts) ∙ c.loop-line.invariant.reading);
       numbers = omega (arith, c.in-Some.ensures.shorter, c.loop-line.invariant.numbers);
     }
@@ -45,7 +47,8 @@ returns-then-not-branch-2-clause-fault c =
     let alone = lines_of-alone c.loop-line.rest.now c.in_default.ensures.sides in
     let refused : c.in_ok-take_text-2.field-0 ≡ false = search rules in
     sym c.loop-line.invariant.reading ∙ (ap (reading_from s n) alone
-    ∙ reading-refused s c.take_text-2.new.self n c.loop-line.rest.now [] c.in_ok-take_text-2.field-0 c.in_ok-take_text-2.ensures refused)
+    ∙ reading-refused s c.take_text-2.new.self n c.loop-line.rest.now [] c.in_ok-take_text-2.field-0 c.in_ok-take_text-2.ensures
+    refused)
 
 pub returns-clause-script : goal.returns-clause-script
 returns-clause-script c =
@@ -54,5 +57,6 @@ returns-clause-script c =
     let alone = lines_of-alone c.loop-line.rest.now c.in_default.ensures.sides in
     let taken : c.in_ok-take_text-2.field-0 ≡ true = search rules in
     sym c.loop-line.invariant.reading ∙ (ap (reading_from s n) alone
-    ∙ (reading-taken s c.take_text-2.new.self n c.loop-line.rest.now [] c.in_ok-take_text-2.field-0 c.in_ok-take_text-2.ensures taken
+    ∙ (reading-taken s c.take_text-2.new.self n c.loop-line.rest.now [] c.in_ok-take_text-2.field-0 c.in_ok-take_text-2.ensures
+    taken
     ∙ reading-end c.take_text-2.new.self (n + 1)))

@@ -5,7 +5,8 @@ use Rattle.tc_slru.proofs.Reserved.{cleared_by}
 use Rattle.tc_slru.proofs.linked_areas.LinkedAreas.clear.Goals as goal
 
 pub invariant_of-self : goal.invariant_of-self
-invariant_of-self c = (cleared_by (length c.self.inside.nodes.next) c.clear.new.self c.clear.ensures.marks c.clear.ensures.nodes).0
+invariant_of-self c =
+    (cleared_by (length c.self.inside.nodes.next) c.clear.new.self c.clear.ensures.marks c.clear.ensures.nodes).0
 
 pub returns : goal.returns
 returns c =

@@ -5,17 +5,25 @@ use Rattle.tc_slru.proofs.linked_areas.LinkedAreas.shortfall.Goals as goal
 
 pub loop-victim-init : goal.loop-victim-init
 loop-victim-init g c =
-    walk_starts _ c.args.level c.args.need c.args.area c.self.inside.nodes c.self.inside.sizes c.args.self.now c.end_of-at.result (c.of-victim-end.result.count - 0) c.end_of-at.ensures (omega (arith, ap (λ (z : Size). z.count) c.of-victim-end.ensures)) c.self.view_is c.self.invariant
+    walk_starts _ c.args.level c.args.need c.args.area c.self.inside.nodes c.self.inside.sizes c.args.self.now c.end_of-at.result
+    (c.of-victim-end.result.count - 0) c.end_of-at.ensures (omega (arith, ap (λ (z : Size). z.count) c.of-victim-end.ensures))
+    c.self.view_is c.self.invariant
 
 pub returns-then-need-eq0 : goal.returns-then-need-eq0
 returns-then-need-eq0 g c =
-    walk_done _ _ c.args.level c.self.inside.nodes (c.of-victim-end.result.count - c.loop-victim._victim) c.loop-victim.at c.loop-victim.need c.if-need-eq0.true c.loop-victim.invariant
+    walk_done _ _ c.args.level c.self.inside.nodes (c.of-victim-end.result.count - c.loop-victim._victim) c.loop-victim.at
+    c.loop-victim.need c.if-need-eq0.true c.loop-victim.invariant
 
 pub returns-then-freq-level : goal.returns-then-freq-level
 returns-then-freq-level g c =
-    walk_stops _ _ c.args.level c.self.inside.nodes (c.of-victim-end.result.count - c.loop-victim._victim) c.loop-victim.at c.loop-victim.need c.node-at.result.prev c.freq.result (omega arith) c.if-need-eq0.false c.node-at.ensures.prev (omega arith) c.freq.ensures c.if-freq-level.true c.loop-victim.invariant
+    walk_stops _ _ c.args.level c.self.inside.nodes (c.of-victim-end.result.count - c.loop-victim._victim) c.loop-victim.at
+    c.loop-victim.need c.node-at.result.prev c.freq.result (omega arith) c.if-need-eq0.false c.node-at.ensures.prev
+    (omega arith) c.freq.ensures c.if-freq-level.true c.loop-victim.invariant
 
 pub loop-victim-preserved : goal.loop-victim-preserved
 loop-victim-preserved g c =
-    walk_goes _ _ c.args.level c.self.inside.nodes (c.of-victim-end.result.count - c.loop-victim._victim) (c.of-victim-end.result.count - (c.loop-victim._victim + 1)) c.loop-victim.at c.loop-victim.need c.node-at.result.prev c.freq.result c.node-node.result.weight c.saturating_sub-need.result
-    (omega arith) c.if-need-eq0.false c.node-at.ensures.prev (omega arith) c.node-node.ensures.weight c.freq.ensures c.if-freq-level.false c.saturating_sub-need.ensures c.loop-victim.invariant
+    walk_goes _ _ c.args.level c.self.inside.nodes (c.of-victim-end.result.count - c.loop-victim._victim)
+    (c.of-victim-end.result.count - (c.loop-victim._victim + 1)) c.loop-victim.at c.loop-victim.need c.node-at.result.prev
+    c.freq.result c.node-node.result.weight c.saturating_sub-need.result
+    (omega arith) c.if-need-eq0.false c.node-at.ensures.prev (omega arith) c.node-node.ensures.weight c.freq.ensures
+    c.if-freq-level.false c.saturating_sub-need.ensures c.loop-victim.invariant

@@ -6,4 +6,6 @@ use Rattle.tc_slru.proofs.Walked.{IsWalk}
 use Rattle.tc_slru.proofs.linked_areas.LinkedAreas.shortfall.Given as goal
 
 abbrev pub invariant-loop-victim : goal.invariant-loop-victim
-invariant-loop-victim g l = IsWalk (goal.F-post g l.freq) (λ seen. left_over seen l.fn.level l.fn.need (reverse (list_in l.fn.area l.fn.self.areas))) l.fn.level l.self-inside.nodes (l._victim-end - l._victim) l.at l.need
+invariant-loop-victim g l =
+    IsWalk (goal.F-post g l.freq) (λ seen. left_over seen l.fn.level l.fn.need (reverse (list_in l.fn.area l.fn.self.areas)))
+    l.fn.level l.self-inside.nodes (l._victim-end - l._victim) l.at l.need

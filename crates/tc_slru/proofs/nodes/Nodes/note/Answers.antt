@@ -3,4 +3,8 @@ use Rattle.tc_slru.proofs.Writes.{note_behind}
 use Rattle.tc_slru.proofs.nodes.Nodes.note.Goals as goal
 
 pub returns : goal.returns
-returns c = rw (← c.self.view_is) (note_behind c.self.inside.marks c.self.inside.rest.items c.args.at c.args.weight (Some c.args.area) c.index_mut-node.result.now c.requires.slot c.self.invariant (rw (← c.self.view_is) at c.requires.within) c.index_mut-node.ensures.value)
+returns c =
+    rw (← c.self.view_is)
+    (note_behind c.self.inside.marks c.self.inside.rest.items c.args.at c.args.weight
+    (Some c.args.area) c.index_mut-node.result.now c.requires.slot c.self.invariant
+    (rw (← c.self.view_is) at c.requires.within) c.index_mut-node.ensures.value)

@@ -6,5 +6,6 @@ use Rattle.tc_stats.proofs.outcome.Outcome.is.Goals as goal
 
 pub returns-in-Values-other : goal.returns-in-Values-other
 returns-in-Values-other c =
-    let same = slice_eq-Decides (λ (a : Hit) (b : Hit). search (comparing, rules)) c.in-Values.hits c.in-Values-other.found c.eq.result c.eq.ensures in
+    let same = slice_eq-Decides (λ (a : Hit) (b : Hit). search (comparing, rules)) c.in-Values.hits c.in-Values-other.found
+    c.eq.result c.eq.ensures in
     record { same = ((λ t. let hits = same.0 t in cc), (λ e. same.1 (cc))) }

@@ -13,4 +13,5 @@ pub returns-in-Ok-clause-memory : goal.returns-in-Ok-clause-memory
 returns-in-Ok-clause-memory c refused blank =
     let empty = same_Some _ _ (sym c.in-Ok.ensures.ok ∙ parse_document-blank c.args.text.now blank) in
     let seen = view-Table c.in-Ok.table ∙ ap table empty in
-    empty_table-not_refused _ seen (IfErr-at_err (IsFaultOfTable (view (Table c.in-Ok.table))) refused c.read_settings.ensures.fault)
+    empty_table-not_refused _ seen
+    (IfErr-at_err (IsFaultOfTable (view (Table c.in-Ok.table))) refused c.read_settings.ensures.fault)

@@ -7,10 +7,14 @@ use Rattle.tc_wheel.proofs.Writes.{length-map_own}
 use Rattle.tc_wheel.proofs.nodes.Nodes.clear.Goals as goal
 
 pub loop-at-init : goal.loop-at-init
-loop-at-init c = none_written 4097 c.count-at-end.result c.self.inside.nodes.items (sym (c.count-at-end.ensures.count ∙ ap length c.deref.ensures.value))
+loop-at-init c =
+    none_written 4097 c.count-at-end.result c.self.inside.nodes.items
+    (sym (c.count-at-end.ensures.count ∙ ap length c.deref.ensures.value))
 
 pub loop-at-preserved : goal.loop-at-preserved
-loop-at-preserved c = one_written 4097 c.loop-at.at c.count-at-end.result c.loop-at.self-inside.nodes.items _ c.loop-at-test.true refl refl refl c.loop-at.invariant
+loop-at-preserved c =
+    one_written 4097 c.loop-at.at c.count-at-end.result c.loop-at.self-inside.nodes.items _ c.loop-at-test.true refl refl refl
+    c.loop-at.invariant
 
 pub returns : goal.returns
 returns c =
@@ -18,5 +22,8 @@ returns c =
     let n = c.count-at-end.result in
     let full : c.loop-at.at ≡ n = omega (arith, c.loop-at-test.false, c.loop-at.auto.at-end) in
     let own : n ≡ length c.self.inside.nodes.items = c.count-at-end.ensures.count ∙ ap length c.deref.ensures.value in
-    let long : n ≡ length c.args.self.now.next = own ∙ sym (length-map_own (λ (x : Node). x.next) c.self.inside.nodes.items) ∙ ap (λ (l : Links). length l.next) c.self.view_is in
-    subst (λ m. AreMarks 4097 m (links ns)) long (marks_written n ns (omega (arith, own, c.self.invariant)) (subst (λ m. AreWritten 4097 m n ns) full c.loop-at.invariant))
+    let long : n ≡ length c.args.self.now.next =
+    own ∙ sym (length-map_own (λ (x : Node). x.next) c.self.inside.nodes.items)
+    ∙ ap (λ (l : Links). length l.next) c.self.view_is in
+    subst (λ m. AreMarks 4097 m (links ns)) long
+    (marks_written n ns (omega (arith, own, c.self.invariant)) (subst (λ m. AreWritten 4097 m n ns) full c.loop-at.invariant))

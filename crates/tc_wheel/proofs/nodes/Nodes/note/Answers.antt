@@ -3,4 +3,7 @@ use Rattle.tc_wheel.proofs.Writes.{due_written}
 use Rattle.tc_wheel.proofs.nodes.Nodes.note.Goals as goal
 
 pub returns : goal.returns
-returns c = rw (← c.self.view_is) (due_written c.self.inside.nodes.items c.args.at (Some c.args.due) c.index_mut.result.now (rw (← c.self.view_is) at c.requires) c.index_mut.ensures.value)
+returns c =
+    rw (← c.self.view_is)
+    (due_written c.self.inside.nodes.items c.args.at (Some c.args.due) c.index_mut.result.now
+    (rw (← c.self.view_is) at c.requires) c.index_mut.ensures.value)

@@ -3,7 +3,11 @@ use Rattle.tc_wheel.proofs.Turned.{beyond_held, some_held}
 use Rattle.tc_wheel.proofs.wheel.Wheel.holds.Goals as goal
 
 pub returns-then-slot-slots : goal.returns-then-slot-slots
-returns-then-slot-slots c = beyond_held c.self.inside.nodes c.self.inside.moment c.args.self.now c.args.slot.0 c.self.view_is c.self.invariant.swept (omega arith)
+returns-then-slot-slots c =
+    beyond_held c.self.inside.nodes c.self.inside.moment c.args.self.now c.args.slot.0 c.self.view_is c.self.invariant.swept
+    (omega arith)
 
 pub returns : goal.returns
-returns c = some_held c.self.inside.nodes c.self.inside.moment c.args.self.now c.args.slot.0 c.place-at.result c.node.result.due c.is_some.result c.self.view_is c.place-at.ensures c.node.ensures.due c.is_some.ensures
+returns c =
+    some_held c.self.inside.nodes c.self.inside.moment c.args.self.now c.args.slot.0 c.place-at.result c.node.result.due
+    c.is_some.result c.self.view_is c.place-at.ensures c.node.ensures.due c.is_some.ensures

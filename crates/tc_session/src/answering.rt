@@ -71,7 +71,8 @@ fn form_of(command: &Command) -> Form
 fn write_outcome(out: &mut Output, form: Form, outcome: &Outcome) -> Result<(), NoMemory>
     requires { 64 ≤ out.old.room }
     ensures bytes { OnOk result (out.new.bytes ≡ out.old.bytes ++ reply_of form outcome.now) }
-    ensures front_on_err { OnErr result (take (length out.old.bytes) out.new.bytes ≡ out.old.bytes) }
+    ensures front_on_err { OnErr result (take (length out.old.bytes) out.new.bytes
+        ≡ out.old.bytes) }
     ensures longer_on_err { OnErr result (length out.old.bytes ≤ length out.new.bytes) }
     ensures space { KeepsSpace out.old out.new }
     ensures short { is_long outcome.now ≡ false → IsOk result }
@@ -101,7 +102,8 @@ fn write_outcome(out: &mut Output, form: Form, outcome: &Outcome) -> Result<(), 
 /// Says that memory was refused, unless the line has `noreply`.
 pub(crate) fn write_refusal(out: &mut Output, command: &Command)
     requires { 64 ≤ out.old.room }
-    ensures { out.new.bytes ≡ out.old.bytes ++ unless_quiet (is_quiet command.now) (fault_line OutOfMemory) }
+    ensures { out.new.bytes
+        ≡ out.old.bytes ++ unless_quiet (is_quiet command.now) (fault_line OutOfMemory) }
 {
     if !is_quiet(command) {
         write_fault(out, Fault::NoMemory);
@@ -116,7 +118,8 @@ pub(crate) fn write_reply(
 ) -> Result<(), NoMemory>
     requires { 64 ≤ out.old.room }
     ensures bytes { OnOk result (out.new.bytes ≡ out.old.bytes ++ render command.now outcome.now) }
-    ensures refused { OnErr result (out.new.bytes ≡ out.old.bytes ++ unless_quiet (is_quiet command.now) (fault_line OutOfMemory)) }
+    ensures refused { OnErr result (out.new.bytes
+        ≡ out.old.bytes ++ unless_quiet (is_quiet command.now) (fault_line OutOfMemory)) }
     ensures short { is_long outcome.now ≡ false → IsOk result }
 {
     if is_quiet(command) || !can_end(command, outcome) {

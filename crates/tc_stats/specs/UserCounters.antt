@@ -1,14 +1,17 @@
--- A user's counters, by commands and what they come to. Source: memcached's doc/protocol.txt, "General-purpose statistics"; the profile is this project's own.
+-- A user's counters, by commands and what they come to. Source: memcached's
+-- doc/protocol.txt, "General-purpose statistics"; the profile is this project's own.
 use Rattle.std.specs.Prelude.{ℕ, ◌+◌, ◌-◌, ◌^◌, min, length}
 use Rattle.tc_grammar.specs.declared.command.StoreKind.{StoreKind}
 use Rattle.tc_grammar.specs.declared.command.StoreKind.TheVariants.{Cas}
 use Rattle.tc_grammar.specs.declared.command.Way.{Way}
 use Rattle.tc_grammar.specs.declared.command.Way.TheVariants.{Incr, Decr}
 use Rattle.tc_grammar.specs.declared.command.Command.{Command}
-use Rattle.tc_grammar.specs.declared.command.Command.TheVariants.{Store, Get, Gat, Delete, Count, Touch, Flush, Stats as AskStats, Version as AskVersion, Verbosity, Quit}
+use Rattle.tc_grammar.specs.declared.command.Command.TheVariants.{Store, Get, Gat, Delete, Count, Touch, Flush, Stats as AskStats}
+use Rattle.tc_grammar.specs.declared.command.Command.TheVariants.{Version as AskVersion, Verbosity, Quit}
 use Rattle.tc_stats.specs.declared.counters.Counters.{Counters}
 use Rattle.tc_stats.specs.declared.outcome.Outcome.{Outcome}
-use Rattle.tc_stats.specs.declared.outcome.Outcome.TheVariants.{Stored, Exists, NotFound, Deleted, Touched, Number, Values, TooLarge}
+use Rattle.tc_stats.specs.declared.outcome.Outcome.TheVariants.{Stored, Exists, NotFound, Deleted, Touched, Number, Values}
+use Rattle.tc_stats.specs.declared.outcome.Outcome.TheVariants.{TooLarge}
 
 -- all counters at 0
 abbrev pub no_counts : Counters
@@ -105,7 +108,8 @@ noted_count way outcome c = c
 abbrev pub noted : Command → Outcome → Counters → Counters
 noted (Store head blob) outcome c = noted_by_kind head.kind outcome c
 noted (Get form keys) outcome c = noted_get (length keys) (hit_count outcome) c
-noted (Gat form exptime keys) outcome c = noted_touch (length keys) (hit_count outcome) (noted_get (length keys) (hit_count outcome) c)
+noted (Gat form exptime keys) outcome c =
+    noted_touch (length keys) (hit_count outcome) (noted_get (length keys) (hit_count outcome) c)
 noted (Delete key quiet) outcome c = noted_delete outcome c
 noted (Count way key value quiet) outcome c = noted_count way outcome c
 noted (Touch key exptime quiet) outcome c = noted_touched outcome c

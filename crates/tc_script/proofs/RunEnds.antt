@@ -1,14 +1,16 @@
 -- How a run ends, by what was read and written.
 use Rattle.std.specs.Prelude.{IfSome}
 use Rattle.std.specs.Io.KnownBytes.{Keeps, Appends}
-use Rattle.std.proofs.Common.{◌≡◌, ℕ, List, [], ◌++◌, take, drop, Option, Some, None, refl, sym, ◌∙◌, ap, subst, append_assoc, append-nil, take-append-drop}
+use Rattle.std.proofs.Common.{◌≡◌, ℕ, List, [], ◌++◌, take, drop, Option, Some, None, refl, sym, ◌∙◌, ap, subst, append_assoc}
+use Rattle.std.proofs.Common.{append-nil, take-append-drop}
 use Rattle.tc_script.specs.declared.running.Ended.{Ended}
 use Rattle.tc_script.specs.declared.running.Ended.TheVariants.{Done, BadLine, NoMemory, Stream}
 use Rattle.tc_script.specs.declared.script.ScriptFault.{ScriptFault}
 use Rattle.tc_script.specs.declared.script.ScriptFault.TheVariants.{BadLine as BadLineFault, NoMemory as NoMemoryFault}
 use Rattle.tc_script.specs.Plans.{reading_of}
 use Rattle.tc_script.specs.Refusing.{IsFaultOf}
-use Rattle.tc_script.specs.Answering.{ended_of, IsPrintOf, IsWrittenTo, IsBegun, Unread, Unwritten, IsUnread, IsEndOf, IsUnwritten}
+use Rattle.tc_script.specs.Answering.{ended_of, IsPrintOf, IsWrittenTo, IsBegun, Unread, Unwritten, IsUnread, IsEndOf}
+use Rattle.tc_script.specs.Answering.{IsUnwritten}
 
 pub Keeps-same : (held : Option (List ℕ)) → Keeps held held
 Keeps-same None = tt
@@ -18,7 +20,8 @@ pub Appends-nothing : (held : Option (List ℕ)) → Appends held held []
 Appends-nothing None = tt
 Appends-nothing (Some xs) = sym (append-nil xs)
 
-Appends-both : (old mid new : Option (List ℕ)) (xs ys : List ℕ) → Appends old mid xs → Appends mid new ys → Appends old new (xs ++ ys)
+Appends-both : (old mid new : Option (List ℕ)) (xs ys : List ℕ) → Appends old mid xs → Appends mid new ys
+    → Appends old new (xs ++ ys)
 Appends-both None mid new xs ys a b = tt
 Appends-both (Some held) None new xs ys a b = absurd a
 Appends-both (Some held) (Some more) None xs ys a b = absurd b
@@ -35,36 +38,49 @@ pub unbegun : (bytes : List ℕ) (held : Option (List ℕ)) → IsWrittenTo byte
 unbegun bytes held = record { front = []; whole = refl; written = Appends-nothing held }
 
 -- what comes behind a front makes a longer front
-pub written_to-more : (bytes rest : List ℕ) (n : ℕ) (old mid new : Option (List ℕ)) → IsWrittenTo bytes rest old mid → Appends mid new (take n rest) → IsWrittenTo bytes (drop n rest) old new
+pub written_to-more : (bytes rest : List ℕ) (n : ℕ) (old mid new : Option (List ℕ)) → IsWrittenTo bytes rest old mid
+    → Appends mid new (take n rest) → IsWrittenTo bytes (drop n rest) old new
 written_to-more bytes rest n old mid new b a = record {
   front = b.front ++ take n rest;
-  whole = b.whole ∙ (ap (λ xs. b.front ++ xs) (sym (take-append-drop n rest)) ∙ sym (append_assoc b.front (take n rest) (drop n rest)));
+  whole =
+      b.whole
+      ∙ (ap (λ xs. b.front ++ xs) (sym (take-append-drop n rest)) ∙ sym (append_assoc b.front (take n rest) (drop n rest)));
   written = Appends-both old mid new b.front (take n rest) b.written a;
 }
 
-pub written_to-kept : (bytes rest : List ℕ) (old mid new : Option (List ℕ)) → IsWrittenTo bytes rest old mid → Keeps mid new → IsWrittenTo bytes rest old new
-written_to-kept bytes rest old mid new b k = record { front = b.front; whole = b.whole; written = Appends-kept old mid new b.front b.written k }
+pub written_to-kept : (bytes rest : List ℕ) (old mid new : Option (List ℕ)) → IsWrittenTo bytes rest old mid → Keeps mid new
+    → IsWrittenTo bytes rest old new
+written_to-kept bytes rest old mid new b k = record {
+  front = b.front;
+  whole = b.whole;
+  written = Appends-kept old mid new b.front b.written k;
+}
 
 -- nothing is left to write
-pub written_to-end : (bytes rest : List ℕ) (old new : Option (List ℕ)) → IsWrittenTo bytes rest old new → rest ≡ [] → Appends old new bytes
-written_to-end bytes rest old new b e = subst (Appends old new) (sym (b.whole ∙ (ap (λ xs. b.front ++ xs) e ∙ append-nil b.front))) b.written
+pub written_to-end : (bytes rest : List ℕ) (old new : Option (List ℕ)) → IsWrittenTo bytes rest old new → rest ≡ []
+    → Appends old new bytes
+written_to-end bytes rest old new b e =
+    subst (Appends old new) (sym (b.whole ∙ (ap (λ xs. b.front ++ xs) e ∙ append-nil b.front))) b.written
 
 -- a front was written
 pub written_to-begun : (bytes rest : List ℕ) (old new : Option (List ℕ)) → IsWrittenTo bytes rest old new → IsBegun bytes old new
 written_to-begun bytes rest old new b = record { rest = rest; written = b }
 
-by_fault : (text : List ℕ) (held : Option (List ℕ)) (fault : ScriptFault) → IsFaultOf (reading_of text) fault → IsEndOf text held held (ended_of fault)
+by_fault : (text : List ℕ) (held : Option (List ℕ)) (fault : ScriptFault) → IsFaultOf (reading_of text) fault
+    → IsEndOf text held held (ended_of fault)
 by_fault text held (BadLineFault n) e = (e, Keeps-same held)
 by_fault text held NoMemoryFault e = Keeps-same held
 
 -- the text is no script
-pub ended-by_fault : (known : Option (List ℕ)) (text : List ℕ) (held : Option (List ℕ)) (fault : ScriptFault) (ended : Ended) → IfSome known (λ xs. text ≡ xs)
+pub ended-by_fault : (known : Option (List ℕ)) (text : List ℕ) (held : Option (List ℕ)) (fault : ScriptFault) (ended : Ended)
+    → IfSome known (λ xs. text ≡ xs)
     → IsFaultOf (reading_of text) fault → ended ≡ ended_of fault → IfSome known (λ xs. IsEndOf xs held held ended)
 ended-by_fault None text held fault ended same e f = tt
 ended-by_fault (Some xs) text held fault ended same e f = rw f (by_fault xs held fault (rw same at e))
 
 -- the text was not read to its end
-pub ended-unread : (known : Option (List ℕ)) (held : Option (List ℕ)) (ended : Ended) → IsUnread ended → IfSome known (λ xs. IsEndOf xs held held ended)
+pub ended-unread : (known : Option (List ℕ)) (held : Option (List ℕ)) (ended : Ended) → IsUnread ended
+    → IfSome known (λ xs. IsEndOf xs held held ended)
 ended-unread None held ended e = tt
 ended-unread (Some xs) held Done e = absurd e
 ended-unread (Some xs) held (BadLine n) e = absurd e

@@ -5,14 +5,20 @@ use Rattle.tc_grammar.specs.declared.command.Command.{Command}
 use Rattle.tc_stats.specs.declared.outcome.Outcome.{Outcome}
 use Rattle.tc_users.specs.declared.users.UserSpec.{UserSpec}
 use Rattle.tc_plain.specs.Laws.{user_caching}
-use Rattle.tc_session.specs.Talking.{talking}
+use Rattle.tc_session.specs.TextProtocol.{text_protocol}
 use Rattle.tc_fresh.specs.Beginning.{fresh_cache}
 
 -- the server's machine
-abbrev pub serving : Machine
-serving = record { Command = Command; Outcome = Outcome; protocol = talking; cache = user_caching; fresh = fresh_cache }
+abbrev pub server_machine : Machine
+server_machine = record {
+  Command = Command;
+  Outcome = Outcome;
+  protocol = text_protocol;
+  cache = user_caching;
+  fresh = fresh_cache;
+}
 
 -- a server: the users' table and the machine's state
 pub record State : Type 0 where
   pub users : List UserSpec
-  pub world : World serving
+  pub world : World server_machine

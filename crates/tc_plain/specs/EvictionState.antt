@@ -1,4 +1,5 @@
--- What look-ups touch of a user's cache, and how it comes to a later moment. Source: memcached's doc/protocol.txt, "Expiration times" and "flush_all"; the TinyLFU paper.
+-- What look-ups touch of a user's cache, and how it comes to a later moment. Source: memcached's
+-- doc/protocol.txt, "Expiration times" and "flush_all"; the TinyLFU paper.
 use Rattle.std.specs.Prelude.{ℕ, ◌-◌, ◌*◌, ◌/◌, cond, nat_le, max, Bool, false, List, [], ◌++◌, Option, Some, None, filter, find}
 use Rattle.tc_model.specs.Areas.{Areas, Limits}
 use Rattle.tc_sketch.specs.Sketch.{Sketch}
@@ -6,7 +7,7 @@ use Rattle.tc_plain.specs.declared.entry.Entry.{Entry}
 use Rattle.tc_plain.specs.Entries.{lives, has_key}
 
 -- what look-ups touch of a user's cache
-pub record Live : Type 0 where
+pub record EvictionState : Type 0 where
   -- the most that each area may weigh
   pub limits : Limits
   -- the entries held, in three lists, under distinct keys
@@ -36,7 +37,11 @@ held key a = find (has_key key) (entries_of a)
 
 -- the areas with the entries that pass alone
 abbrev pub kept : (Entry → Bool) → Areas Entry → Areas Entry
-kept passes a = record { window = filter passes a.window; probation = filter passes a.probation; protected = filter passes a.protected }
+kept passes a = record {
+  window = filter passes a.window;
+  probation = filter passes a.probation;
+  protected = filter passes a.protected;
+}
 
 -- a pending flush stands at or before a moment
 abbrev pub is_flush_due : Option ℕ → ℕ → Bool
@@ -44,11 +49,11 @@ is_flush_due None moment = false
 is_flush_due (Some second) moment = nat_le second moment
 
 -- at a moment: where a pending flush is due all entries go and it is over, and else those that are not alive go
-abbrev pub at_moment : ℕ → Live → Live
+abbrev pub at_moment : ℕ → EvictionState → EvictionState
 at_moment moment l = cond (is_flush_due l.flush moment)
     (record l { areas = no_entries; flush = None; moment = moment })
     (record l { areas = kept (lives moment) l.areas; moment = moment })
 
 -- advanced to a moment; it never goes back
-abbrev pub advanced : Live → ℕ → Live
+abbrev pub advanced : EvictionState → ℕ → EvictionState
 advanced l moment = at_moment (max l.moment moment) l

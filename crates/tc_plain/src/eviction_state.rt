@@ -1,9 +1,9 @@
 //! What look-ups touch of one user's cache.
 ghost use Rattle.std.specs.Prelude.{◌≡◌, ℕ, ◌<◌, ◌+◌, ◌^◌, is_some, cond, length, IfOk, MatchOption};
 ghost use Rattle.tc_model.specs.Areas.{total, demoted, settle};
-ghost use Rattle.tc_stats.specs.Counting.{more};
+ghost use Rattle.tc_stats.specs.UserCounters.{more};
 ghost use Rattle.tc_plain.specs.Entries.{weight, lives};
-ghost use Rattle.tc_plain.specs.Live.{is_flush_due, at_moment, advanced, held};
+ghost use Rattle.tc_plain.specs.EvictionState.{is_flush_due, at_moment, advanced, held};
 ghost use Rattle.tc_plain.specs.Placing.{frequency, used};
 ghost use Rattle.tc_plain.specs.Doing.{looked_up, flushed};
 ghost use Rattle.tc_plain.specs.AreaLists.{areas_of, live_of, HasRoom, is_from_window, put_back, change_of};
@@ -19,7 +19,7 @@ use tc_sketch::{Sketch, hash};
 /// What look-ups touch: the areas that hold the entries, how often each key was seen, and when the
 /// entries go.
 #[derive(Drop)]
-pub struct Live {
+pub struct EvictionState {
     /// The most that each area may weigh.
     pub limits: Limits,
     /// The entries held.
@@ -42,7 +42,7 @@ fn is_flush_due(flush: Option<u64>, moment: Moment) -> bool
     }
 }
 
-impl Live {
+impl EvictionState {
     /// Brings it to the moment, if that is later than its own.
     pub fn advance(&mut self, now: Moment)
         ensures live { live_of self.new ≡ advanced (live_of self.old) now }
@@ -58,10 +58,10 @@ impl Live {
     }
 
     /// An equal state of its own.
-    pub(crate) fn copy(&self, alloc: Global) -> Result<Live, NoMemory>
+    pub(crate) fn copy(&self, alloc: Global) -> Result<EvictionState, NoMemory>
         ensures { IfOk result (λ live. live_of live ≡ live_of self.now) }
     {
-        Ok(Live {
+        Ok(EvictionState {
             limits: self.limits,
             areas: self.areas.copy(alloc)?,
             sketch: self.sketch.copy()?,
@@ -72,7 +72,9 @@ impl Live {
 
     /// What a key will hold at the moment.
     pub(crate) fn peek(&self, key: &[u8], moment: Moment) -> Option<&Entry>
-        ensures { MatchOption result (held key.now (at_moment moment (live_of self.now)).areas ≡ None) (λ e. held key.now (at_moment moment (live_of self.now)).areas ≡ Some e.now) }
+        ensures { MatchOption result
+            (held key.now (at_moment moment (live_of self.now)).areas ≡ None)
+            (λ e. held key.now (at_moment moment (live_of self.now)).areas ≡ Some e.now) }
     {
         if is_flush_due(self.flush, moment) {
             return None;
@@ -94,7 +96,12 @@ impl Live {
     fn access(&mut self, origin: Origin, entry: Entry)
         requires weight { total weight (areas_of self.old.areas) + weight entry < 2 ^ 64 }
         requires room { HasRoom 1 self.old.areas }
-        ensures live { live_of self.new ≡ record (live_of self.old) { areas = cond (lives self.old.moment entry) (demoted weight self.old.limits (put_back (is_from_window origin) entry (areas_of self.old.areas))) (areas_of self.old.areas) } }
+        ensures live { live_of self.new ≡ record (live_of self.old) {
+          areas = cond (lives self.old.moment entry)
+              (demoted weight self.old.limits
+              (put_back (is_from_window origin) entry (areas_of self.old.areas)))
+              (areas_of self.old.areas);
+        } }
         ensures room { HasRoom 0 self.new.areas }
     {
         if alive(&entry.item, self.moment) {
@@ -108,7 +115,8 @@ impl Live {
     pub fn look(&mut self, key: &[u8], due: Option<Due>) -> bool
         requires weight { total weight (areas_of self.old.areas) < 2 ^ 32 }
         requires room { HasRoom 0 self.old.areas }
-        ensures live { live_of self.new ≡ (looked_up (change_of due) key.now (held key.now (areas_of self.old.areas)) (live_of self.old)).1 }
+        ensures live { live_of self.new ≡ (looked_up (change_of due) key.now
+            (held key.now (areas_of self.old.areas)) (live_of self.old)).1 }
         ensures found { result ≡ is_some (held key.now (areas_of self.old.areas)) }
         ensures room { HasRoom 0 self.new.areas }
     {
@@ -141,8 +149,12 @@ impl Live {
     pub(crate) fn settle(&mut self, evictions: u64) -> u64
         requires weight { total weight (areas_of self.old.areas) < 2 ^ 64 }
         requires room { HasRoom 0 self.old.areas }
-        ensures live { live_of self.new ≡ record (live_of self.old) { areas = (settle weight (frequency (live_of self.old)) self.old.limits (areas_of self.old.areas)).areas } }
-        ensures counted { result ≡ more evictions (length (settle weight (frequency (live_of self.old)) self.old.limits (areas_of self.old.areas)).dropped) }
+        ensures live { live_of self.new ≡ record (live_of self.old) {
+          areas = (settle weight (frequency (live_of self.old)) self.old.limits
+              (areas_of self.old.areas)).areas;
+        } }
+        ensures counted { result ≡ more evictions (length (settle weight
+            (frequency (live_of self.old)) self.old.limits (areas_of self.old.areas)).dropped) }
     {
         self.areas.settle(self.limits, &self.sketch, evictions)
     }
@@ -152,8 +164,13 @@ impl Live {
     pub(crate) fn change(&mut self, entry: Entry, evictions: u64) -> u64
         requires weight { total weight (areas_of self.old.areas) + weight entry < 2 ^ 64 }
         requires room { HasRoom 1 self.old.areas }
-        ensures live { live_of self.new ≡ record (used entry (live_of self.old)) { areas = (settle weight (frequency (used entry (live_of self.old))) self.old.limits (used entry (live_of self.old)).areas).areas } }
-        ensures counted { result ≡ more evictions (length (settle weight (frequency (used entry (live_of self.old))) self.old.limits (used entry (live_of self.old)).areas).dropped) }
+        ensures live { live_of self.new ≡ record (used entry (live_of self.old)) {
+          areas = (settle weight (frequency (used entry (live_of self.old))) self.old.limits
+              (used entry (live_of self.old)).areas).areas;
+        } }
+        ensures counted { result ≡ more evictions (length (settle weight
+            (frequency (used entry (live_of self.old))) self.old.limits
+            (used entry (live_of self.old)).areas).dropped) }
     {
         self.use_new(entry);
         self.settle(evictions)
@@ -172,7 +189,7 @@ impl Live {
     }
 }
 
-impl LookUps for Live {
+impl LookUps for EvictionState {
     ghost touched = { live_of };
 
     ghost has_room = { λ l. HasRoom 0 l.areas };

@@ -5,10 +5,11 @@ use Rattle.tc_grammar.specs.declared.command.Command.{Command}
 use Rattle.tc_session.specs.declared.session.Stage.{Stage}
 use Rattle.tc_session.specs.declared.session.Stage.TheVariants.{Unbound as IsUnbound, Bound as IsBound, Closed as IsClosed}
 use Rattle.tc_session.specs.declared.want.Want.{Want as WantCode}
-use Rattle.tc_session.specs.declared.want.Want.TheVariants.{Nothing as IsNothing, Said as IsSaid, Call as IsCall, Close as IsClose}
+use Rattle.tc_session.specs.declared.want.Want.TheVariants.{Nothing as IsNothing, Said as IsSaid, Call as IsCall}
+use Rattle.tc_session.specs.declared.want.Want.TheVariants.{Close as IsClose}
 use Rattle.tc_grammar.specs.declared.fault.Fault.{Fault}
 use Rattle.tc_grammar.specs.declared.fault.Fault.TheVariants.{LineTooLong}
-use Rattle.tc_session.specs.Talking.{talking, unbound_limit, bound_limit}
+use Rattle.tc_session.specs.TextProtocol.{text_protocol, unbound_limit, bound_limit}
 
 -- the phase of a stage
 abbrev pub phase_of : Stage → Phase
@@ -17,8 +18,8 @@ phase_of (IsBound user) = Bound user
 phase_of IsClosed = Closed
 
 -- a connection: its endpoint, the bytes that wait to be sent, and for how many more there is room
-pub record Linked : Type 0 where
-  pub endpoint : Endpoint talking
+pub record SessionView : Type 0 where
+  pub endpoint : Endpoint text_protocol
   pub out : List ℕ
   pub room : ℕ
 
@@ -39,7 +40,8 @@ abbrev pub fault_want : Fault → Want Command
 fault_want LineTooLong = Close
 fault_want fault = Said
 
--- where no whole request is there, a longest line and all but a byte of its block and its line end are unread at most; a closed connection reads no more
+-- where no whole request is there, a longest line and all but a byte of its block and its
+-- line end are unread at most; a closed connection reads no more
 abbrev pub KeepsAtMost : Phase → ℕ → Type 0
 KeepsAtMost Unbound unread = unread ≤ unbound_limit + 65538
 KeepsAtMost (Bound user) unread = unread ≤ bound_limit + 65538

@@ -1,4 +1,5 @@
--- What a connection's next request asks for, before and after it is bound. Source: memcached's doc/protocol.txt, "Authentication".
+-- What a connection's next request asks for, before and after it is bound.
+-- Source: memcached's doc/protocol.txt, "Authentication".
 use Rattle.std.specs.Prelude.{ℕ, Bool, List, [], codes, Option, None, Some}
 use Rattle.tc_model.specs.Connection.{Protocol, Asks, Idle, Tell, Login, Leave, Wants, Rest, Reply, Run, Quit as Parting}
 use Rattle.tc_grammar.specs.declared.command.StoreKind.{StoreKind}
@@ -41,7 +42,8 @@ bound_fault fault text = Reply text
 
 -- a storage command before binding: a `set` is a login by its block, whatever its key, flags and exptime
 abbrev pub unbound_store : StoreKind → Head → List ℕ → Asks
-unbound_store Set head blob = Login blob (unless_quiet head.quiet (codes "STORED\r\n")) (fault_said AuthenticationFailure head.quiet)
+unbound_store Set head blob =
+    Login blob (unless_quiet head.quiet (codes "STORED\r\n")) (fault_said AuthenticationFailure head.quiet)
 unbound_store kind head blob = Tell (fault_said Unauthenticated head.quiet)
 
 -- a command before binding
@@ -68,8 +70,8 @@ bound_wants (Some (Ask command)) = bound_command command
 bound_wants (Some (Refused fault quiet)) = bound_fault fault (fault_said fault quiet)
 
 -- the protocol of the server
-abbrev pub talking : Protocol Command Outcome
-talking = record {
+abbrev pub text_protocol : Protocol Command Outcome
+text_protocol = record {
   Row = UserSpec;
   Reader = Reader;
   start = empty;
