@@ -1,7 +1,7 @@
 #!/usr/bin/env python3
 """Runs partcached where memory and threads are refused, one refusal after the other.
 
-usage: bench/refusals.py PROGRAM [run|start|serve|request|add|threads ..]      default: all of them
+usage: bench/refusals.py PROGRAM [run|start|serve|turn|request|add|threads ..]      default: all of them
 
 PROGRAM is crates/partcached/out/partcached, as `rt run` leaves it. Each call that takes memory is
 refused in a run of its own, by bench/refuse_malloc.c, until a run needs no further one. A line says what
@@ -49,9 +49,14 @@ class Refusing:
         self.process = subprocess.Popen(words, stdin=subprocess.PIPE, stdout=subprocess.PIPE, stderr=subprocess.PIPE,
                                         env=env, pass_fds=[self.notes.fileno()])
 
+    def noted(self, signs):
+        """How many of these bytes the malloc wrote so far."""
+        notes = os.pread(self.notes.fileno(), 1 << 20, 0)
+        return sum(notes.count(sign) for sign in signs)
+
     def refusals(self):
         """How many calls were refused so far."""
-        return os.fstat(self.notes.fileno()).st_size
+        return self.noted([b"m", b"t"])
 
     def end(self, text=b"", seconds=20):
         """What it ends with: its status, and what it wrote."""
@@ -64,8 +69,14 @@ class Refusing:
         return self.process.returncode, out, err
 
     def mark(self, sign=signal.SIGUSR1):
+        """Has the counting begin or end, and waits until it does."""
+        before = self.noted([b"s"])
         self.process.send_signal(sign)
-        time.sleep(0.02)
+        for _ in range(1_000):
+            if self.noted([b"s"]) > before:
+                return
+            time.sleep(0.005)
+        raise Wrong("it takes no signal")
 
     def seconds(self):
         """The processor time that it used."""
@@ -244,6 +255,42 @@ def serve():
     say("a session of 96 requests", each_refusal(lambda n: Server(at=n, mark=1), judge))
 
 
+def turning():
+    """Requests for a key of 42 bytes, with what each is answered and leaves after a `set` of `one`."""
+    key = b"k" * 42
+    value = b"VALUE %s 0 3 1\r\none\r\nEND\r\n" % key
+    yield "set", b"set %s 0 0 3\r\ntwo\r\n" % key, b"STORED\r\n", (b"two", 2)
+    yield "append", b"append %s 0 0 1\r\n!\r\n" % key, b"STORED\r\n", (b"one!", 2)
+    yield "gets", b"gets %s\r\n" % key, value, (b"one", 1)
+
+
+def turn():
+    """One call on a full page of 16 entries, which turns it: answered and done; or answered out of
+    memory, or not read and its connection closed, and undone, the turn too: another connection is then
+    shown the data and the cas number from before."""
+    key = b"k" * 42
+    for name, request, reply, left in turning():
+        def judge(server):
+            client, other = Client(server), Client(server)
+            client.ask(b"set %s 0 0 3\r\none\r\n" % key, b"STORED\r\n")
+            for _ in range(15):
+                serves(client)
+            server.mark()
+            answer = client.ask(request, reply)
+            server.mark(signal.SIGUSR2)
+            data, last = left if answer == reply else (b"one", 1)
+            shown = b"VALUE %s 0 %d %d\r\n%s\r\nEND\r\n" % (key, len(data), last, data)
+            for _ in range(4):
+                said = other.ask(b"gets %s\r\n" % key, shown)
+                if said != shown:
+                    raise Wrong(f"after {answer!r} the next call is answered {said!r}")
+            client.close()
+            other.close()
+            is_ended(server)
+            return {reply: "answered", REFUSED: "answered out of memory", b"": "closed"}[answer]
+        say(f"a `{name}` that turns a page", each_refusal(lambda n: Server(until=2, at=n, mark=1), judge))
+
+
 def request():
     """A request for which there is no memory is tried again, and its connection closed after a second;
     others are served all the while."""
@@ -316,7 +363,7 @@ def threads():
 
 def main():
     global PROGRAM, REFUSER
-    parts = {it.__name__: it for it in (run, start, serve, request, add, threads)}
+    parts = {it.__name__: it for it in (run, start, serve, turn, request, add, threads)}
     words = sys.argv[2:] or list(parts)
     if len(sys.argv) < 2 or not set(words) <= set(parts):
         sys.exit(__doc__)

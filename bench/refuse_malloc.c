@@ -6,7 +6,8 @@
  * REFUSE_THREAD=N  the N-th start of a thread is refused, as where the system has no more
  * REFUSE_MARK=1    nothing counts before the signal SIGUSR1; each SIGUSR1 counts from 0 anew, and
  *                  SIGUSR2 ends the counting
- * REFUSE_NOTES=FD  each refusal writes one byte to this open file: 'm' for memory, 't' for a thread
+ * REFUSE_NOTES=FD  each refusal writes one byte to this open file: 'm' for memory, 't' for a thread;
+ *                  and each signal that was taken does: 's'
  *
  * Built by: cc -O2 -shared -fPIC -o refuse_malloc.so refuse_malloc.c */
 #define _GNU_SOURCE
@@ -34,9 +35,17 @@ static long number(const char *name, long otherwise) {
   return text ? strtol(text, NULL, 10) : otherwise;
 }
 
+static void note(char sign) {
+  int kept = errno;
+  if (notes >= 0 && write((int)notes, &sign, 1) < 0) {
+  }
+  errno = kept;
+}
+
 static void on_mark(int sign) {
   calls = 0;
   counts = sign == SIGUSR1;
+  note('s');
 }
 
 __attribute__((constructor)) static void begin(void) {
@@ -52,13 +61,6 @@ __attribute__((constructor)) static void begin(void) {
   } else {
     counts = 1;
   }
-}
-
-static void note(char sign) {
-  int kept = errno;
-  if (notes >= 0 && write((int)notes, &sign, 1) < 0) {
-  }
-  errno = kept;
 }
 
 static int is_refused(size_t size) {
