@@ -9,6 +9,7 @@ use crate::called::Called;
 use crate::closed::{Closed, Missing};
 use crate::closing::{Shut, compare, take_books, take_seats};
 use crate::kept::Kept;
+use crate::locking::lock_soon;
 use crate::naming::{HallTable, Naming};
 use crate::old_opening::let_go;
 use crate::receipt::Receipt;
@@ -89,7 +90,7 @@ impl<C: Cache, N: Naming> Hall<C, N> {
             return Err(CallFault::NoMemory);
         };
         let at = (number - 1) as usize;
-        let mut guard = self.books[at].lock(rt);
+        let mut guard = lock_soon(&self.books[at], rt);
         held();
         let kept = &mut *guard;
         if kept.user() != number {
@@ -146,9 +147,7 @@ impl<C: Cache, N: Naming> Hall<C, N> {
         if number == 0 || number > self.users() {
             return;
         }
-        self.books[(number - 1) as usize]
-            .lock(rt)
-            .maintain(now, limit);
+        lock_soon(&self.books[(number - 1) as usize], rt).maintain(now, limit);
     }
 
     /// Ends the hall. It is refused exactly where fewer seats than all are given, and the hall and the

@@ -30,6 +30,7 @@ mod closing;
 mod entry;
 mod hall;
 mod kept;
+mod locking;
 pub mod naming;
 mod noting;
 mod old_opening;
