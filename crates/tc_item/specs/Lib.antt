@@ -1,3 +1,4 @@
+pub mod Blobs
 pub mod Expiry
 pub mod KeyFaults
 pub mod KeyLists
