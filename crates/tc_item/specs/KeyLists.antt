@@ -7,4 +7,4 @@ use Rattle.tc_item.specs.declared.keys.Held.TheVariants.{Nothing, One, Many}
 abbrev pub keys_held : Held → List (List ℕ)
 keys_held Nothing = []
 keys_held (One key) = key ∷ []
-keys_held (Many keys) = keys.items
+keys_held (Many shared) = shared.value.items

@@ -8,9 +8,10 @@ ghost use Rattle.std.proofs.Common.{rules};
 use crate::{Key, NoMemory};
 use std::alloc::Global;
 use std::marker::Model;
-use std::{fmt, mem, slice};
+use std::sync::Arc;
+use std::{fmt, slice};
 
-/// Keys in order; a key may stand twice.
+/// Keys in order; a key may stand twice. Copies of many share one list.
 #[derive(Drop)]
 pub struct Keys {
     held: Held,
@@ -21,7 +22,7 @@ pub struct Keys {
 enum Held {
     Nothing,
     One(Key),
-    Many(Vec<Key>),
+    Many(Arc<Vec<Key>>),
 }
 
 impl Model for Keys {
@@ -31,6 +32,30 @@ impl Model for Keys {
     ghost Value = { List (List ℕ) };
 
     ghost view = { λ k. keys_held k.held };
+}
+
+/// Equal keys and one more, with room for others.
+fn lengthened(alloc: Global, keys: &[Key], key: Key) -> Result<Arc<Vec<Key>>, NoMemory>
+    ensures { IfOk result (λ shared. shared.value.items ≡ keys.now ++ key ∷ []) }
+{
+    let mut copied = Vec::with_capacity(alloc, keys.len().saturating_add(8))?;
+    for key in keys {
+        copied.push(key.copy(alloc)?)?;
+    }
+    copied.push(key)?;
+    Ok(Arc::new(alloc, copied)?)
+}
+
+/// Puts a key behind those of a list. Whoever shares the list keeps it as it was.
+fn push_shared(alloc: Global, shared: &mut Arc<Vec<Key>>, key: Key) -> Result<(), NoMemory>
+    ensures pushed { OnOk result (shared.new.value.items ≡ shared.old.value.items ++ key ∷ []) }
+    ensures unchanged_on_err { OnErr result (shared.new.value.items ≡ shared.old.value.items) }
+{
+    match Arc::get_mut(shared) {
+        Some(keys) => keys.push(key)?,
+        None => *shared = lengthened(alloc, shared.as_slice(), key)?,
+    }
+    Ok(())
 }
 
 impl Keys {
@@ -59,15 +84,11 @@ impl Keys {
     {
         match &mut self.held {
             Held::Nothing => self.held = Held::One(key),
-            Held::Many(keys) => keys.push(key)?,
-            Held::One(_) => {
-                let mut keys = Vec::with_capacity(alloc, 8)?;
-                if let Held::One(first) = mem::replace(&mut self.held, Held::Nothing) {
-                    keys.push(first)?;
-                }
-                keys.push(key)?;
+            Held::One(first) => {
+                let keys = lengthened(alloc, slice::from_ref(first), key)?;
                 self.held = Held::Many(keys);
             }
+            Held::Many(shared) => push_shared(alloc, shared, key)?,
         }
         Ok(())
     }
@@ -93,7 +114,7 @@ impl Keys {
         match &self.held {
             Held::Nothing => &[],
             Held::One(key) => slice::from_ref(key),
-            Held::Many(keys) => keys.as_slice(),
+            Held::Many(shared) => shared.as_slice(),
         }
     }
 
@@ -101,11 +122,12 @@ impl Keys {
     pub fn copy(&self, alloc: Global) -> Result<Keys, NoMemory>
         ensures { IfOk result (λ keys. keys ≡ self.now) }
     {
-        let mut copied = Keys::new();
-        for key in self.as_slice() {
-            copied.push(alloc, key.copy(alloc)?)?;
-        }
-        Ok(copied)
+        let held = match &self.held {
+            Held::Nothing => Held::Nothing,
+            Held::One(key) => Held::One(key.copy(alloc)?),
+            Held::Many(shared) => Held::Many(shared.clone()?),
+        };
+        Ok(Keys { held })
     }
 }
 

@@ -54,7 +54,7 @@ fn seek_all(
     ensures { IfOk result (λ r. r.0
         ≡ (all_looked_up (λ i. i) keys.now (at_moment moment (live_of live.now))).0) }
 {
-    let mut hits = Hits::new();
+    let mut hits = Hits::with_capacity(alloc, keys.len())?;
     let mut places = SmallVec::new(alloc);
     places.reserve(keys.len())?;
     for key in keys {

@@ -84,7 +84,7 @@ pub fn look_up<L: LookUps>(
         (at_moment moment (L.touched live.now))).0) }
 {
     let gone = is_due(due, moment);
-    let mut hits = Hits::new();
+    let mut hits = Hits::with_capacity(alloc, keys.len())?;
     for (i, key) in keys.iter().enumerate() {
         add_next(alloc, live, &keys[..i], key, moment, gone, &mut hits)?;
     }

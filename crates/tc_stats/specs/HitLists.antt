@@ -8,4 +8,4 @@ use Rattle.tc_stats.specs.declared.hits.Held.TheVariants.{Nothing, One, Many}
 abbrev pub hits_held : Held → List Hit
 hits_held Nothing = []
 hits_held (One hit) = hit ∷ []
-hits_held (Many hits) = hits.items
+hits_held (Many shared) = shared.value.items

@@ -5,7 +5,8 @@ ghost use Rattle.tc_stats.specs.Sameness.{are_same_hits, same_hits-equivalence};
 
 use std::alloc::Global;
 use std::marker::Model;
-use std::{mem, slice};
+use std::slice;
+use std::sync::Arc;
 use tc_item::{Blob, Key, NoMemory};
 
 /// An item as a look-up shows it.
@@ -35,18 +36,19 @@ impl Hit {
     }
 }
 
-/// Hits in the order asked. Most look-ups ask one key, so one hit alone takes no list.
+/// Hits in the order asked. Most look-ups ask one key, so one hit alone takes no list. Copies of many
+/// share one list.
 #[derive(Debug, Drop)]
 pub struct Hits {
     held: Held,
 }
 
-/// None, one in place, or a list.
+/// None, one in place, or a list of some or none.
 #[derive(Debug, Drop)]
 enum Held {
     Nothing,
     One(Hit),
-    Many(Vec<Hit>),
+    Many(Arc<Vec<Hit>>),
 }
 
 impl Model for Hits {
@@ -60,6 +62,30 @@ impl Model for Hits {
     ghost view = { λ h. hits_held h.held };
 }
 
+/// The same hits and one more, with room for others.
+fn lengthened(alloc: Global, hits: &[Hit], hit: Hit) -> Result<Arc<Vec<Hit>>, NoMemory>
+    ensures { IfOk result (λ shared. shared.value.items ≡ hits.now ++ hit ∷ []) }
+{
+    let mut copied = Vec::with_capacity(alloc, hits.len().saturating_add(8))?;
+    for hit in hits {
+        copied.push(hit.copy(alloc)?)?;
+    }
+    copied.push(hit)?;
+    Ok(Arc::new(alloc, copied)?)
+}
+
+/// Puts a hit behind those of a list. Whoever shares the list keeps it as it was.
+fn push_shared(alloc: Global, shared: &mut Arc<Vec<Hit>>, hit: Hit) -> Result<(), NoMemory>
+    ensures pushed { OnOk result (shared.new.value.items ≡ shared.old.value.items ++ hit ∷ []) }
+    ensures unchanged_on_err { OnErr result (shared.new.value.items ≡ shared.old.value.items) }
+{
+    match Arc::get_mut(shared) {
+        Some(hits) => hits.push(hit)?,
+        None => *shared = lengthened(alloc, shared.as_slice(), hit)?,
+    }
+    Ok(())
+}
+
 impl Hits {
     /// No hits.
     pub fn new() -> Hits
@@ -70,6 +96,19 @@ impl Hits {
         }
     }
 
+    /// No hits, with room for so many.
+    pub fn with_capacity(alloc: Global, count: usize) -> Result<Hits, NoMemory>
+        ensures { IfOk result (λ hits. hits ≡ []) }
+    {
+        if count < 2 {
+            return Ok(Hits::new());
+        }
+        let shared = Arc::new(alloc, Vec::with_capacity(alloc, count)?)?;
+        Ok(Hits {
+            held: Held::Many(shared),
+        })
+    }
+
     /// Puts a hit at the end. Where memory is refused the hits are as they were.
     pub fn push(&mut self, alloc: Global, hit: Hit) -> Result<(), NoMemory>
         ensures pushed { OnOk result (self.new ≡ self.old ++ hit ∷ []) }
@@ -77,15 +116,11 @@ impl Hits {
     {
         match &mut self.held {
             Held::Nothing => self.held = Held::One(hit),
-            Held::Many(hits) => hits.push(hit)?,
-            Held::One(_) => {
-                let mut hits = Vec::with_capacity(alloc, 8)?;
-                if let Held::One(first) = mem::replace(&mut self.held, Held::Nothing) {
-                    hits.push(first)?;
-                }
-                hits.push(hit)?;
+            Held::One(first) => {
+                let hits = lengthened(alloc, slice::from_ref(first), hit)?;
                 self.held = Held::Many(hits);
             }
+            Held::Many(shared) => push_shared(alloc, shared, hit)?,
         }
         Ok(())
     }
@@ -111,7 +146,7 @@ impl Hits {
         match &self.held {
             Held::Nothing => &[],
             Held::One(hit) => slice::from_ref(hit),
-            Held::Many(hits) => hits.as_slice(),
+            Held::Many(shared) => shared.as_slice(),
         }
     }
 
@@ -119,11 +154,12 @@ impl Hits {
     pub fn copy(&self, alloc: Global) -> Result<Hits, NoMemory>
         ensures { IfOk result (λ hits. hits ≡ self.now) }
     {
-        let mut copied = Hits::new();
-        for hit in self.as_slice() {
-            copied.push(alloc, hit.copy(alloc)?)?;
-        }
-        Ok(copied)
+        let held = match &self.held {
+            Held::Nothing => Held::Nothing,
+            Held::One(hit) => Held::One(hit.copy(alloc)?),
+            Held::Many(shared) => Held::Many(shared.clone()?),
+        };
+        Ok(Hits { held })
     }
 }
 
