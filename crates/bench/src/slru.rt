@@ -20,6 +20,9 @@ const CALLS: u32 = 10_000_000;
 /// items, and main the other 98,901, which hold 989.
 const FEW: u64 = 1000;
 
+/// The most that all items weigh.
+const MOST: u64 = (1 << 32) - 1;
+
 /// More than any sum here.
 const FAR: u64 = 1 << 40;
 
@@ -107,7 +110,7 @@ fn push(lists: &mut Lists, slot: Slot) {
 
 /// Lists into which all of these slots but the first were pushed.
 fn filled(alloc: Global, slots: u64) -> Result<Lists, NoMemory> {
-    let all = slots.saturating_sub(1).saturating_mul(WEIGHT);
+    let all = slots.saturating_sub(1).saturating_mul(WEIGHT).min(MOST);
     let window = all / 100;
     let main = all - window;
     let mut lists = Lists::new(alloc, window, main, main / 5 * 4);

@@ -69,6 +69,7 @@ impl Slots {
     /// No entries, with room for none: the window may weigh `window`, probation and protected
     /// together `main`, and protected alone `protected`.
     pub fn new(alloc: Global, hasher: RandomState, limits: Limits) -> Result<Slots, NoMemory>
+        requires small { limits.main < 2 ^ 32 }
         ensures limits { IfOk result (λ s. s.limits ≡ limits) }
         ensures areas { IfOk result (λ s. s.areas ≡ no_entries) }
     {

@@ -126,14 +126,17 @@ fit-fronted : (area : Area) (slot weight : ℕ) (l : SlotLists) → AreFit l →
     → total weigh (without_slot slot l.areas) + weight < 2 ^ 64
     → AreFit (record l { areas = fronted_in area (placed slot weight) (without_slot slot l.areas) })
 fit-fronted Window slot weight l h light sum = record {
+  small = h.small;
   light = (light, light-without l.limits.main slot l.areas.window h.light);
   sum = omega (arith, sum_by-cons weigh (placed slot weight) (without (is_slot slot) l.areas.window));
 }
 fit-fronted Probation slot weight l h light sum = record {
+  small = h.small;
   light = light-without l.limits.main slot l.areas.window h.light;
   sum = omega (arith, sum_by-cons weigh (placed slot weight) (without (is_slot slot) l.areas.probation));
 }
 fit-fronted Protected slot weight l h light sum = record {
+  small = h.small;
   light = light-without l.limits.main slot l.areas.window h.light;
   sum = omega (arith, sum_by-cons weigh (placed slot weight) (without (is_slot slot) l.areas.protected));
 }
@@ -175,6 +178,7 @@ access_by limits slot weight area to v taken put held e_area e_to e_taken e_put 
           (fronted_in (raised_from (area_of slot v.areas)) (placed slot weight) (without_slot slot v.areas));
     }) = record {
       fit = record {
+        small = f.small;
         light = f.light;
         sum = omega (
           arith,

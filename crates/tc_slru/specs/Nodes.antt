@@ -1,5 +1,5 @@
 -- The nodes as they are kept.
-use Rattle.std.specs.Prelude.{◌≡◌, List, ◌++◌, length, map}
+use Rattle.std.specs.Prelude.{◌≡◌, ◌+◌, ◌≤◌, ◌^◌, List, ◌++◌, length, map}
 use Rattle.tc_slru.specs.Links.{Links}
 use Rattle.tc_slru.specs.declared.nodes.Node.{Node}
 use Rattle.tc_slru.specs.declared.nodes.Nodes.TheInside.{Inside}
@@ -17,6 +17,7 @@ links ns = record {
 abbrev pub links_of : Inside → Links
 links_of n = links (n.marks ++ n.rest.items)
 
--- the marks are three
-abbrev pub HasMarks : Inside → Type 0
-HasMarks n = length n.marks ≡ 3
+-- the marks are three, and 32 bits count all nodes
+pub record HasMarks (n : Inside) : Type 0 where
+  pub marks : length n.marks ≡ 3
+  pub few : length n.rest.items + 3 ≤ 2 ^ 32

@@ -31,7 +31,7 @@ use tc_item::{NoMemory, Slot};
 #[derive(Clone, Copy)]
 pub struct Held {
     pub slot: Slot,
-    pub weight: u64,
+    pub weight: u32,
 }
 
 /// The node before a list.
@@ -62,8 +62,9 @@ fn unlink(nodes: &mut Nodes, at: usize)
     ensures { nodes.new ≡ unlinked at nodes.old }
 {
     let node = nodes.node(at);
-    nodes.set_next(node.prev, node.next);
-    nodes.set_prev(node.next, node.prev);
+    let (before, after) = (node.prev as usize, node.next as usize);
+    nodes.set_next(before, after);
+    nodes.set_prev(after, before);
 }
 
 /// Puts a node into the ring, behind another.
@@ -73,7 +74,7 @@ fn link_behind(nodes: &mut Nodes, before: usize, at: usize)
     requires after { slice_index nodes.old.next before < length nodes.old.next }
     ensures { nodes.new ≡ linked_behind before at nodes.old }
 {
-    let after = nodes.node(before).next;
+    let after = nodes.node(before).next as usize;
     nodes.set_next(before, at);
     nodes.set_prev(at, before);
     nodes.set_next(at, after);
@@ -155,7 +156,7 @@ impl LinkedAreas {
     }
 
     /// Puts a slot at the front of a list.
-    pub fn put(&mut self, area: Area, slot: Slot, weight: u64)
+    pub fn put(&mut self, area: Area, slot: Slot, weight: u32)
         requires reserved { slot.0 < self.old.slots }
         requires free { holds slot.0 self.old.areas ≡ false }
         requires fits { total weigh self.old.areas + weight < 2 ^ 64 }
@@ -164,7 +165,7 @@ impl LinkedAreas {
         let at = self.nodes.place(slot);
         self.nodes.note(at, weight, area);
         link_behind(&mut self.nodes, mark_of(area), at);
-        self.sizes.enter(area, weight);
+        self.sizes.enter(area, weight as u64);
     }
 
     /// Takes a slot out of its list, which it gives.
@@ -179,7 +180,7 @@ impl LinkedAreas {
         let area = node.area.unwrap();
         unlink(&mut self.nodes, at);
         self.nodes.free(at);
-        self.sizes.leave(area, node.weight);
+        self.sizes.leave(area, node.weight as u64);
         area
     }
 
@@ -200,7 +201,7 @@ impl LinkedAreas {
         requires { 0 < length (list_in area self.now.areas) }
         ensures { IsLast (placed result.slot.0 result.weight) area self.now.areas }
     {
-        let at = self.nodes.node(end_of(area)).prev;
+        let at = self.nodes.node(end_of(area)).prev as usize;
         let node = self.nodes.node(at);
         Held {
             slot: Slot(at - MARKS),
@@ -222,12 +223,12 @@ impl LinkedAreas {
             if need == 0 {
                 return Some(0);
             }
-            at = self.nodes.node(at).prev;
+            at = self.nodes.node(at).prev as usize;
             let node = self.nodes.node(at);
             if freq(Slot(at - MARKS)) >= level {
                 return None;
             }
-            need = need.saturating_sub(node.weight);
+            need = need.saturating_sub(node.weight as u64);
         }
         Some(need)
     }
@@ -240,7 +241,7 @@ impl LinkedAreas {
         let mut slots = Vec::with_capacity(alloc, count)?;
         let mut at = mark_of(area);
         for _place in 0..count {
-            at = self.nodes.node(at).next;
+            at = self.nodes.node(at).next as usize;
             slots.push(Slot(at - MARKS))?;
         }
         Ok(slots)

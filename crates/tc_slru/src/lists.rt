@@ -44,6 +44,7 @@ impl Lists {
     /// Empty lists with room for no slot: the window may weigh `window`, probation and protected
     /// together `main`, and protected alone `protected`. Takes no memory.
     pub fn new(alloc: Global, window: u64, main: u64, protected: u64) -> Lists
+        requires { main < 2 ^ 32 }
         ensures { result ≡ fresh window main protected }
     {
         Lists {
@@ -120,7 +121,7 @@ impl Lists {
         requires fits { total weigh self.old.areas + weight < 2 ^ 64 }
         ensures { self.new ≡ pushed slot.0 weight self.old }
     {
-        self.areas.put(Area::Window, slot, weight);
+        self.areas.put(Area::Window, slot, weight as u32);
     }
 
     /// Takes a held slot out of its list.
@@ -140,7 +141,7 @@ impl Lists {
         ensures { self.new ≡ accessed_at slot.0 weight self.old }
     {
         let from = self.areas.take(slot);
-        self.areas.put(from.raised(), slot, weight);
+        self.areas.put(from.raised(), slot, weight as u32);
         hold_protected(&mut self.areas, self.limits.protected);
     }
 

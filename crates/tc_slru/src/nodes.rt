@@ -1,5 +1,5 @@
 //! The nodes of the ring, by number. The first three are the marks before window, probation and
-//! protected; slot n is node n + 3.
+//! protected; slot n is node n + 3. A node takes 16 bytes: its links are numbers of 32 bits.
 ghost use Rattle.std.specs.Prelude.{◌≡◌, ◌+◌, ◌<◌, ◌≤◌, ◌^◌, length, Some, None, slice_index, slice_set, is_ok, OnErr};
 ghost use Rattle.std.specs.Prelude.{if◌then◌else◌};
 ghost use Rattle.tc_slru.specs.Links.{area_at, marks_alone, grown, noted, freed};
@@ -7,23 +7,29 @@ ghost use Rattle.tc_slru.specs.Links.{area_at, marks_alone, grown, noted, freed}
 use crate::area::Area;
 use std::alloc::Global;
 use std::marker::Model;
+use std::mem::size_of;
 use tc_item::{NoMemory, Slot};
 
 /// The nodes that stand before the lists.
 pub const MARKS: usize = 3;
 
+/// The most slots that may have a node, so that 32 bits count all nodes.
+const MOST_SLOTS: usize = (1 << 32) - MARKS;
+
 /// A place in the ring, and what is noted of the slot there.
 #[derive(Clone, Copy)]
 pub struct Node {
-    pub next: usize,
-    pub prev: usize,
-    pub weight: u64,
+    pub next: u32,
+    pub prev: u32,
+    pub weight: u32,
     /// The list that it stands in.
     pub area: Option<Area>,
 }
 
+const _: () = prove!(size_of::<Node>() == 16);
+
 /// A node that is linked so, of no slot.
-const fn alone(next: usize, prev: usize) -> Node
+const fn alone(next: u32, prev: u32) -> Node
     ensures next { result.next ≡ next }
     ensures prev { result.prev ≡ prev }
     ensures weight { result.weight ≡ 0 }
@@ -67,13 +73,16 @@ impl Nodes {
         }
     }
 
-    /// Room for all slots below this. A refusal changes nothing.
+    /// Room for all slots below this, which is refused beyond 2^32 nodes. A refusal changes nothing.
     pub fn reserve(&mut self, slots: usize) -> Result<(), NoMemory>
         ensures nodes { self.new ≡
             (if is_ok result then grown (slots + 3) self.old else self.old) }
         ensures refused { OnErr result (length self.old.next < slots + 3) }
     {
         if self.rest.len() < slots {
+            if slots > MOST_SLOTS {
+                return Err(NoMemory);
+            }
             let free = alone(0, 0);
             self.rest.resize(slots, free)?;
         }
@@ -100,11 +109,9 @@ impl Nodes {
     pub fn place(&self, slot: Slot) -> usize
         requires { slot.0 + 3 < length self.now.next }
         ensures node { result ≡ slot.0 + 3 }
-        ensures few { length self.now.next < 2 ^ 64 }
+        ensures few { length self.now.next ≤ 2 ^ 32 }
     {
-        // The bytes of a slice fit a `usize`, so a number of nodes does with the marks added.
-        let places: &[Node] = self.rest.as_slice();
-        let _all = places.len() + MARKS;
+        let _all = self.rest.len();
         slot.0 + MARKS
     }
 
@@ -123,32 +130,45 @@ impl Nodes {
         }
     }
 
+    /// A node's number, as links have it.
+    fn link_to(&self, to: usize) -> u32
+        requires { to < length self.now.next }
+        ensures { result ≡ to }
+    {
+        let _all = self.rest.len();
+        to as u32
+    }
+
     /// Links a node to the one behind it.
     pub fn set_next(&mut self, at: usize, to: usize)
-        requires { at < length self.old.next }
+        requires within { at < length self.old.next }
+        requires link { to < length self.old.next }
         ensures { self.new ≡ record self.old { next = slice_set self.old.next at to } }
     {
+        let link = self.link_to(to);
         if at < MARKS {
-            self.marks[at].next = to;
+            self.marks[at].next = link;
         } else {
-            self.rest[at - MARKS].next = to;
+            self.rest[at - MARKS].next = link;
         }
     }
 
     /// Links a node to the one before it.
     pub fn set_prev(&mut self, at: usize, to: usize)
-        requires { at < length self.old.next }
+        requires within { at < length self.old.next }
+        requires link { to < length self.old.next }
         ensures { self.new ≡ record self.old { prev = slice_set self.old.prev at to } }
     {
+        let link = self.link_to(to);
         if at < MARKS {
-            self.marks[at].prev = to;
+            self.marks[at].prev = link;
         } else {
-            self.rest[at - MARKS].prev = to;
+            self.rest[at - MARKS].prev = link;
         }
     }
 
     /// Notes what a slot weighs, and in which list it stands.
-    pub fn note(&mut self, at: usize, weight: u64, area: Area)
+    pub fn note(&mut self, at: usize, weight: u32, area: Area)
         requires slot { 3 ≤ at }
         requires within { at < length self.old.next }
         ensures { self.new ≡ noted at weight area self.old }

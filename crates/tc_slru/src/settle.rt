@@ -85,7 +85,7 @@ where
 {
     let sizes = areas.sizes();
     let main = sizes.probation.weight + sizes.protected.weight;
-    let need = (main + candidate.weight).saturating_sub(limits.main);
+    let need = (main + candidate.weight as u64).saturating_sub(limits.main);
     if !outranks(areas, freq, freq(candidate.slot), need) {
         Verdict::Refused
     } else if need <= sizes.probation.weight {

@@ -9,6 +9,7 @@
 #![tactic(auto)]
 
 mod nodes;
+mod slot_due;
 mod sweep;
 mod wheel;
 

@@ -1,10 +1,13 @@
-//! The nodes of the ring, by number. The first 4,097 are marks; slot n is node n + 4,097.
-ghost use Rattle.std.specs.Prelude.{◌≡◌, ◌+◌, ◌<◌, ◌^◌, length, slice_index, slice_set, is_ok, IfOk, OnErr, if◌then◌else◌};
+//! The nodes of the ring, by number. The first 4,097 are marks; slot n is node n + 4,097. A node takes
+//! 16 bytes: its links are numbers of 32 bits.
+ghost use Rattle.std.specs.Prelude.{◌≡◌, ◌+◌, ◌<◌, ◌≤◌, ◌^◌, length, slice_index, slice_set, is_ok, IfOk, OnErr, if◌then◌else◌};
 ghost use Rattle.tc_wheel.specs.Dues.{due_at, is_due};
 ghost use Rattle.tc_wheel.specs.Links.{grown, noted, freed, AreMarks};
 
+use crate::slot_due::SlotDue;
 use std::alloc::Global;
 use std::marker::Model;
+use std::mem::size_of;
 use tc_item::{Moment, NoMemory, Slot};
 
 /// The buckets, a second each.
@@ -16,22 +19,18 @@ pub const DUE: usize = BUCKETS;
 /// The nodes that stand before the lists.
 pub const MARKS: usize = DUE + 1;
 
+/// The most slots that may have a node, so that 32 bits count all nodes.
+const MOST_SLOTS: usize = (1 << 32) - MARKS;
+
 /// A place in the ring, and when the slot there is due, if it is held.
 #[derive(Clone, Copy)]
 pub struct Node {
-    pub next: usize,
-    pub prev: usize,
-    pub due: Option<Moment>,
+    pub next: u32,
+    pub prev: u32,
+    pub due: SlotDue,
 }
 
-/// How many nodes these are: their bytes fit a `usize`, so with the marks added their number does.
-fn count(nodes: &[Node]) -> usize
-    ensures count { result ≡ length nodes.now }
-    ensures few { result + 4097 < 2 ^ 64 }
-{
-    let all = nodes.len() + MARKS;
-    all - MARKS
-}
+const _: () = prove!(size_of::<Node>() == 16);
 
 /// All nodes.
 #[derive(Drop)]
@@ -59,30 +58,30 @@ impl Nodes {
         let mut nodes = Vec::with_capacity(alloc, MARKS)?;
         for mark in 0..MARKS {
             nodes.push(Node {
-                next: (mark + 1) % MARKS,
-                prev: (mark + DUE) % MARKS,
-                due: None,
+                next: ((mark + 1) % MARKS) as u32,
+                prev: ((mark + DUE) % MARKS) as u32,
+                due: SlotDue::NONE,
             })?;
         }
         Ok(Nodes { nodes })
     }
 
-    /// Room for all slots below this. A refusal changes nothing.
+    /// Room for all slots below this, which is refused beyond 2^32 nodes. A refusal changes nothing.
     pub fn reserve(&mut self, slots: usize) -> Result<(), NoMemory>
         ensures nodes { self.new ≡
             (if is_ok result then grown (slots + 4097) self.old else self.old) }
         ensures refused { OnErr result (length self.old.next < slots + 4097) }
     {
         if self.slots() < slots {
+            if slots > MOST_SLOTS {
+                return Err(NoMemory);
+            }
             let free = Node {
                 next: 0,
                 prev: 0,
-                due: None,
+                due: SlotDue::NONE,
             };
-            let all = slots.saturating_add(MARKS);
-            self.nodes.resize(all, free)?;
-            // There are fewer than a `usize` can count, so the sum above was not cut short.
-            let _all = count(&self.nodes);
+            self.nodes.resize(slots + MARKS, free)?;
         }
         Ok(())
     }
@@ -92,11 +91,11 @@ impl Nodes {
     pub fn clear(&mut self)
         ensures { AreMarks 4097 (length self.old.next) self.new }
     {
-        for at in 0..count(&self.nodes) {
+        for at in 0..self.nodes.len() {
             self.nodes[at] = Node {
-                next: (at + 1) % MARKS,
-                prev: (at + DUE) % MARKS,
-                due: None,
+                next: ((at + 1) % MARKS) as u32,
+                prev: ((at + DUE) % MARKS) as u32,
+                due: SlotDue::NONE,
             };
         }
     }
@@ -132,26 +131,39 @@ impl Nodes {
         requires { at < length self.now.next }
         ensures { result ≡ is_due moment (due_at self.now.dues at) }
     {
-        match &self.nodes[at].due {
-            Some(due) => *due <= moment,
+        match self.nodes[at].due.moment() {
+            Some(due) => due <= moment,
             None => false,
         }
     }
 
+    /// A node's number, as links have it.
+    fn link_to(&self, to: usize) -> u32
+        requires { to < length self.now.next }
+        ensures { result ≡ to }
+    {
+        let _all = self.nodes.len();
+        to as u32
+    }
+
     /// Links a node to the one behind it.
     pub fn set_next(&mut self, at: usize, to: usize)
-        requires { at < length self.old.next }
+        requires within { at < length self.old.next }
+        requires link { to < length self.old.next }
         ensures { self.new ≡ record self.old { next = slice_set self.old.next at to } }
     {
-        self.nodes[at].next = to;
+        let link = self.link_to(to);
+        self.nodes[at].next = link;
     }
 
     /// Links a node to the one before it.
     pub fn set_prev(&mut self, at: usize, to: usize)
-        requires { at < length self.old.next }
+        requires within { at < length self.old.next }
+        requires link { to < length self.old.next }
         ensures { self.new ≡ record self.old { prev = slice_set self.old.prev at to } }
     {
-        self.nodes[at].prev = to;
+        let link = self.link_to(to);
+        self.nodes[at].prev = link;
     }
 
     /// Notes when a slot is due.
@@ -159,7 +171,7 @@ impl Nodes {
         requires { at < length self.old.next }
         ensures { self.new ≡ noted at due self.old }
     {
-        self.nodes[at].due = Some(due);
+        self.nodes[at].due = SlotDue::at(due);
     }
 
     /// Notes that a slot is not held.
@@ -167,6 +179,6 @@ impl Nodes {
         requires { at < length self.old.next }
         ensures { self.new ≡ freed at self.old }
     {
-        self.nodes[at].due = None;
+        self.nodes[at].due = SlotDue::NONE;
     }
 }

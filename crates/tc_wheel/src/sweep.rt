@@ -31,8 +31,9 @@ pub fn unlink(nodes: &mut Nodes, at: usize)
     ensures { nodes.new ≡ unlinked at nodes.old }
 {
     let node = nodes.node(at);
-    nodes.set_next(node.prev, node.next);
-    nodes.set_prev(node.next, node.prev);
+    let (before, after) = (node.prev as usize, node.next as usize);
+    nodes.set_next(before, after);
+    nodes.set_prev(after, before);
 }
 
 /// Puts a node into the ring, behind another.
@@ -42,7 +43,7 @@ pub fn link_behind(nodes: &mut Nodes, before: usize, at: usize)
     requires after { slice_index nodes.old.next before < length nodes.old.next }
     ensures { nodes.new ≡ linked_behind before at nodes.old }
 {
-    let after = nodes.node(before).next;
+    let after = nodes.node(before).next as usize;
     nodes.set_next(before, at);
     nodes.set_prev(at, before);
     nodes.set_next(at, after);
@@ -56,12 +57,12 @@ fn walk_bucket(nodes: &mut Nodes, moment: Moment, back: u64)
     ensures swept { IsSwept 4096 moment back nodes.new }
     ensures dues { nodes.new.dues ≡ nodes.old.dues }
 {
-    let mut at = nodes.node(bucket_of(moment.seconds() - back)).next;
+    let mut at = nodes.node(bucket_of(moment.seconds() - back)).next as usize;
     for _step in 0..nodes.slots() {
         if at < MARKS {
             return;
         }
-        let next = nodes.node(at).next;
+        let next = nodes.node(at).next as usize;
         if nodes.is_due(at, moment) {
             unlink(nodes, at);
             link_behind(nodes, DUE, at);
@@ -75,7 +76,7 @@ fn next_due(nodes: &Nodes, moment: Moment) -> Option<usize>
     requires { (now : ℕ) × (left : ℕ) × IsSwept 4096 now left nodes.now }
     ensures { IsListed result moment nodes.now }
 {
-    let mut at = nodes.node(DUE).next;
+    let mut at = nodes.node(DUE).next as usize;
     for _step in 0..nodes.slots() {
         if at < MARKS {
             return None;
@@ -83,7 +84,7 @@ fn next_due(nodes: &Nodes, moment: Moment) -> Option<usize>
         if nodes.is_due(at, moment) {
             return Some(at);
         }
-        at = nodes.node(at).next;
+        at = nodes.node(at).next as usize;
     }
     None
 }

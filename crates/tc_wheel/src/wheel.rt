@@ -86,7 +86,7 @@ impl Wheel {
             return false;
         }
         let at = self.nodes.place(slot);
-        self.nodes.node(at).due.is_some()
+        self.nodes.node(at).due.moment().is_some()
     }
 
     /// Holds a slot until it is given or removed. Its due may have come already.

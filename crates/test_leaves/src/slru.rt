@@ -122,11 +122,11 @@ fn play(
     rt: &impl Abort,
     alloc: Global,
     window: u64,
-    main: u64,
+    main: u32,
     protected: u64,
     moves: &[Move],
 ) -> Result<(), Fail> {
-    let mut lists = Lists::new(alloc, window, main, protected);
+    let mut lists = Lists::new(alloc, window, u64::from(main), protected);
     lists.reserve(5)?;
     make_all(rt, &mut lists, moves);
     Ok(())

@@ -32,7 +32,7 @@ returns-clause-nodes c =
     (omega (
       arith,
       i.rest.ok.0,
-      c.self.invariant,
+      c.self.invariant.marks,
       length-links i.marks i.rest.items,
       ap (λ (l : Links). length l.next) c.self.view_is,
     ))

@@ -6,5 +6,5 @@ pub returns : goal.returns
 returns c =
     rw (← c.self.view_is)
     (note_behind c.self.inside.marks c.self.inside.rest.items c.args.at c.args.weight
-    (Some c.args.area) c.index_mut-node.result.now c.requires.slot c.self.invariant
+    (Some c.args.area) c.index_mut-node.result.now c.requires.slot c.self.invariant.marks
     (rw (← c.self.view_is) at c.requires.within) c.index_mut-node.ensures.value)

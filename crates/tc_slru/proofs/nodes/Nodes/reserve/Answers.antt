@@ -16,5 +16,5 @@ returns-in_ok-resize-clause-nodes c =
     ∙ ap (λ (items : List Node). items ++ replicate (c.args.slots - vec_len c.self.inside.rest) c.alone-free.result) whole
     ∙ ap (λ n. c.self.inside.rest.items ++ replicate (c.args.slots - n) c.alone-free.result) c.self.inside.rest.ok.0)
     ∙ links-grown c.self.inside.marks c.self.inside.rest.items c.args.slots c.alone-free.result c.alone-free.ensures.next
-    c.alone-free.ensures.prev c.alone-free.ensures.weight c.alone-free.ensures.area c.self.invariant
+    c.alone-free.ensures.prev c.alone-free.ensures.weight c.alone-free.ensures.area c.self.invariant.marks
     ∙ ap (λ (l : Links). grown (c.args.slots + 3) l) c.self.view_is

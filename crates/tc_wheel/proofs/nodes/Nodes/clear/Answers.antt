@@ -8,22 +8,21 @@ use Rattle.tc_wheel.proofs.nodes.Nodes.clear.Goals as goal
 
 pub loop-at-init : goal.loop-at-init
 loop-at-init c =
-    none_written 4097 c.count-at-end.result c.self.inside.nodes.items
-    (sym (c.count-at-end.ensures.count ∙ ap length c.deref.ensures.value))
+    none_written 4097 c.len-at-end.result c.self.inside.nodes.items (omega (arith, c.self.inside.nodes.ok.0))
 
 pub loop-at-preserved : goal.loop-at-preserved
 loop-at-preserved c =
-    one_written 4097 c.loop-at.at c.count-at-end.result c.loop-at.self-inside.nodes.items _ c.loop-at-test.true refl refl refl
+    one_written 4097 c.loop-at.at c.len-at-end.result c.loop-at.self-inside.nodes.items _ c.loop-at-test.true refl refl refl
     c.loop-at.invariant
 
 pub returns : goal.returns
 returns c =
     let ns = c.loop-at.self-inside.nodes.items in
-    let n = c.count-at-end.result in
+    let n = c.len-at-end.result in
     let full : c.loop-at.at ≡ n = omega (arith, c.loop-at-test.false, c.loop-at.auto.at-end) in
-    let own : n ≡ length c.self.inside.nodes.items = c.count-at-end.ensures.count ∙ ap length c.deref.ensures.value in
+    let own : n ≡ length c.self.inside.nodes.items = omega (arith, c.self.inside.nodes.ok.0) in
     let long : n ≡ length c.args.self.now.next =
     own ∙ sym (length-map_own (λ (x : Node). x.next) c.self.inside.nodes.items)
     ∙ ap (λ (l : Links). length l.next) c.self.view_is in
     subst (λ m. AreMarks 4097 m (links ns)) long
-    (marks_written n ns (omega (arith, own, c.self.invariant)) (subst (λ m. AreWritten 4097 m n ns) full c.loop-at.invariant))
+    (marks_written n ns (omega (arith, own, c.self.invariant.marks)) (subst (λ m. AreWritten 4097 m n ns) full c.loop-at.invariant))

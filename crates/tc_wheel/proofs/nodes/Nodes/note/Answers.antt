@@ -4,6 +4,6 @@ use Rattle.tc_wheel.proofs.nodes.Nodes.note.Goals as goal
 
 pub returns : goal.returns
 returns c =
-    rw (← c.self.view_is)
+    rw (← c.self.view_is, c.at.ensures)
     (due_written c.self.inside.nodes.items c.args.at (Some c.args.due) c.index_mut.result.now
     (rw (← c.self.view_is) at c.requires) c.index_mut.ensures.value)
