@@ -14,6 +14,7 @@ pub mod Limited
 pub mod Tally
 pub mod Deferral
 pub mod Draining
+pub mod Sought
 pub mod Awake
 pub mod Joined
 pub mod Copies

@@ -4,7 +4,7 @@ use Rattle.tc_item.specs.declared.slot.Slot.{Slot}
 use Rattle.tc_readbuf.specs.declared.noted.Noted.{Noted}
 use Rattle.tc_readbuf.specs.declared.noted.Noted.TheVariants.{Hit as HitNoted, Miss as MissNoted}
 use Rattle.tc_plain.specs.declared.entry.Entry.{Entry}
-use Rattle.tc_plain.specs.EvictionState.{EvictionState}
+use Rattle.tc_plain.specs.EvictionState.{EvictionState, held}
 use Rattle.tc_partition.specs.Agreement.{entry_or}
 use Rattle.tc_partition.specs.Deferred.{Note, Hit, Miss, Waiting, Lazy, peeked}
 use Rattle.tc_partition.specs.LiveSlots.{live_of}
@@ -42,3 +42,10 @@ abbrev pub SeeksSlot : Option Slot → ℕ → List ℕ → LiveSlots → Type 0
 SeeksSlot None t key s = peeked t key (live_of s) ≡ None
 SeeksSlot (Some slot) t key s =
     (e : Entry) × (slice_index_or s.held.slots slot.0 None ≡ Some e) × (e.key ≡ key) × (peeked t key (live_of s) ≡ Some e)
+
+-- a place for each key, or none where nothing is held under it
+abbrev pub AreSought : List (List ℕ) → List (Option Slot) → EvictionState → Type 0
+AreSought [] [] l = Unit {0}
+AreSought [] (place ∷ places) l = ⊥
+AreSought (key ∷ keys) [] l = ⊥
+AreSought (key ∷ keys) (place ∷ places) l = (place ≡ None → held key l.areas ≡ None) × AreSought keys places l

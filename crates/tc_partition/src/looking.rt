@@ -1,12 +1,14 @@
 //! Look-ups that wait: what they show is peeked at, then each is noted.
-ghost use Rattle.std.specs.Prelude.{◌≡◌, ◌<◌, ◌∷◌, ◌++◌, [], nat_lt, length, option_map, option_to_list, IfOk, OnOk, OnErr};
+ghost use Rattle.std.specs.Prelude.{◌≡◌, ◌<◌, ◌∷◌, ◌++◌, [], None, nat_lt, length, option_map, option_to_list, IfOk, OnOk, OnErr};
+ghost use Rattle.std.specs.Prelude.{ℕ, List};
 ghost use Rattle.tc_plain.specs.Entries.{hit_of};
-ghost use Rattle.tc_plain.specs.EvictionState.{at_moment};
+ghost use Rattle.tc_plain.specs.EvictionState.{at_moment, held};
 ghost use Rattle.tc_plain.specs.Soundness.{AreSound};
 ghost use Rattle.tc_plain.specs.UserCache.{advance};
 ghost use Rattle.tc_plain.specs.Doing.{with_live, all_looked_up};
 ghost use Rattle.tc_partition.specs.Deferred.{peeked};
 ghost use Rattle.tc_partition.specs.LiveSlots.{live_of};
+ghost use Rattle.tc_partition.specs.WaitingSlots.{SeeksSlot, AreSought};
 ghost use Rattle.tc_partition.specs.Delayed.{settled_in, noted_in, hit_in, waits_next, waits_after};
 
 use crate::Fast;
@@ -30,9 +32,10 @@ fn add_hit(
     hits: &mut Hits,
 ) -> Result<Option<Slot>, NoMemory>
     requires { AreSound live.now.held.limits live.now.held.areas }
-    ensures { OnOk result (hits.new
+    ensures hits { OnOk result (hits.new
         ≡ hits.old
         ++ option_to_list (option_map hit_of (peeked moment key.now (live_of live.now)))) }
+    ensures place { IfOk result (λ place. SeeksSlot place moment key.now live.now) }
 {
     let Some(slot) = live.seek(key, moment) else {
         return Ok(None);
@@ -51,8 +54,10 @@ fn seek_all(
     moment: Moment,
 ) -> Result<(Hits, Places), NoMemory>
     requires { AreSound live.now.held.limits live.now.held.areas }
-    ensures { IfOk result (λ r. r.0
+    ensures hits { IfOk result (λ r. r.0
         ≡ (all_looked_up (λ i. i) keys.now (at_moment moment (live_of live.now))).0) }
+    ensures places { IfOk result (λ r.
+        AreSought keys.now r.1.items (at_moment moment (live_of live.now))) }
 {
     let mut hits = Hits::with_capacity(alloc, keys.len())?;
     let mut places = SmallVec::new(alloc);
@@ -62,14 +67,6 @@ fn seek_all(
         places.push(place)?;
     }
     Ok((hits, places))
-}
-
-/// Where a key was found, as far as that is known.
-fn place_at(places: &[Option<Slot>], i: usize) -> Option<Slot> {
-    match places.get(i) {
-        Some(place) => *place,
-        None => None,
-    }
 }
 
 /// Notes behind what waits, where there is room.
@@ -84,20 +81,25 @@ impl Fast {
     /// The hits of keys at the moment, or at the cache's own where that is later, and where each
     /// key was found.
     fn peek_all(&self, alloc: Global, now: Moment, keys: &[Key]) -> Result<(Hits, Places), NoMemory>
-        ensures { IfOk result (λ r. r.0
+        ensures hits { IfOk result (λ r. r.0
             ≡ (all_looked_up (λ i. i) keys.now (advance (settled_in self.now) now).live).0) }
+        ensures places { IfOk result (λ r.
+            AreSought keys.now r.1.items (advance (settled_in self.now) now).live) }
     {
         let moment = self.moment.later(now);
         seek_all(alloc, &self.cache.live, keys, moment)
     }
 
-    /// Notes a look-up of a key, which was found at this place.
+    /// Notes a look-up of a key, which was found at this place, or holds nothing.
     fn note(&mut self, key: &Key, place: Option<Slot>)
-        requires { length self.old.waiting < 128 }
+        requires room { length self.old.waiting < 128 }
+        requires missed { place ≡ None → held key.now (settled_in self.old).live.areas ≡ None }
         ensures state { self.new ≡ noted_in self.old key.now }
         ensures settled { settled_in self.new ≡ hit_in key.now (settled_in self.old) }
+        ensures held { (q : List ℕ) → held q (settled_in self.new).live.areas
+            ≡ held q (settled_in self.old).live.areas }
     {
-        match self.cache.live.seek_from(place, key, self.moment) {
+        match self.cache.live.seek_again(place, key, self.moment) {
             Some(slot) => push(&mut self.waiting, Noted::Hit(slot), self.moment),
             None => {
                 push(
@@ -116,10 +118,13 @@ impl Fast {
         self.waiting.len() < PLACES
     }
 
-    /// One look-up more, of a key that was found at this place; where no more may wait, all that
-    /// waits is done first.
+    /// One look-up more, of a key that was found at this place, or holds nothing; where no more may
+    /// wait, all that waits is done first.
     fn note_next(&mut self, key: &Key, place: Option<Slot>)
+        requires { place ≡ None → held key.now (settled_in self.old).live.areas ≡ None }
         ensures settled { settled_in self.new ≡ hit_in key.now (settled_in self.old) }
+        ensures held { (q : List ℕ) → held q (settled_in self.new).live.areas
+            ≡ held q (settled_in self.old).live.areas }
         ensures waits { length self.new.waiting ≡ waits_next (length self.old.waiting) }
     {
         if !self.has_room() {
@@ -128,8 +133,10 @@ impl Fast {
         self.note(key, place);
     }
 
-    /// Look-ups of keys that were found at these places, one after another.
+    /// Look-ups of keys that were found at these places, one after another; a key with no place
+    /// holds nothing.
     fn note_all(&mut self, keys: &[Key], places: &[Option<Slot>])
+        requires { AreSought keys.now places.now (settled_in self.old).live }
         ensures settled { settled_in self.new
             ≡ with_live (settled_in self.old) (all_looked_up (λ i. i) keys.now
             (settled_in self.old).live).1 }
@@ -137,7 +144,7 @@ impl Fast {
             ≡ waits_after (length keys.now) (length self.old.waiting) }
     {
         for (i, key) in keys.iter().enumerate() {
-            self.note_next(key, place_at(places, i));
+            self.note_next(key, places[i]);
         }
     }
 

@@ -1,0 +1,62 @@
+-- Places of keys that were sought, one after another.
+use Rattle.std.specs.Prelude.{max}
+use Rattle.std.proofs.Common.{◌≡◌, ℕ, zero, suc, ◌<◌, ◌+◌, List, [], ◌∷◌, ◌++◌, length, get_or, take, Option, None, sym, ◌∙◌, ap}
+use Rattle.std.proofs.Common.{subst, arith}
+use Rattle.std.proofs.lemmas.List.{take_more}
+use Rattle.tc_item.specs.declared.slot.Slot.{Slot}
+use Rattle.tc_plain.specs.EvictionState.{EvictionState, held, at_moment, advanced}
+use Rattle.tc_partition.specs.Deferred.{Lazy, IsLazy, settled, raised_to, deferred}
+use Rattle.tc_partition.specs.WaitingSlots.{AreSought}
+use Rattle.tc_partition.proofs.Deferral.{look_answer, noted_lazy, raised_settled, raised_lazy}
+
+sought-push : (keys : List (List ℕ)) (places : List (Option Slot)) (key : List ℕ) (place : Option Slot) (l : EvictionState)
+    → AreSought keys places l → (place ≡ None → held key l.areas ≡ None)
+    → AreSought (keys ++ key ∷ []) (places ++ place ∷ []) l
+sought-push [] [] key place l h f = (f, tt)
+sought-push [] (p ∷ places) key place l h f = absurd h
+sought-push (k ∷ keys) [] key place l h f = absurd h
+sought-push (k ∷ keys) (p ∷ places) key place l h f = (h.0, sought-push keys places key place l h.1 f)
+
+-- one more comes last
+pub sought-take_more : (keys : List (List ℕ)) (i : ℕ) (d key : List ℕ) (places : List (Option Slot)) (place : Option Slot)
+    (l : EvictionState)
+    → i < length keys → key ≡ get_or keys i d → AreSought (take i keys) places l → (place ≡ None → held key l.areas ≡ None)
+    → AreSought (take (i + 1) keys) (places ++ place ∷ []) l
+sought-take_more keys i d key places place l lt same h f =
+    subst (λ ks. AreSought ks (places ++ place ∷ []) l) (ap (λ k. take i keys ++ k ∷ []) same ∙ sym (take_more keys i d lt))
+    (sought-push (take i keys) places key place l h f)
+
+-- as many places as keys
+pub sought_long : (keys : List (List ℕ)) (places : List (Option Slot)) (l : EvictionState) → AreSought keys places l
+    → length places ≡ length keys
+sought_long [] [] l h = omega arith
+sought_long [] (p ∷ places) l h = absurd h
+sought_long (k ∷ keys) [] l h = absurd h
+sought_long (k ∷ keys) (p ∷ places) l h = let rest = sought_long keys places l h.1 in omega (arith, rest)
+
+-- what a key with no place holds
+pub sought_at : (keys : List (List ℕ)) (places : List (Option Slot)) (l : EvictionState) (n : ℕ) (d : List ℕ) (e : Option Slot)
+    → AreSought keys places l → n < length keys → get_or places n e ≡ None → held (get_or keys n d) l.areas ≡ None
+sought_at [] places l n d e h lt none = absurd (omega (arith, lt))
+sought_at (k ∷ keys) [] l n d e h lt none = absurd h
+sought_at (k ∷ keys) (p ∷ places) l zero d e h lt none = h.0 none
+sought_at (k ∷ keys) (p ∷ places) l (suc n) d e h lt none = sought_at keys places l n d e h.1 (omega (arith, lt)) none
+
+-- where the same is held under each key
+pub sought_same : (keys : List (List ℕ)) (places : List (Option Slot)) (l j : EvictionState)
+    → ((q : List ℕ) → held q j.areas ≡ held q l.areas) → AreSought keys places l → AreSought keys places j
+sought_same [] [] l j f h = tt
+sought_same [] (p ∷ places) l j f h = absurd h
+sought_same (k ∷ keys) [] l j f h = absurd h
+sought_same (k ∷ keys) (p ∷ places) l j f h = (λ none. f k ∙ h.0 none, sought_same keys places l j f h.1)
+
+-- what a key will hold with nothing done first, it will hold once all that waits is done
+pub held_then : (f : Lazy) (now m : ℕ) (q : List ℕ) → IsLazy f → m ≡ max f.moment now
+    → held q (advanced (settled f) now).areas ≡ held q (at_moment m f.base).areas
+held_then f now m q h e =
+    ap (λ (l : EvictionState). held q l.areas) (sym (raised_settled f now h))
+    ∙ look_answer (raised_to f now) q (raised_lazy f now h) ∙ ap (λ t. held q (at_moment t f.base).areas) (sym e)
+
+-- a look-up that waits changes nothing that a key holds
+pub held_noted : (f : Lazy) (key q : List ℕ) → IsLazy f → held q (settled (deferred f key)).areas ≡ held q (settled f).areas
+held_noted f key q h = look_answer (deferred f key) q (noted_lazy f key h) ∙ sym (look_answer f q h)
