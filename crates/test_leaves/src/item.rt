@@ -194,6 +194,23 @@ fn a_refused_push_leaves_the_keys_as_they_were(rt: HostRuntime) -> Result<(), Fa
     Ok(())
 }
 
+/// Whether keys that have one more leave a copy made before as it was.
+fn leaves_a_copy(alloc: Global, names: &[&str]) -> Result<bool, KeyFault> {
+    let mut keys = keys_of(alloc, names)?;
+    let copied = keys.copy(alloc)?;
+    keys.push(alloc, key_of(alloc, "more")?)?;
+    let before = keys_of(alloc, names)?;
+    Ok(copied == before && keys.len() == names.len().saturating_add(1))
+}
+
+#[test]
+fn a_key_pushed_after_a_copy_is_not_in_the_copy(rt: HostRuntime) -> Result<(), Fail> {
+    assert!(rt; leaves_a_copy(rt.alloc(), &[])?);
+    assert!(rt; leaves_a_copy(rt.alloc(), &["a"])?);
+    assert!(rt; leaves_a_copy(rt.alloc(), &NAMES)?);
+    Ok(())
+}
+
 const LONG: &str = "a_key_of_more_than_thirty_two_bytes";
 
 /// A short and a long key, and a place under each.

@@ -58,7 +58,7 @@ fn hit(alloc: Global, name: &str, data: &str, flags: u32, cas: u64) -> Result<Hi
 pub type Found = (&'static str, &'static str, u32, u64);
 
 /// Puts a hit behind the others.
-fn push_hit(alloc: Global, hits: &mut Hits, found: &Found) -> Result<(), Fail> {
+pub fn push_hit(alloc: Global, hits: &mut Hits, found: &Found) -> Result<(), Fail> {
     let (name, data, flags, cas) = *found;
     let hit = hit(alloc, name, data, flags, cas)?;
     hits.push(alloc, hit)?;

@@ -1,7 +1,7 @@
 //! What no clause says of outcomes, hits and counters: the rows of `stats`, counts by hand, and
 //! each call with memory to spare.
 
-use crate::fixtures::{Found, command, expect_bytes, expect_number, hits};
+use crate::fixtures::{Found, command, expect_bytes, expect_number, hits, push_hit};
 use std::alloc::Global;
 use std::process::Abort;
 use std::test::Fail;
@@ -35,6 +35,33 @@ fn expect_three(rt: &(impl AllocGlobal + Abort), hits: &Hits) -> Result<(), NoMe
 fn hits_stand_in_the_order_pushed(rt: HostRuntime) -> Result<(), Fail> {
     assert!(rt; Hits::new().is_empty());
     expect_three(&rt, &hits(rt.alloc(), &FOUND)?)?;
+    Ok(())
+}
+
+#[test]
+fn a_hit_pushed_after_a_copy_is_not_in_the_copy(rt: HostRuntime) -> Result<(), Fail> {
+    let mut found = hits(rt.alloc(), &FOUND)?;
+    let copied = found.copy(rt.alloc())?;
+    push_hit(rt.alloc(), &mut found, &("c", "data", 7, 4))?;
+    expect_cas(&rt, &copied, &[1, 2, 3]);
+    expect_cas(&rt, &found, &[1, 2, 3, 4]);
+    Ok(())
+}
+
+/// Pushes the three hits where there was room for so many.
+fn pushed_with_room(alloc: Global, room: usize) -> Result<Hits, Fail> {
+    let mut found = Hits::with_capacity(alloc, room)?;
+    for hit in &FOUND {
+        push_hit(alloc, &mut found, hit)?;
+    }
+    Ok(found)
+}
+
+#[test]
+fn hits_stand_in_the_order_pushed_whatever_room_was_made(rt: HostRuntime) -> Result<(), Fail> {
+    for room in &[0, 1, 2, 50] {
+        expect_three(&rt, &pushed_with_room(rt.alloc(), *room)?)?;
+    }
     Ok(())
 }
 
