@@ -25,4 +25,5 @@ returns c =
     own ∙ sym (length-map_own (λ (x : Node). x.next) c.self.inside.nodes.items)
     ∙ ap (λ (l : Links). length l.next) c.self.view_is in
     subst (λ m. AreMarks 4097 m (links ns)) long
-    (marks_written n ns (omega (arith, own, c.self.invariant.marks)) (subst (λ m. AreWritten 4097 m n ns) full c.loop-at.invariant))
+    (marks_written n ns (omega (arith, own, c.self.invariant.marks))
+    (subst (λ m. AreWritten 4097 m n ns) full c.loop-at.invariant))
