@@ -4,8 +4,14 @@ use Rattle.std.proofs.Common.{◌≡◌, ℕ, zero, suc, ◌<◌, ◌+◌, List,
 use Rattle.std.proofs.Common.{subst, arith}
 use Rattle.std.proofs.lemmas.List.{take_more}
 use Rattle.tc_item.specs.declared.slot.Slot.{Slot}
+use Rattle.tc_model.specs.Areas.{Areas}
+use Rattle.tc_plain.specs.declared.entry.Entry.{Entry}
+use Rattle.tc_plain.specs.declared.plans.Plan.{Plan}
+use Rattle.tc_plain.specs.declared.plans.Plan.TheVariants.{Ends, Changes}
 use Rattle.tc_plain.specs.EvictionState.{EvictionState, held, at_moment, advanced}
+use Rattle.tc_plain.specs.Plans.{IsUnder}
 use Rattle.tc_partition.specs.Deferred.{Lazy, IsLazy, settled, raised_to, deferred}
+use Rattle.tc_partition.specs.LiveSlots.{IsFree}
 use Rattle.tc_partition.specs.WaitingSlots.{AreSought}
 use Rattle.tc_partition.proofs.Deferral.{look_answer, noted_lazy, raised_settled, raised_lazy}
 
@@ -60,3 +66,8 @@ held_then f now m q h e =
 -- a look-up that waits changes nothing that a key holds
 pub held_noted : (f : Lazy) (key q : List ℕ) → IsLazy f → held q (settled (deferred f key)).areas ≡ held q (settled f).areas
 held_noted f key q h = look_answer (deferred f key) q (noted_lazy f key h) ∙ sym (look_answer f q h)
+
+-- a plan under a key that holds nothing
+pub free_under : (key : List ℕ) (a : Areas Entry) (plan : Plan) → held key a ≡ None → IsUnder key plan → IsFree a plan
+free_under key a (Ends end) none same = tt
+free_under key a (Changes end e) none same = ap (λ k. held k a) same ∙ none

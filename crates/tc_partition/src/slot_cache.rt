@@ -3,7 +3,7 @@
 //! It is plain data: its contracts speak of the cache that it is, `cache_of`
 //! (`specs/SlotCaches.antt`), under the premise that this is sound, and `Fast`, whose base it is,
 //! keeps it so.
-ghost use Rattle.std.specs.Prelude.{◌≡◌, ◌≤◌, ◌<◌, ◌^◌, max, IfOk, OnOk, OnErr};
+ghost use Rattle.std.specs.Prelude.{◌≡◌, ◌≤◌, ◌<◌, ◌^◌, None, max, IfOk, OnOk, OnErr};
 ghost use Rattle.tc_stats.specs.UserCounters.{noted};
 ghost use Rattle.tc_plain.specs.Entries.{with_due, weight};
 ghost use Rattle.tc_plain.specs.EvictionState.{held};
@@ -14,7 +14,7 @@ ghost use Rattle.tc_plain.specs.Doing.{numbers_of};
 ghost use Rattle.tc_plain.specs.Plans.{outcome_of, planned, IsLightPlan};
 ghost use Rattle.tc_item.specs.Expiry.{due_of};
 ghost use Rattle.tc_plain.specs.AreaLists.{change_of, HasRoom, live_of as lists_live};
-ghost use Rattle.tc_partition.specs.LiveSlots.{live_of, plan_of, IsKeyed};
+ghost use Rattle.tc_partition.specs.LiveSlots.{live_of, plan_of, IsKeyed, IsFree};
 ghost use Rattle.tc_partition.specs.SlotCaches.{cache_of, IsSlotCache};
 ghost use Rattle.tc_partition.specs.WaitingSlots.{SeeksSlot};
 ghost use Rattle.tc_model.specs.Areas.{total};
@@ -114,6 +114,8 @@ impl SlotCache {
         ensures plan { IfOk result (λ plan. planned (advance (cache_of self.now) now) plan
             ≡ stored (advance (cache_of self.now) now) head.now blob.now) }
         ensures light { IfOk result (λ plan. IsLightPlan (cache_of self.now).live.limits plan) }
+        ensures missed { place ≡ None → IfOk result
+            (IsFree (advance (cache_of self.now) now).live.areas) }
     {
         let main = self.live.held.heaviest();
         let moment = self.live.moment.later(now);
@@ -140,6 +142,8 @@ impl SlotCache {
             ≡ counted_under way by (held key.now (advance (cache_of self.now) now).live.areas)
             (advance (cache_of self.now) now)) }
         ensures light { IfOk result (λ plan. IsLightPlan (cache_of self.now).live.limits plan) }
+        ensures missed { place ≡ None → IfOk result
+            (IsFree (advance (cache_of self.now) now).live.areas) }
     {
         let _bytes = key.as_bytes();
         match self.live.held_at(place) {
@@ -148,12 +152,14 @@ impl SlotCache {
         }
     }
 
-    /// Carries work out at the moment, on a key that was found at this place. A refusal changes
-    /// nothing.
+    /// Carries work out at the moment, on a key that was found at this place or holds nothing. A
+    /// refusal changes nothing.
     fn change(&mut self, now: Moment, place: Option<Slot>, work: Work) -> Result<End, NoMemory>
         requires fast { IsSlotCache self.old }
         requires light { IsLightPlan (cache_of self.old).live.limits (plan_of work) }
         requires keyed { IsKeyed work }
+        requires missed { place ≡ None
+            → IsFree (advance (cache_of self.old) now).live.areas (plan_of work) }
         ensures outcome { IfOk result (λ end. outcome_of end
             ≡ (planned (advance (cache_of self.old) now) (plan_of work)).0) }
         ensures state { OnOk result (cache_of self.new
