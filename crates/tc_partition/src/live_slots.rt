@@ -7,7 +7,7 @@ ghost use Rattle.tc_plain.specs.declared.entry.Entry.{Entry};
 ghost use Rattle.tc_plain.specs.Entries.{weight, lives, with_item};
 ghost use Rattle.tc_plain.specs.EvictionState.{is_flush_due, advanced, held};
 ghost use Rattle.tc_plain.specs.Placing.{frequency, used, without_key};
-ghost use Rattle.tc_plain.specs.Doing.{flushed};
+ghost use Rattle.tc_plain.specs.Doing.{flushed, looked_up};
 ghost use Rattle.tc_plain.specs.AreaLists.{change_of, live_of as lists_live};
 ghost use Rattle.tc_plain.specs.Soundness.{AreSound};
 ghost use Rattle.tc_plain.specs.UserCache.{UserCache};
@@ -132,6 +132,31 @@ impl LiveSlots {
             Some(slot) => self.held.entry(slot),
             None => None,
         }
+    }
+
+    /// One look-up of a key that was found at this place or holds nothing: whether it is held. What
+    /// it holds has this due from now on, if one is given.
+    pub(crate) fn look_at(&mut self, place: Option<Slot>, key: &Key, due: Option<Due>) -> bool
+        requires sound { AreSound self.old.held.limits self.old.held.areas }
+        requires weight { total weight self.old.held.areas < 2 ^ 32 }
+        requires missed { place ≡ None → held key.now self.old.held.areas ≡ None }
+        ensures live { live_of self.new ≡ (looked_up (change_of due) key.now
+            (held key.now self.old.held.areas) (live_of self.old)).1 }
+        ensures found { result ≡ is_some (held key.now self.old.held.areas) }
+    {
+        self.sketch.record(hash(key.as_bytes()));
+        let Some(slot) = self.held.find_again(place, key) else {
+            return false;
+        };
+        if !lives_on(&self.held, key, slot, due, self.moment) {
+            self.held.empty(slot);
+            return true;
+        }
+        match due {
+            Some(due) => self.held.touch(key, slot, due),
+            None => self.held.access(key, slot),
+        }
+        true
     }
 
     /// One look-up of the key of what a slot holds.
@@ -297,18 +322,7 @@ impl LookUps for LiveSlots {
     }
 
     fn look(&mut self, key: &Key, due: Option<Due>) -> bool {
-        self.sketch.record(hash(key.as_bytes()));
-        let Some(slot) = self.held.find(key) else {
-            return false;
-        };
-        if !lives_on(&self.held, key, slot, due, self.moment) {
-            self.held.empty(slot);
-            return true;
-        }
-        match due {
-            Some(due) => self.held.touch(key, slot, due),
-            None => self.held.access(key, slot),
-        }
-        true
+        let place = self.held.find(key);
+        self.look_at(place, key, due)
     }
 }
