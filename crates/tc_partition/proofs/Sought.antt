@@ -1,11 +1,25 @@
 -- Places of keys that were sought, one after another.
 use Rattle.std.specs.Prelude.{max}
 use Rattle.std.proofs.Common.{◌≡◌, ℕ, zero, suc, ◌<◌, ◌+◌, List, [], ◌∷◌, ◌++◌, length, get_or, take, Option, None, sym, ◌∙◌, ap}
-use Rattle.std.proofs.Common.{subst, arith}
+use Rattle.std.proofs.Common.{Bool, true, false, cond, Some, refl, subst, arith}
+use Rattle.std.specs.Str.{bytes_eq}
+use Rattle.std.proofs.lemmas.Slice.Eq.{bytes_eq-Decides}
 use Rattle.std.proofs.lemmas.List.{take_more}
 use Rattle.tc_item.specs.declared.slot.Slot.{Slot}
+use Rattle.tc_model.specs.Areas.{Areas}
+use Rattle.tc_plain.specs.declared.entry.Entry.{Entry}
+use Rattle.tc_plain.specs.declared.plans.Plan.{Plan}
+use Rattle.tc_plain.specs.declared.plans.Plan.TheVariants.{Ends, Changes}
 use Rattle.tc_plain.specs.EvictionState.{EvictionState, held, at_moment, advanced}
+use Rattle.tc_plain.specs.Plans.{IsUnder}
+use Rattle.tc_item.specs.declared.item.Item.{Item}
+use Rattle.tc_plain.specs.Entries.{lives, with_item}
+use Rattle.tc_plain.specs.Doing.{looked_up}
+use Rattle.tc_plain.specs.Soundness.{AreSound}
+use Rattle.tc_plain.proofs.Asked.{held-used}
+use Rattle.tc_plain.proofs.Used.{held_key}
 use Rattle.tc_partition.specs.Deferred.{Lazy, IsLazy, settled, raised_to, deferred}
+use Rattle.tc_partition.specs.LiveSlots.{IsFree}
 use Rattle.tc_partition.specs.WaitingSlots.{AreSought}
 use Rattle.tc_partition.proofs.Deferral.{look_answer, noted_lazy, raised_settled, raised_lazy}
 
@@ -42,13 +56,31 @@ sought_at (k ∷ keys) [] l n d e h lt none = absurd h
 sought_at (k ∷ keys) (p ∷ places) l zero d e h lt none = h.0 none
 sought_at (k ∷ keys) (p ∷ places) l (suc n) d e h lt none = sought_at keys places l n d e h.1 (omega (arith, lt)) none
 
--- where the same is held under each key
-pub sought_same : (keys : List (List ℕ)) (places : List (Option Slot)) (l j : EvictionState)
-    → ((q : List ℕ) → held q j.areas ≡ held q l.areas) → AreSought keys places l → AreSought keys places j
-sought_same [] [] l j f h = tt
-sought_same [] (p ∷ places) l j f h = absurd h
-sought_same (k ∷ keys) [] l j f h = absurd h
-sought_same (k ∷ keys) (p ∷ places) l j f h = (λ none. f k ∙ h.0 none, sought_same keys places l j f h.1)
+-- where what holds nothing still does
+pub sought_less : (keys : List (List ℕ)) (places : List (Option Slot)) (l j : EvictionState)
+    → ((q : List ℕ) → held q l.areas ≡ None → held q j.areas ≡ None) → AreSought keys places l → AreSought keys places j
+sought_less [] [] l j f h = tt
+sought_less [] (p ∷ places) l j f h = absurd h
+sought_less (k ∷ keys) [] l j f h = absurd h
+sought_less (k ∷ keys) (p ∷ places) l j f h = (λ none. f k (h.0 none), sought_less keys places l j f h.1)
+
+-- a look-up puts nothing under a key that holds nothing
+pub unheld-looked_up : (change : Item → Item) (key q : List ℕ) (l : EvictionState) → AreSound l.limits l.areas
+    → held q l.areas ≡ None → held q (looked_up change key (held key l.areas) l).1.areas ≡ None
+unheld-looked_up change key q l sound none = go (held key l.areas) refl
+  where
+    go : (o : Option Entry) → held key l.areas ≡ o → held q (looked_up change key o l).1.areas ≡ None
+    go None f = none
+    go (Some e) f =
+        let x : Entry = with_item e (change e.item) in
+        let own : held e.key l.areas ≡ Some e = ap (λ k. held k l.areas) (held_key key l.areas e f) ∙ f in
+        held-used l x e q (lives l.moment x) sound own refl
+        ∙ at (bytes_eq e.key q) (cond (lives l.moment x) (Some x) None) refl own
+      where
+        at : (t : Bool) (o : Option Entry) → bytes_eq e.key q ≡ t → held e.key l.areas ≡ Some e
+            → cond t o (held q l.areas) ≡ None
+        at true o same own = absurd (cc (sym none ∙ ap (λ k. held k l.areas) (sym ((bytes_eq-Decides e.key q).0 same)) ∙ own))
+        at false o same own = none
 
 -- what a key will hold with nothing done first, it will hold once all that waits is done
 pub held_then : (f : Lazy) (now m : ℕ) (q : List ℕ) → IsLazy f → m ≡ max f.moment now
@@ -60,3 +92,8 @@ held_then f now m q h e =
 -- a look-up that waits changes nothing that a key holds
 pub held_noted : (f : Lazy) (key q : List ℕ) → IsLazy f → held q (settled (deferred f key)).areas ≡ held q (settled f).areas
 held_noted f key q h = look_answer (deferred f key) q (noted_lazy f key h) ∙ sym (look_answer f q h)
+
+-- a plan under a key that holds nothing
+pub free_under : (key : List ℕ) (a : Areas Entry) (plan : Plan) → held key a ≡ None → IsUnder key plan → IsFree a plan
+free_under key a (Ends end) none same = tt
+free_under key a (Changes end e) none same = ap (λ k. held k a) same ∙ none

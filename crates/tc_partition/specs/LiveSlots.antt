@@ -1,6 +1,8 @@
 -- What look-ups touch, by what the code keeps. Source: this project's own.
-use Rattle.std.specs.Prelude.{◌≡◌}
-use Rattle.tc_plain.specs.EvictionState.{EvictionState}
+use Rattle.std.specs.Prelude.{◌≡◌, None}
+use Rattle.tc_model.specs.Areas.{Areas}
+use Rattle.tc_plain.specs.declared.entry.Entry.{Entry}
+use Rattle.tc_plain.specs.EvictionState.{EvictionState, held}
 use Rattle.tc_plain.specs.declared.plans.Plan.{Plan}
 use Rattle.tc_plain.specs.declared.plans.Plan.TheVariants.{Ends, Changes}
 use Rattle.tc_partition.specs.declared.live_slots.LiveSlots.{LiveSlots}
@@ -20,3 +22,8 @@ plan_of (ChangesWork end key entry) = Changes end entry
 abbrev pub IsKeyed : Work → Type 0
 IsKeyed (EndsWork end) = Unit {0}
 IsKeyed (ChangesWork end key entry) = key ≡ entry.key
+
+-- nothing is held under the key of a plan's entry
+abbrev pub IsFree : Areas Entry → Plan → Type 0
+IsFree a (Ends end) = Unit {0}
+IsFree a (Changes end e) = held e.key a ≡ None

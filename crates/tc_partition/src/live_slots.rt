@@ -7,7 +7,7 @@ ghost use Rattle.tc_plain.specs.declared.entry.Entry.{Entry};
 ghost use Rattle.tc_plain.specs.Entries.{weight, lives, with_item};
 ghost use Rattle.tc_plain.specs.EvictionState.{is_flush_due, advanced, held};
 ghost use Rattle.tc_plain.specs.Placing.{frequency, used, without_key};
-ghost use Rattle.tc_plain.specs.Doing.{flushed};
+ghost use Rattle.tc_plain.specs.Doing.{flushed, looked_up};
 ghost use Rattle.tc_plain.specs.AreaLists.{change_of, live_of as lists_live};
 ghost use Rattle.tc_plain.specs.Soundness.{AreSound};
 ghost use Rattle.tc_plain.specs.UserCache.{UserCache};
@@ -15,7 +15,7 @@ ghost use Rattle.tc_plain.specs.Plans.{outcome_of, planned, IsLightPlan};
 ghost use Rattle.tc_partition.specs.Held.{IsFound};
 ghost use Rattle.tc_partition.specs.Deferred.{Miss, hit, do_note, peeked};
 ghost use Rattle.tc_partition.specs.WaitingSlots.{SeeksSlot};
-ghost use Rattle.tc_partition.specs.LiveSlots.{live_of, plan_of, IsKeyed};
+ghost use Rattle.tc_partition.specs.LiveSlots.{live_of, plan_of, IsKeyed, IsFree};
 
 use crate::slots::Slots;
 use crate::work::Work;
@@ -134,6 +134,31 @@ impl LiveSlots {
         }
     }
 
+    /// One look-up of a key that was found at this place or holds nothing: whether it is held. What
+    /// it holds has this due from now on, if one is given.
+    pub(crate) fn look_at(&mut self, place: Option<Slot>, key: &Key, due: Option<Due>) -> bool
+        requires sound { AreSound self.old.held.limits self.old.held.areas }
+        requires weight { total weight self.old.held.areas < 2 ^ 32 }
+        requires missed { place ≡ None → held key.now self.old.held.areas ≡ None }
+        ensures live { live_of self.new ≡ (looked_up (change_of due) key.now
+            (held key.now self.old.held.areas) (live_of self.old)).1 }
+        ensures found { result ≡ is_some (held key.now self.old.held.areas) }
+    {
+        self.sketch.record(hash(key.as_bytes()));
+        let Some(slot) = self.held.find_again(place, key) else {
+            return false;
+        };
+        if !lives_on(&self.held, key, slot, due, self.moment) {
+            self.held.empty(slot);
+            return true;
+        }
+        match due {
+            Some(due) => self.held.touch(key, slot, due),
+            None => self.held.access(key, slot),
+        }
+        true
+    }
+
     /// One look-up of the key of what a slot holds.
     pub(crate) fn hit_at(&mut self, slot: Slot)
         requires held { IsSome (slice_index_or self.old.held.slots slot.0 None) }
@@ -158,10 +183,11 @@ impl LiveSlots {
         self.sketch.record(hash);
     }
 
-    /// Puts an entry in the place of what its key holds. The index is asked only where the key isn't
-    /// at this place.
+    /// Puts an entry in the place of what its key holds, which was found at this place or holds
+    /// nothing.
     fn use_new(&mut self, place: Option<Slot>, key: Key, entry: Entry)
         requires key { key ≡ entry.key }
+        requires missed { place ≡ None → held entry.key self.old.held.areas ≡ None }
         requires light { weight entry ≤ self.old.held.limits.main }
         requires weight { total weight self.old.held.areas + weight entry < 2 ^ 64 }
         requires room { self.old.held.has_room ≡ true }
@@ -169,7 +195,7 @@ impl LiveSlots {
     {
         self.sketch.record(hash(key.as_bytes()));
         let alive = alive(&entry.item, self.moment);
-        match self.held.find_from(place, &key) {
+        match self.held.find_again(place, &key) {
             Some(slot) => {
                 if alive {
                     self.held.replace(slot, entry);
@@ -185,10 +211,11 @@ impl LiveSlots {
         }
     }
 
-    /// Puts an entry in the place of what its key holds, which was found at this place, and brings
-    /// each area within its limit; each entry that is dropped is counted.
+    /// Puts an entry in the place of what its key holds, which was found at this place or holds
+    /// nothing, and brings each area within its limit; each entry that is dropped is counted.
     fn change(&mut self, place: Option<Slot>, key: Key, entry: Entry, evictions: u64) -> u64
         requires key { key ≡ entry.key }
+        requires missed { place ≡ None → held entry.key self.old.held.areas ≡ None }
         requires light { weight entry ≤ self.old.held.limits.main }
         requires weight { total weight self.old.held.areas + weight entry < 2 ^ 64 }
         requires room { self.old.held.has_room ≡ true }
@@ -248,8 +275,9 @@ impl LiveSlots {
         })
     }
 
-    /// Carries work out on a key that was found at this place, for which there is room: an entry
-    /// gets the next cas number after `last`, and each entry that is dropped for it is counted.
+    /// Carries work out on a key that was found at this place or holds nothing, for which there is
+    /// room: an entry gets the next cas number after `last`, and each entry that is dropped for it
+    /// is counted.
     pub(crate) fn carry_out(
         &mut self,
         place: Option<Slot>,
@@ -262,6 +290,7 @@ impl LiveSlots {
         requires main { self.old.held.limits.main < 2 ^ 63 }
         requires room { self.old.held.has_room ≡ true }
         requires keyed { IsKeyed work }
+        requires missed { place ≡ None → IsFree self.old.held.areas (plan_of work) }
         ensures outcome { (k : UserCache) → k.live ≡ live_of self.old → k.last ≡ last.old
             → outcome_of result ≡ (planned k (plan_of work)).0 }
         ensures state { (k : UserCache) → k.live ≡ live_of self.old → k.last ≡ last.old
@@ -293,18 +322,7 @@ impl LookUps for LiveSlots {
     }
 
     fn look(&mut self, key: &Key, due: Option<Due>) -> bool {
-        self.sketch.record(hash(key.as_bytes()));
-        let Some(slot) = self.held.find(key) else {
-            return false;
-        };
-        if !lives_on(&self.held, key, slot, due, self.moment) {
-            self.held.empty(slot);
-            return true;
-        }
-        match due {
-            Some(due) => self.held.touch(key, slot, due),
-            None => self.held.access(key, slot),
-        }
-        true
+        let place = self.held.find(key);
+        self.look_at(place, key, due)
     }
 }

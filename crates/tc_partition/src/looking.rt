@@ -1,8 +1,11 @@
 //! Look-ups that wait: what they show is peeked at, then each is noted.
 ghost use Rattle.std.specs.Prelude.{◌≡◌, ◌<◌, ◌∷◌, ◌++◌, [], None, nat_lt, length, option_map, option_to_list, IfOk, OnOk, OnErr};
-ghost use Rattle.std.specs.Prelude.{ℕ, List};
+ghost use Rattle.std.specs.Prelude.{ℕ, List, ◌&&◌, ◌+◌, ◌^◌, cond};
+ghost use Rattle.std.specs.Str.{bytes_eq};
+ghost use Rattle.std.specs.List.{list_any};
 ghost use Rattle.tc_plain.specs.Entries.{hit_of};
 ghost use Rattle.tc_plain.specs.EvictionState.{at_moment, held};
+ghost use Rattle.tc_plain.specs.AreaLists.{change_of};
 ghost use Rattle.tc_plain.specs.Soundness.{AreSound};
 ghost use Rattle.tc_plain.specs.UserCache.{advance};
 ghost use Rattle.tc_plain.specs.Doing.{with_live, all_looked_up};
@@ -15,7 +18,8 @@ use crate::Fast;
 use crate::live_slots::LiveSlots;
 use smallvec::SmallVec;
 use std::alloc::Global;
-use tc_item::{Key, Moment, NoMemory, Slot};
+use tc_item::{Due, Key, Moment, NoMemory, Slot};
+use tc_plain::{is_asked, is_due};
 use tc_readbuf::{Noted, PLACES, ReadBuf};
 use tc_sketch::hash;
 use tc_stats::Hits;
@@ -46,27 +50,71 @@ fn add_hit(
     Ok(Some(slot))
 }
 
-/// The hits of keys at the moment, in the order asked, and where each key was found.
-fn seek_all(
+/// The same, of a key that was not among those asked before, or is not gone since then.
+fn add_next(
+    alloc: Global,
+    live: &LiveSlots,
+    asked: &[Key],
+    key: &Key,
+    moment: Moment,
+    gone: bool,
+    hits: &mut Hits,
+) -> Result<Option<Slot>, NoMemory>
+    requires { AreSound live.now.held.limits live.now.held.areas }
+    ensures hits { OnOk result (hits.new ≡ hits.old
+        ++ option_to_list (cond (gone && list_any (λ k. bytes_eq k key.now) asked.now) None
+        (option_map hit_of (peeked moment key.now (live_of live.now))))) }
+    ensures place { IfOk result (λ place. SeeksSlot place moment key.now live.now) }
+{
+    if gone && is_asked(asked, key) {
+        return Ok(live.seek(key, moment));
+    }
+    add_hit(alloc, live, key, moment, hits)
+}
+
+/// The hits of keys at the moment, in the order asked, and where each key was found. What is held
+/// has this due after its hit, if one is given; where that due has come it is gone, so that a key
+/// asked again shows nothing.
+pub(crate) fn seek_all(
     alloc: Global,
     live: &LiveSlots,
     keys: &[Key],
     moment: Moment,
+    due: Option<Due>,
 ) -> Result<(Hits, Places), NoMemory>
     requires { AreSound live.now.held.limits live.now.held.areas }
     ensures hits { IfOk result (λ r. r.0
-        ≡ (all_looked_up (λ i. i) keys.now (at_moment moment (live_of live.now))).0) }
+        ≡ (all_looked_up (change_of due) keys.now (at_moment moment (live_of live.now))).0) }
     ensures places { IfOk result (λ r.
         AreSought keys.now r.1.items (at_moment moment (live_of live.now))) }
 {
+    let gone = is_due(due, moment);
     let mut hits = Hits::with_capacity(alloc, keys.len())?;
     let mut places = SmallVec::new(alloc);
     places.reserve(keys.len())?;
-    for key in keys {
-        let place = add_hit(alloc, live, key, moment, &mut hits)?;
+    for (i, key) in keys.iter().enumerate() {
+        let place = add_next(alloc, live, &keys[..i], key, moment, gone, &mut hits)?;
         places.push(place)?;
     }
     Ok((hits, places))
+}
+
+/// Looks up keys that were found at these places, one after another; a key with no place holds
+/// nothing. What they hold has this due from now on, if one is given.
+pub(crate) fn look_all(
+    live: &mut LiveSlots,
+    keys: &[Key],
+    places: &[Option<Slot>],
+    due: Option<Due>,
+)
+    requires sound { AreSound live.old.held.limits live.old.held.areas }
+    requires light { live.old.held.limits.window + live.old.held.limits.main < 2 ^ 32 }
+    requires sought { AreSought keys.now places.now (live_of live.old) }
+    ensures { live_of live.new ≡ (all_looked_up (change_of due) keys.now (live_of live.old)).1 }
+{
+    for (i, key) in keys.iter().enumerate() {
+        live.look_at(places[i], key, due);
+    }
 }
 
 /// Notes behind what waits, where there is room.
@@ -87,7 +135,7 @@ impl Fast {
             AreSought keys.now r.1.items (advance (settled_in self.now) now).live) }
     {
         let moment = self.moment.later(now);
-        seek_all(alloc, &self.cache.live, keys, moment)
+        seek_all(alloc, &self.cache.live, keys, moment, None)
     }
 
     /// Notes a look-up of a key, which was found at this place, or holds nothing.

@@ -3,7 +3,7 @@
 //! It is plain data: its contracts speak of the cache that it is, `cache_of`
 //! (`specs/SlotCaches.antt`), under the premise that this is sound, and `Fast`, whose base it is,
 //! keeps it so.
-ghost use Rattle.std.specs.Prelude.{◌≡◌, ◌≤◌, ◌<◌, ◌^◌, max, IfOk, OnOk, OnErr};
+ghost use Rattle.std.specs.Prelude.{◌≡◌, ◌≤◌, ◌<◌, ◌^◌, None, max, IfOk, OnOk, OnErr};
 ghost use Rattle.tc_stats.specs.UserCounters.{noted};
 ghost use Rattle.tc_plain.specs.Entries.{with_due, weight};
 ghost use Rattle.tc_plain.specs.EvictionState.{held};
@@ -14,12 +14,13 @@ ghost use Rattle.tc_plain.specs.Doing.{numbers_of};
 ghost use Rattle.tc_plain.specs.Plans.{outcome_of, planned, IsLightPlan};
 ghost use Rattle.tc_item.specs.Expiry.{due_of};
 ghost use Rattle.tc_plain.specs.AreaLists.{change_of, HasRoom, live_of as lists_live};
-ghost use Rattle.tc_partition.specs.LiveSlots.{live_of, plan_of, IsKeyed};
+ghost use Rattle.tc_partition.specs.LiveSlots.{live_of, plan_of, IsKeyed, IsFree};
 ghost use Rattle.tc_partition.specs.SlotCaches.{cache_of, IsSlotCache};
 ghost use Rattle.tc_partition.specs.WaitingSlots.{SeeksSlot};
 ghost use Rattle.tc_model.specs.Areas.{total};
 
 use crate::live_slots::LiveSlots;
+use crate::looking::{look_all, seek_all};
 use crate::slots::Slots;
 use crate::work::{Work, with_key};
 use std::alloc::Global;
@@ -27,9 +28,7 @@ use std::hash::RandomState;
 use tc_grammar::{Command, Head, Way};
 use tc_item::exptime::due;
 use tc_item::{Blob, Due, Key, Keys, Moment, NoMemory, Slot};
-use tc_plain::{
-    Bid, End, EvictionState, Limits, LookUps, Plan, look_all, look_up, offer, plan_count, plan_item,
-};
+use tc_plain::{Bid, End, EvictionState, Limits, LookUps, Plan, offer, plan_count, plan_item};
 use tc_sketch::{Sketch, width_of};
 use tc_stats::{Counters, Hits, Outcome, Statistics};
 
@@ -114,6 +113,8 @@ impl SlotCache {
         ensures plan { IfOk result (λ plan. planned (advance (cache_of self.now) now) plan
             ≡ stored (advance (cache_of self.now) now) head.now blob.now) }
         ensures light { IfOk result (λ plan. IsLightPlan (cache_of self.now).live.limits plan) }
+        ensures missed { place ≡ None → IfOk result
+            (IsFree (advance (cache_of self.now) now).live.areas) }
     {
         let main = self.live.held.heaviest();
         let moment = self.live.moment.later(now);
@@ -140,6 +141,8 @@ impl SlotCache {
             ≡ counted_under way by (held key.now (advance (cache_of self.now) now).live.areas)
             (advance (cache_of self.now) now)) }
         ensures light { IfOk result (λ plan. IsLightPlan (cache_of self.now).live.limits plan) }
+        ensures missed { place ≡ None → IfOk result
+            (IsFree (advance (cache_of self.now) now).live.areas) }
     {
         let _bytes = key.as_bytes();
         match self.live.held_at(place) {
@@ -148,12 +151,14 @@ impl SlotCache {
         }
     }
 
-    /// Carries work out at the moment, on a key that was found at this place. A refusal changes
-    /// nothing.
+    /// Carries work out at the moment, on a key that was found at this place or holds nothing. A
+    /// refusal changes nothing.
     fn change(&mut self, now: Moment, place: Option<Slot>, work: Work) -> Result<End, NoMemory>
         requires fast { IsSlotCache self.old }
         requires light { IsLightPlan (cache_of self.old).live.limits (plan_of work) }
         requires keyed { IsKeyed work }
+        requires missed { place ≡ None
+            → IsFree (advance (cache_of self.old) now).live.areas (plan_of work) }
         ensures outcome { IfOk result (λ end. outcome_of end
             ≡ (planned (advance (cache_of self.old) now) (plan_of work)).0) }
         ensures state { OnOk result (cache_of self.new
@@ -285,10 +290,10 @@ impl SlotCache {
         ensures unchanged_on_err { OnErr result (cache_of self.new ≡ cache_of self.old) }
     {
         let moment = self.live.moment.later(now);
-        let first = look_up(alloc, &self.live, keys, moment, due)?;
+        let (first, places) = seek_all(alloc, &self.live, keys, moment, due)?;
         let second = first.copy(alloc)?;
         self.live.advance(now);
-        look_all(&mut self.live, keys, due);
+        look_all(&mut self.live, keys, places.as_slice(), due);
         Ok((first, second))
     }
 

@@ -127,6 +127,19 @@ impl Slots {
         }
     }
 
+    /// The slot of what a key holds, which was found at this place or holds nothing; the index is
+    /// asked only where that isn't this place any more.
+    pub fn find_again(&self, place: Option<Slot>, key: &Key) -> Option<Slot>
+        requires { place ≡ None → held key.now self.now.areas ≡ None }
+        ensures { FindsSlot result key.now self.now }
+    {
+        let _ = &self.index;
+        match place {
+            Some(slot) => self.find_from(Some(slot), key),
+            None => None,
+        }
+    }
+
     /// What a slot holds.
     pub fn entry(&self, slot: Slot) -> Option<&Entry>
         ensures { option_copied result ≡ slice_index_or self.now.slots slot.0 None }

@@ -1,5 +1,5 @@
 -- How commands end that show no item, and what a command will do that may change data. Source: this project's own.
-use Rattle.std.specs.Prelude.{ℕ, ◌+◌, ◌≤◌, cond, ⊤}
+use Rattle.std.specs.Prelude.{◌≡◌, ℕ, ◌+◌, ◌≤◌, cond, List, ⊤}
 use Rattle.tc_model.specs.Areas.{Limits}
 use Rattle.tc_item.specs.declared.item.Item.{Item}
 use Rattle.tc_stats.specs.declared.outcome.Outcome.{Outcome}
@@ -57,3 +57,8 @@ planned k (Changes end e) = cond (is_worn k) (CasWorn, k) (outcome_of end, chang
 abbrev pub IsLightPlan : Limits → Plan → Type 0
 IsLightPlan limits (Ends end) = ⊤
 IsLightPlan limits (Changes end e) = weight e ≤ limits.main
+
+-- the entry of a plan has this key
+abbrev pub IsUnder : List ℕ → Plan → Type 0
+IsUnder key (Ends end) = ⊤
+IsUnder key (Changes end e) = e.key ≡ key

@@ -14,7 +14,7 @@ use tc_item::{Due, Key, Moment, NoMemory};
 use tc_stats::Hits;
 
 /// Whether a due is given that has come at the moment.
-fn is_due(due: Option<Due>, moment: Moment) -> bool
+pub fn is_due(due: Option<Due>, moment: Moment) -> bool
     ensures { result ≡ is_due due moment }
 {
     match due {
@@ -24,7 +24,7 @@ fn is_due(due: Option<Due>, moment: Moment) -> bool
 }
 
 /// Whether the key is one of the keys.
-fn is_asked(keys: &[Key], key: &Key) -> bool
+pub fn is_asked(keys: &[Key], key: &Key) -> bool
     ensures { result ≡ list_any (λ k. bytes_eq k key.now) keys.now }
 {
     keys.iter().any(|asked| asked == key)

@@ -34,7 +34,7 @@ pub use cache::Cache;
 pub use end::End;
 pub use entry::Entry;
 pub use eviction_state::EvictionState;
-pub use hits::{look_all, look_up};
+pub use hits::{is_asked, is_due, look_all, look_up};
 pub use laws::{advancing, freshness, soundness};
 pub use limits::Limits;
 pub use lookups::LookUps;

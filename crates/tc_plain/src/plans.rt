@@ -8,7 +8,7 @@ ghost use Rattle.tc_plain.specs.UserCache.{UserCache};
 ghost use Rattle.tc_plain.specs.Storing.{Offered, accepted};
 ghost use Rattle.tc_plain.specs.Doing.{counted, counted_under};
 ghost use Rattle.tc_plain.specs.AreaLists.{areas_of, live_of, HasRoom};
-ghost use Rattle.tc_plain.specs.Plans.{outcome_of, with_cas, planned, IsLightPlan};
+ghost use Rattle.tc_plain.specs.Plans.{outcome_of, with_cas, planned, IsLightPlan, IsUnder};
 
 use crate::end::End;
 use crate::{Entry, EvictionState};
@@ -37,6 +37,7 @@ pub fn plan_item(
         → planned k plan ≡ accepted k key.now (Offered (with_cas (k.last + 1) item))) }
     ensures light { IfOk result (λ plan. (limits : Limits) → limits.main ≡ main
         → IsLightPlan limits plan) }
+    ensures key { IfOk result (IsUnder key.now) }
 {
     let key = key.copy(alloc)?;
     let entry = Entry { key, item };

@@ -7,7 +7,7 @@ use Rattle.tc_plain.specs.Plans.{IsLightPlan}
 use Rattle.tc_plain.proofs.Advances.{limits-at_moment}
 use Rattle.tc_plain.proofs.Stays.{sound_advance}
 use Rattle.tc_plain.proofs.Planning.{weighs_little}
-use Rattle.tc_partition.specs.LiveSlots.{plan_of}
+use Rattle.tc_partition.specs.LiveSlots.{plan_of, IsFree}
 use Rattle.tc_partition.specs.SlotCaches.{cache_of}
 use Rattle.tc_partition.proofs.Limited.{main_small}
 use Rattle.tc_partition.proofs.slot_cache.SlotCache.change.Goals as goal
@@ -36,3 +36,8 @@ carry_out-requires-clause-main c =
 
 pub carry_out-requires-clause-room : goal.carry_out-requires-clause-room
 carry_out-requires-clause-room c = c.advance.ensures.room c.in_ok-make_room.ensures.room
+
+pub carry_out-requires-clause-missed : goal.carry_out-requires-clause-missed
+carry_out-requires-clause-missed c = λ none.
+    let come = c.advance.ensures.live ∙ ap (λ (l : EvictionState). advanced l c.args.now) c.make_room.ensures.live in
+    subst (λ (l : EvictionState). IsFree l.areas (plan_of c.args.work)) (sym come) (c.requires.missed none)
