@@ -9,7 +9,7 @@ use std::alloc::Global;
 use tc_feed::Feed;
 use tc_grammar::Command;
 use tc_item::{Key, NoMemory};
-use tc_session::{Session, Want};
+use tc_session::{Session, Want, can_end};
 use tc_stats::{Hit, Hits, Outcome};
 use tc_users::{Text, UserSpec, Users};
 
@@ -208,7 +208,9 @@ impl Cache<'_> {
     fn answer(&self, session: &mut Session, command: &Command) -> Result<Turn, NoMemory>
         requires room { 64 ≤ session.old.room }
     {
-        session.answer(command, self.outcome)?;
+        if can_end(command, self.outcome) {
+            session.answer(command, self.outcome)?;
+        }
         Ok(Turn::Served)
     }
 

@@ -1,9 +1,10 @@
 //! What one connection's step does: small functions over the server's parts.
-ghost use Rattle.std.specs.Prelude.{◌≡◌, ◌≤◌, ◌++◌, map, Some, OnOk, OnErr};
+ghost use Rattle.std.specs.Prelude.{◌≡◌, ◌≢◌, ◌≤◌, ◌++◌, true, map, Some, IfOk, OnOk, OnErr};
 ghost use Rattle.tc_model.specs.Connection.{turn, user_at};
 ghost use Rattle.tc_model.specs.Server.{call_effect, turn_effect, effect, numbered, with_some};
+ghost use Rattle.tc_grammar.specs.declared.command.Command.TheVariants.{Quit};
 ghost use Rattle.tc_plain.specs.Doing.{act};
-ghost use Rattle.tc_session.specs.Replies.{render};
+ghost use Rattle.tc_session.specs.Replies.{can_end, render};
 ghost use Rattle.tc_session.specs.TextProtocol.{text_protocol};
 ghost use Rattle.tc_core.specs.ServerMachine.{server_machine};
 ghost use Rattle.tc_core.specs.Steps.{connection_of, numbered_of, happening_of};
@@ -16,7 +17,27 @@ use tc_grammar::Command;
 use tc_item::{Moment, NoMemory};
 use tc_plain::Cache;
 use tc_session::{Session, Want};
+use tc_stats::Outcome;
 use tc_users::{UserNo, Users};
+
+/// Does a command in one cache: what it comes to.
+fn outcome_of<C: Cache>(
+    alloc: Global,
+    cache: &mut C,
+    clock: Moment,
+    command: &Command,
+) -> Result<Outcome, NoMemory>
+    requires runs { command.now ≢ Quit }
+    ensures outcome { IfOk result (λ outcome. outcome
+        ≡ (act (C.settled cache.old) clock command.now).0) }
+    ensures can_end { IfOk result (λ outcome. can_end command.now outcome ≡ true) }
+    ensures cache { OnOk result (C.settled cache.new
+        ≡ (act (C.settled cache.old) clock command.now).1) }
+    ensures unchanged_on_err { OnErr result (C.settled cache.new ≡ C.settled cache.old) }
+{
+    let (outcome, _kept) = cache.act(alloc, clock, command)?;
+    Ok(outcome)
+}
 
 /// Does a command in one cache, and says its reply.
 fn cache_step<C: Cache>(
@@ -26,7 +47,8 @@ fn cache_step<C: Cache>(
     session: &mut Session,
     command: &Command,
 ) -> Result<(), NoMemory>
-    requires { 64 ≤ session.old.room }
+    requires room { 64 ≤ session.old.room }
+    requires runs { command.now ≢ Quit }
     ensures cache { OnOk result (C.settled cache.new
         ≡ (act (C.settled cache.old) clock command.now).1) }
     ensures endpoint { session.new.endpoint ≡ session.old.endpoint }
@@ -36,8 +58,8 @@ fn cache_step<C: Cache>(
     ensures left { OnErr result (IsLeftOver clock (C.settled cache.old) command.now
         (C.settled cache.new)) }
 {
-    match cache.act(alloc, clock, command) {
-        Ok((outcome, _kept)) => session.answer(command, &outcome),
+    match outcome_of(alloc, cache, clock, command) {
+        Ok(outcome) => session.answer(command, &outcome),
         Err(refused) => {
             session.refuse(command);
             Err(refused)
@@ -54,7 +76,8 @@ fn call_step<C: Cache>(
     user: UserNo,
     command: &Command,
 ) -> Result<(), NoMemory>
-    requires { 64 ≤ session.old.room }
+    requires room { 64 ≤ session.old.room }
+    requires runs { command.now ≢ Quit }
     ensures caches { OnOk result (map C.settled caches.new.items
         ≡ (call_effect server_machine clock (map C.settled caches.old.items) user command.now
         session.old.endpoint session.old.out

@@ -5,3 +5,4 @@ pub mod KeptBooks
 pub mod Calls
 pub mod Closing
 pub mod Moments
+pub mod Outcomes

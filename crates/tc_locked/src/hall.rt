@@ -2,6 +2,7 @@
 ghost use Rattle.std.specs.Prelude.{◌≡◌, ◌<◌, ◌≤◌, length, IfOk, OnOk, IfErr, OnErr, vec_len};
 ghost use Rattle.tc_locked.specs.Closing.{AllKept, AllTied, AllThere, AllFresh};
 ghost use Rattle.tc_locked.specs.Calls.{IsUser, Wrote};
+ghost use Rattle.tc_locked.specs.Outcomes.{IsOutcomeOf};
 ghost use Rattle.tc_locked.specs.declared.call_fault.CallFault.TheVariants.{NoUser};
 
 use crate::call_fault::CallFault;
@@ -76,6 +77,7 @@ impl<C: Cache, N: Naming> Hall<C, N> {
         ensures receipt { IfOk result (λ receipt. receipt.user ≡ user) }
         ensures wrote { IfOk result (λ receipt. Wrote user seat.old now conn command.now
             receipt.slip seat.new) }
+        ensures outcome { IfOk result (λ receipt. IsOutcomeOf command.now receipt.slip.outcome) }
         ensures known { IfOk result (λ _. IsUser self.now user) }
         ensures unknown { IfErr result (λ fault. (fault ≡ NoUser → IsUser self.now user → ⊥)
             × ((IsUser self.now user → ⊥) → fault ≡ NoUser)) }
@@ -133,6 +135,7 @@ impl<C: Cache, N: Naming> Hall<C, N> {
         ensures receipt { IfOk result (λ receipt. receipt.user ≡ user) }
         ensures wrote { IfOk result (λ receipt. Wrote user seat.old now conn command.now
             receipt.slip seat.new) }
+        ensures outcome { IfOk result (λ receipt. IsOutcomeOf command.now receipt.slip.outcome) }
         ensures known { IfOk result (λ _. IsUser self.now user) }
         ensures unknown { IfErr result (λ fault. (fault ≡ NoUser → IsUser self.now user → ⊥)
             × ((IsUser self.now user → ⊥) → fault ≡ NoUser)) }

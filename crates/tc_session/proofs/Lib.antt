@@ -1,1 +1,2 @@
 mod Logins
+pub mod Served

@@ -1,5 +1,5 @@
 //! Which outcomes a command can come to, and how its reply is written.
-ghost use Rattle.std.specs.Prelude.{◌≡◌, ◌≤◌, ◌++◌, false, take, length, IsOk, OnOk, OnErr};
+ghost use Rattle.std.specs.Prelude.{◌≡◌, ◌≤◌, ◌++◌, true, false, take, length, IsOk, OnOk, OnErr};
 ghost use Rattle.tc_grammar.specs.declared.fault.Fault.TheVariants.{NoMemory as OutOfMemory};
 ghost use Rattle.tc_session.specs.Unsent.{KeepsSpace};
 ghost use Rattle.tc_session.specs.Texts.{fault_line, unless_quiet};
@@ -34,8 +34,9 @@ fn is_store_end(outcome: &Outcome) -> bool
     )
 }
 
-/// Whether the command has outcomes of this kind.
-fn can_end(command: &Command, outcome: &Outcome) -> bool
+/// Whether the command has outcomes of this kind. A cache gives no other; one who makes outcomes by hand
+/// may ask.
+pub fn can_end(command: &Command, outcome: &Outcome) -> bool
     ensures { result ≡ can_end command.now outcome.now }
 {
     match command {
@@ -116,13 +117,14 @@ pub(crate) fn write_reply(
     command: &Command,
     outcome: &Outcome,
 ) -> Result<(), NoMemory>
-    requires { 64 ≤ out.old.room }
+    requires room { 64 ≤ out.old.room }
+    requires can_end { can_end command.now outcome.now ≡ true }
     ensures bytes { OnOk result (out.new.bytes ≡ out.old.bytes ++ render command.now outcome.now) }
     ensures refused { OnErr result (out.new.bytes
         ≡ out.old.bytes ++ unless_quiet (is_quiet command.now) (fault_line OutOfMemory)) }
     ensures short { is_long outcome.now ≡ false → IsOk result }
 {
-    if is_quiet(command) || !can_end(command, outcome) {
+    if is_quiet(command) {
         return Ok(());
     }
     let mark = out.len();

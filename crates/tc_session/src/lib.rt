@@ -12,5 +12,6 @@ mod reply;
 mod session;
 mod want;
 
+pub use answering::can_end;
 pub use session::Session;
 pub use want::Want;

@@ -1,10 +1,10 @@
 //! A connection.
-ghost use Rattle.std.specs.Prelude.{◌≡◌, ◌≢◌, ◌+◌, ◌≤◌, ◌++◌, ℕ, [], false, codes, drop, length, None, IsOk, IfOk, OnOk, OnErr};
+ghost use Rattle.std.specs.Prelude.{◌≡◌, ◌≢◌, ◌+◌, ◌≤◌, ◌++◌, ℕ, [], true, false, codes, drop, length, None, IsOk, IfOk, OnOk, OnErr};
 ghost use Rattle.tc_model.specs.Connection.{turn, login, login_turn, unbound_turn, bound_turn, with_piece, shut_endpoint};
 ghost use Rattle.tc_model.specs.Connection.{new_endpoint, Unbound, Bound, Nothing, Close, is_closed};
 ghost use Rattle.tc_grammar.specs.declared.fault.Fault.TheVariants.{AuthenticationFailure, NoMemory as OutOfMemory};
 ghost use Rattle.tc_session.specs.Texts.{fault_line, unless_quiet};
-ghost use Rattle.tc_session.specs.Replies.{is_quiet, render, is_long};
+ghost use Rattle.tc_session.specs.Replies.{is_quiet, can_end, render, is_long};
 ghost use Rattle.tc_session.specs.TextProtocol.{text_protocol, fault_said, unbound_asks, unbound_command, unbound_store};
 ghost use Rattle.tc_session.specs.TextProtocol.{bound_wants, bound_command};
 ghost use Rattle.tc_session.specs.SessionView.{SessionView, want_of, fault_want, fault_phase, KeepsAtMost, most_resting};
@@ -303,10 +303,11 @@ impl Session {
         }
     }
 
-    /// Appends the reply to a command. Where memory is refused, which only the reply to a look-up or to
-    /// `stats` may meet, that is said in the reply's place.
+    /// Appends the reply to a command, whose outcome is one that it can come to. Where memory is refused,
+    /// which only the reply to a look-up or to `stats` may meet, that is said in the reply's place.
     pub fn answer(&mut self, command: &Command, outcome: &Outcome) -> Result<(), NoMemory>
-        requires { 64 ≤ self.old.room }
+        requires room { 64 ≤ self.old.room }
+        requires can_end { can_end command.now outcome.now ≡ true }
         ensures endpoint { self.new.endpoint ≡ self.old.endpoint }
         ensures reply { OnOk result (self.new.out
             ≡ self.old.out ++ render command.now outcome.now) }

@@ -1,6 +1,7 @@
 //! One connection of a worker.
-ghost use Rattle.std.specs.Prelude.{◌≡◌, ◌≤◌, true, false, length};
+ghost use Rattle.std.specs.Prelude.{◌≡◌, ◌≢◌, ◌≤◌, true, false, length};
 ghost use Rattle.tc_model.specs.Connection.{is_closed};
+ghost use Rattle.tc_grammar.specs.declared.command.Command.TheVariants.{Quit};
 ghost use Rattle.tc_session.specs.SessionView.{most_resting};
 ghost use Rattle.tc_workers.specs.Turns.{most_kept, WritesAtMost};
 
@@ -223,7 +224,8 @@ impl<W: Wire + Drop> Link<W> {
         user: UserNo,
         command: &Command,
     )
-        requires { 64 ≤ self.old.session.room }
+        requires room { 64 ≤ self.old.session.room }
+        requires runs { command.now ≢ Quit }
         ensures wrote { WritesAtMost 1 seat.old seat.new }
     {
         let gate = service.gate;

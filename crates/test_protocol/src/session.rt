@@ -1,6 +1,7 @@
 //! What no clause says of connections: logins and reply texts by hand, and each call with memory to
 //! spare. A call that meets a refused allocation is made again.
-ghost use Rattle.std.specs.Prelude.{◌≤◌, OnOk};
+ghost use Rattle.std.specs.Prelude.{◌≡◌, ◌≤◌, true, OnOk};
+ghost use Rattle.tc_session.specs.Replies.{can_end};
 
 mod table;
 
@@ -16,7 +17,7 @@ use table::{
 };
 use tc_grammar::Command;
 use tc_item::NoMemory;
-use tc_session::{Session, Want};
+use tc_session::{Session, Want, can_end};
 use tc_stats::Outcome;
 use tc_users::{UserNo, Users};
 
@@ -256,7 +257,8 @@ fn answer(
     command: &Command,
     outcome: &Outcome,
 ) -> Result<(), NoMemory>
-    requires { 64 ≤ session.old.room }
+    requires room { 64 ≤ session.old.room }
+    requires can_end { can_end command.now outcome.now ≡ true }
 {
     if session.answer(command, outcome).is_ok() {
         return Ok(());
@@ -279,6 +281,7 @@ fn serve(
     requires { 64 ≤ session.old.room }
 {
     if let Want::Call(_, command) = want {
+        assert!(rt; can_end(command, outcome));
         answer(rt, session, users, command, outcome)?;
     }
     Ok(wanted_of(want))

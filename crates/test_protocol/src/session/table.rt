@@ -309,7 +309,7 @@ pub const ANSWERED: &str = "CLIENT_ERROR unauthenticated\r\n\
     VERSION 1.0.0-partcached\r\nOK\r\n";
 
 /// Commands, what they came to, and their replies.
-pub const REPLIES: [(&str, Outcome, &str); 17] = [
+pub const REPLIES: [(&str, Outcome, &str); 16] = [
     ("set k 0 0 1\r\nx\r\n", Outcome::Stored, "STORED\r\n"),
     ("set k 0 0 1 noreply\r\nx\r\n", Outcome::Stored, ""),
     ("add k 0 0 1\r\nx\r\n", Outcome::NotStored, "NOT_STORED\r\n"),
@@ -346,7 +346,6 @@ pub const REPLIES: [(&str, Outcome, &str); 17] = [
         Outcome::Version,
         "VERSION 1.0.0-partcached\r\n",
     ),
-    ("version\r\n", Outcome::Stored, ""),
 ];
 
 const BARE: &str = "VALUE a 4294967295 7\r\n\r\nEND\r\n\r\nVALUE b 0 0\r\n\r\nEND\r\n";
