@@ -10,7 +10,7 @@ use crate::called::Called;
 use crate::closed::{Closed, Missing};
 use crate::closing::{Shut, compare, take_books, take_seats};
 use crate::kept::Kept;
-use crate::locking::lock_soon;
+use crate::locking::{TRIES, lock_soon};
 use crate::naming::{HallTable, Naming};
 use crate::old_opening::let_go;
 use crate::receipt::Receipt;
@@ -92,7 +92,7 @@ impl<C: Cache, N: Naming> Hall<C, N> {
             return Err(CallFault::NoMemory);
         };
         let at = (number - 1) as usize;
-        let mut guard = lock_soon(&self.books[at], rt);
+        let mut guard = lock_soon(&self.books[at], rt, seat.tries);
         held();
         let kept = &mut *guard;
         if kept.user() != number {
@@ -150,7 +150,7 @@ impl<C: Cache, N: Naming> Hall<C, N> {
         if number == 0 || number > self.users() {
             return;
         }
-        lock_soon(&self.books[(number - 1) as usize], rt).maintain(now, limit);
+        lock_soon(&self.books[(number - 1) as usize], rt, TRIES).maintain(now, limit);
     }
 
     /// Ends the hall. It is refused exactly where fewer seats than all are given, and the hall and the

@@ -228,6 +228,8 @@ impl<W: Wire + Drop> Link<W> {
         requires runs { command.now ≢ Quit }
         ensures wrote { WritesAtMost 1 seat.old seat.new }
     {
+        // A client with many requests in flight sent some of them together.
+        seat.set_more(self.session.kept() > 0);
         let gate = service.gate;
         gate.pass(user, Place::Before);
         let called = service.hall.call_with(
