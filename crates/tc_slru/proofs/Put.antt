@@ -1,7 +1,8 @@
 -- A slot comes to the front of a list.
-use Rattle.std.specs.Prelude.{Option, Some, slice_index, slice_set, ◌||◌, map}
-use Rattle.std.proofs.Common.{◌≡◌, ℕ, zero, suc, ◌+◌, ◌-◌, ◌<◌, false, List, [], ◌∷◌, ◌++◌, length, refl, sym, ◌∙◌, ap, subst}
+use Rattle.std.specs.Prelude.{Some, slice_index, slice_set, ◌||◌, map}
+use Rattle.std.proofs.Common.{◌≡◌, ℕ, ◌+◌, ◌-◌, ◌<◌, false, List, [], ◌∷◌, ◌++◌, length, sym, ◌∙◌, ap, subst}
 use Rattle.std.proofs.Common.{arith, length-append}
+use Rattle.std.proofs.lemmas.List.{length-set}
 use Rattle.tc_model.specs.Areas.{Areas, is_in}
 use Rattle.tc_model.specs.Ring.{IsAway, walk, put_next, put_prev}
 use Rattle.tc_model.specs.Chains.{marked}
@@ -83,11 +84,6 @@ links_put area n w l = record {
 long_next : (l : Links) (m n : ℕ) → length (put_next l.next m n) ≡ length l.next
 long_next l m n = length-slice_set (slice_set l.next m n) n (slice_index l.next m) ∙ length-slice_set l.next m n
 
-pub length-set_area : (hs : List (Option Area)) (i : ℕ) (h : Option Area) → length (slice_set hs i h) ≡ length hs
-length-set_area [] i h = refl
-length-set_area (x ∷ xs) zero h = refl
-length-set_area (x ∷ xs) (suc i) h = ap suc (length-set_area xs i h)
-
 nodes_put : (area : Area) (l : Links) (s : Sizes) (a : Areas ℕ) (slot w : ℕ) → slot + 3 < length l.next → IsOut (slot + 3) a
     → AreNodes l s a
     → AreNodes (links_put area (slot + 3) w l) (sizes_with area w s) (fronted_in area (slot + 3) a)
@@ -104,7 +100,7 @@ nodes_put Window l s a slot w within out k = record {
       kept_elsewhere Protected (Some Window) l.weights l.areas s.protected (slot + 3) w a.protected out.protected k.protected;
   weights_long = length-slice_set l.weights (slot + 3) w ∙ k.weights_long ∙ sym (long_next l 0 (slot + 3));
   free = λ m big. free_fronted Window l.areas (slot + 3) m a (k.free m big);
-  areas_long = length-set_area l.areas (slot + 3) (Some Window) ∙ k.areas_long ∙ sym (long_next l 0 (slot + 3));
+  areas_long = length-set l.areas (slot + 3) (Some Window) ∙ k.areas_long ∙ sym (long_next l 0 (slot + 3));
 }
 nodes_put Probation l s a slot w within out k = record {
   ring =
@@ -118,7 +114,7 @@ nodes_put Probation l s a slot w within out k = record {
       kept_elsewhere Protected (Some Probation) l.weights l.areas s.protected (slot + 3) w a.protected out.protected k.protected;
   weights_long = length-slice_set l.weights (slot + 3) w ∙ k.weights_long ∙ sym (long_next l 1 (slot + 3));
   free = λ m big. free_fronted Probation l.areas (slot + 3) m a (k.free m big);
-  areas_long = length-set_area l.areas (slot + 3) (Some Probation) ∙ k.areas_long ∙ sym (long_next l 1 (slot + 3));
+  areas_long = length-set l.areas (slot + 3) (Some Probation) ∙ k.areas_long ∙ sym (long_next l 1 (slot + 3));
 }
 nodes_put Protected l s a slot w within out k = record {
   ring =
@@ -132,7 +128,7 @@ nodes_put Protected l s a slot w within out k = record {
       (omega (arith, k.areas_long)) out.protected k.protected;
   weights_long = length-slice_set l.weights (slot + 3) w ∙ k.weights_long ∙ sym (long_next l 2 (slot + 3));
   free = λ m big. free_fronted Protected l.areas (slot + 3) m a (k.free m big);
-  areas_long = length-set_area l.areas (slot + 3) (Some Protected) ∙ k.areas_long ∙ sym (long_next l 2 (slot + 3));
+  areas_long = length-set l.areas (slot + 3) (Some Protected) ∙ k.areas_long ∙ sym (long_next l 2 (slot + 3));
 }
 
 placed_put : (area : Area) (a : Areas ℕ) (ws : List ℕ) (slot w : ℕ) → slot + 3 < length ws → IsOut (slot + 3) a

@@ -2,6 +2,7 @@
 use Rattle.std.specs.Prelude.{Option, None, replicate, map, max, sum_by, if◌then◌else◌}
 use Rattle.std.proofs.Common.{◌≡◌, ℕ, zero, suc, ◌+◌, ◌-◌, ◌<◌, ◌≤◌, Bool, true, false, List, [], ◌∷◌, ◌++◌, length, refl, sym}
 use Rattle.std.proofs.Common.{◌∙◌, ap, subst, arith, length-append}
+use Rattle.std.proofs.lemmas.List.{get_or_append_left, length-replicate}
 use Rattle.tc_model.specs.Areas.{Areas}
 use Rattle.tc_model.specs.Ring.{AreBelow}
 use Rattle.tc_model.proofs.Chained.{ring_grown, index-grown}
@@ -17,18 +18,8 @@ use Rattle.tc_slru.proofs.Members.{free_grown}
 use Rattle.tc_slru.proofs.Put.{same_areas, same_shown, nodes_again}
 use Rattle.tc_slru.proofs.Standing.{standing}
 
-length-replicate_own : {A : Type 0} (n : ℕ) (x : A) → length (replicate n x) ≡ n
-length-replicate_own zero x = refl
-length-replicate_own (suc n) x = ap suc (length-replicate_own n x)
-
-length-grown : (hs gs : List (Option Area)) → length (hs ++ gs) ≡ length hs + length gs
-length-grown [] gs = omega arith
-length-grown (h ∷ hs) gs = omega (arith, length-grown hs gs)
-
 area_at-grown : (hs gs : List (Option Area)) (n : ℕ) → n < length hs → area_at (hs ++ gs) n ≡ area_at hs n
-area_at-grown [] gs n h = absurd (omega arith)
-area_at-grown (x ∷ xs) gs zero h = refl
-area_at-grown (x ∷ xs) gs (suc n) h = area_at-grown xs gs n (omega arith)
+area_at-grown hs gs n h = get_or_append_left hs gs None n h
 
 at-grown : (area : Area) (hs gs : List (Option Area)) (xs : List ℕ) → AreBelow (length hs) xs → AreAt area hs xs
     → AreAt area (hs ++ gs) xs
@@ -67,11 +58,11 @@ nodes_grown n l s a k =
       areas_long =
           omega (
             arith,
-            length-grown l.areas gs,
+            length-append l.areas gs,
             length-append l.next zs,
             k.areas_long,
-            length-replicate_own {A = Option Area} (n - length l.next) None,
-            length-replicate_own {A = ℕ} (n - length l.next) 0,
+            length-replicate {A = Option Area} (n - length l.next) None,
+            length-replicate {A = ℕ} (n - length l.next) 0,
           );
     }
 
@@ -89,7 +80,7 @@ reserved_by slots l s m e k =
     let done : AreNodes g s a = nodes_grown (slots + 3) l s a k in
     let again : nodes_by g.next s ≡ a = nodes_again g s a done in
     let long : length g.next - 3 ≡ max (length l.next - 3) slots =
-    omega (arith, length-append l.next zs, length-replicate_own {A = ℕ} (slots + 3 - length l.next) 0) in
+    omega (arith, length-append l.next zs, length-replicate {A = ℕ} (slots + 3 - length l.next) 0) in
     let kept : (area : Area) → map (placed_of g.weights) (list_in area a) ≡ map (placed_of l.weights) (list_in area a)
     = λ area. placed-grown l.weights zs (list_in area a)
     (subst (λ m. AreBelow m (list_in area a)) (sym k.weights_long) (standing l s a k area).below) in

@@ -1,6 +1,7 @@
 -- What the ring says of the list of one area, and of its last.
 use Rattle.std.specs.Prelude.{Option, Some, slice_index, map}
-use Rattle.std.proofs.Common.{◌≡◌, ◌≢◌, ℕ, ◌+◌, ◌-◌, suc, ◌<◌, ◌≤◌, List, [], ◌∷◌, ◌++◌, length, refl, sym, ◌∙◌, ap, subst, arith}
+use Rattle.std.proofs.Common.{◌≡◌, ◌≢◌, ℕ, ◌+◌, ◌-◌, ◌<◌, ◌≤◌, List, [], ◌∷◌, ◌++◌, length, refl, sym, ◌∙◌, ap, subst, arith}
+use Rattle.std.proofs.lemmas.List.{length-map, map-append}
 use Rattle.tc_model.specs.Areas.{Areas}
 use Rattle.tc_model.specs.Ring.{Linked, AreDistinct, AreBelow}
 use Rattle.tc_model.specs.Chains.{without_node}
@@ -106,14 +107,6 @@ left_behind Protected l s a others at is less home k = same_areas _ _ _ _ _ _
     (elsewhere Probation Protected l.areas at a.probation k.probation.members home (λ e. cc)))
     (ap (λ xs. map (placed_of l.weights) xs) less)
 
-map-push : (ws : List ℕ) (us : List ℕ) (x : ℕ) → map (placed_of ws) (us ++ x ∷ []) ≡ map (placed_of ws) us ++ placed_of ws x ∷ []
-map-push ws [] x = refl
-map-push ws (u ∷ us) x = ap (λ t. placed_of ws u ∷ t) (map-push ws us x)
-
-length-placed : (ws xs : List ℕ) → length (map (placed_of ws) xs) ≡ length xs
-length-placed ws [] = refl
-length-placed ws (x ∷ xs) = ap suc (length-placed ws xs)
-
 -- what stands before the mark that ends a list
 pub record LastAt (area : Area) (l : Links) (v : Shown) (at : ℕ) : Type 0 where
   pub within : at < length l.next
@@ -132,7 +125,7 @@ last_standing area l s v e some k =
         let at : ℕ = slice_index l.prev (end_of area) in
         let t : Standing area l s a = standing l s a k area in
         let many : 0 < length (list_in area a) =
-        omega (arith, ap length (placed_in area l.weights a), length-placed l.weights (list_in area a)) in
+        omega (arith, ap length (placed_in area l.weights a), length-map (list_in area a) (placed_of l.weights)) in
         let o : Last l.prev (end_of area) (list_in area a) =
         linked_last l.next l.prev (mark_of area) (end_of area) (list_in area a) many t.linked in
         let own = last_at area l.areas o.others at (subst (λ xs. AreAt area l.areas xs) o.is t.kept.members) in
@@ -144,7 +137,7 @@ last_standing area l s v e some k =
           slot = own.0;
           last = record {
             others = map (placed_of l.weights) o.others;
-            list = placed_in area l.weights a ∙ ap (λ xs. map (placed_of l.weights) xs) o.is ∙ map-push l.weights o.others at;
+            list = placed_in area l.weights a ∙ ap (λ xs. map (placed_of l.weights) xs) o.is ∙ map-append (placed_of l.weights) o.others (at ∷ []);
             left =
                 sym (placed-without_in l s a (at - 3) k) ∙ ap (λ n. placed_areas l.weights (without_in n a)) same
                 ∙ left_behind area l s a o.others at o.is less own.1 k;

@@ -3,6 +3,7 @@ use Rattle.std.specs.Prelude.{is_some, Some, None, slice_set, slice_index, ◌==
 use Rattle.std.proofs.Common.{◌≡◌, ℕ, ◌+◌, ◌-◌, ◌<◌, ◌≤◌, Bool, true, false, List, [], ◌∷◌, ◌++◌, length, refl, sym, ◌∙◌, ap}
 use Rattle.std.proofs.Common.{subst, arith}
 use Rattle.std.proofs.lemmas.Bool.{ne_eqb}
+use Rattle.std.proofs.lemmas.List.{length-set}
 use Rattle.tc_model.specs.Areas.{Areas}
 use Rattle.tc_model.specs.Ring.{HasPlace, cut_next, cut_prev}
 use Rattle.tc_model.specs.Chains.{marked, is_among, without_node}
@@ -18,7 +19,7 @@ use Rattle.tc_slru.specs.declared.area.Area.TheVariants.{Window, Probation, Prot
 use Rattle.tc_slru.specs.declared.area.Sizes.{Sizes}
 use Rattle.tc_slru.proofs.Members.{in-placed, placed-without, one_less, OneLess, kept_left, kept_others, area_among, not_among}
 use Rattle.tc_slru.proofs.Members.{free_without}
-use Rattle.tc_slru.proofs.Put.{areas_by, same_areas, same_shown, nodes_again, length-set_area}
+use Rattle.tc_slru.proofs.Put.{areas_by, same_areas, same_shown, nodes_again}
 
 abbrev pub without_in : ℕ → Areas ℕ → Areas ℕ
 without_in n a = areas_by (without_node n a.window) (without_node n a.probation) (without_node n a.protected)
@@ -102,7 +103,7 @@ kept_cut Window l s a n big at held k =
       protected = kept_others Protected l.weights l.areas s.protected n a.protected at.protected k.protected;
       weights_long = k.weights_long ∙ sym (length-cut l.next l.prev n);
       free = λ m above. free_without l.areas n m a (k.free m above);
-      areas_long = length-set_area l.areas n None ∙ k.areas_long ∙ sym (length-cut l.next l.prev n);
+      areas_long = length-set l.areas n None ∙ k.areas_long ∙ sym (length-cut l.next l.prev n);
     }
 kept_cut Probation l s a n big at held k =
     let d = each_distinct 0 (lists_of a) k.ring.distinct in
@@ -114,7 +115,7 @@ kept_cut Probation l s a n big at held k =
       protected = kept_others Protected l.weights l.areas s.protected n a.protected at.protected k.protected;
       weights_long = k.weights_long ∙ sym (length-cut l.next l.prev n);
       free = λ m above. free_without l.areas n m a (k.free m above);
-      areas_long = length-set_area l.areas n None ∙ k.areas_long ∙ sym (length-cut l.next l.prev n);
+      areas_long = length-set l.areas n None ∙ k.areas_long ∙ sym (length-cut l.next l.prev n);
     }
 kept_cut Protected l s a n big at held k =
     let d = each_distinct 0 (lists_of a) k.ring.distinct in
@@ -126,7 +127,7 @@ kept_cut Protected l s a n big at held k =
       protected = kept_left Protected l.weights l.areas s.protected n a.protected d.1.1.0 at.protected k.protected;
       weights_long = k.weights_long ∙ sym (length-cut l.next l.prev n);
       free = λ m above. free_without l.areas n m a (k.free m above);
-      areas_long = length-set_area l.areas n None ∙ k.areas_long ∙ sym (length-cut l.next l.prev n);
+      areas_long = length-set l.areas n None ∙ k.areas_long ∙ sym (length-cut l.next l.prev n);
     }
 
 pub placed-without_in : (l : Links) (s : Sizes) (a : Areas ℕ) (slot : ℕ) → AreNodes l s a

@@ -5,6 +5,7 @@ use Rattle.std.proofs.Common.{sym, ◌∙◌, ap, subst, arith}
 use Rattle.std.proofs.lemmas.Bool.{eq-eqb, ne_eqb, cases_lt}
 use Rattle.std.proofs.lemmas.Bool.Decides.{eqb_tells}
 use Rattle.std.proofs.lemmas.Bool.{le-leb}
+use Rattle.std.proofs.lemmas.List.{get_or-set_other, get_or-set_same, length-set}
 use Rattle.tc_model.specs.Ring.{HasPlace, put_next, cut_next}
 use Rattle.tc_model.specs.Chains.{fronted, without_node, is_among}
 use Rattle.tc_model.proofs.Rings.{length-slice_set}
@@ -22,9 +23,7 @@ Compared n m = (((n == m) ≡ true) × (n ≡ m)) ⊎ (((n == m) ≡ false) × (
 -- writes to the dues
 
 pub due_own : (dues : List (Option ℕ)) (at : ℕ) (x : Option ℕ) → at < length dues → due_at (slice_set dues at x) at ≡ x
-due_own [] at x h = absurd (omega arith)
-due_own (d ∷ dues) zero x h = refl
-due_own (d ∷ dues) (suc at) x h = due_own dues at x (omega arith)
+due_own dues at x h = get_or-set_same dues at x None h
 
 pub due_freed : (dues : List (Option ℕ)) (at : ℕ) → due_at (slice_set dues at None) at ≡ None
 due_freed [] at = refl
@@ -32,16 +31,7 @@ due_freed (d ∷ dues) zero = refl
 due_freed (d ∷ dues) (suc at) = due_freed dues at
 
 pub due_other : (dues : List (Option ℕ)) (at n : ℕ) (x : Option ℕ) → n ≢ at → due_at (slice_set dues at x) n ≡ due_at dues n
-due_other [] at n x ne = refl
-due_other (d ∷ dues) zero zero x ne = absurd (ne refl)
-due_other (d ∷ dues) zero (suc n) x ne = refl
-due_other (d ∷ dues) (suc at) zero x ne = refl
-due_other (d ∷ dues) (suc at) (suc n) x ne = due_other dues at n x (λ e. ne (ap suc e))
-
-pub length-set_due : (dues : List (Option ℕ)) (at : ℕ) (x : Option ℕ) → length (slice_set dues at x) ≡ length dues
-length-set_due [] at x = refl
-length-set_due (d ∷ dues) zero x = refl
-length-set_due (d ∷ dues) (suc at) x = ap suc (length-set_due dues at x)
+due_other dues at n x ne = get_or-set_other dues at n x None ne
 
 -- a due that is noted again
 due_again : (dues : List (Option ℕ)) (at : ℕ) (x : Option ℕ) → at < length dues → due_at dues at ≡ x
@@ -138,7 +128,7 @@ kept_removed k moment left l lists at due some e a =
     record {
       count = length-without_all at lists ∙ a.count;
       ring = cut_at l.next l.prev at h.list lists (omega (arith, a.count)) h.stands a.ring;
-      dues_long = length-set_due l.dues at None ∙ a.dues_long ∙ sym (length-cut l.next l.prev at);
+      dues_long = length-set l.dues at None ∙ a.dues_long ∙ sym (length-cut l.next l.prev at);
       marks = λ n small. due_other l.dues at n None (omega arith) ∙ a.marks n small;
       kept = λ i n small. kept_one i n small (eqb_tells n at);
       late = λ n among. late_one n among (eqb_tells n at);
@@ -191,7 +181,7 @@ kept_come k moment left l lists at due big within none early a = record {
       chained_put l.next l.prev k at lists (omega (arith, a.count)) within
       (away_marked at 0 lists (omega (arith, a.count))
       (λ i h. free_at k moment left l lists at i a none (omega (arith, a.count)))) a.ring;
-  dues_long = length-set_due l.dues at (Some due) ∙ a.dues_long ∙ sym (length-put l.next k at);
+  dues_long = length-set l.dues at (Some due) ∙ a.dues_long ∙ sym (length-put l.next k at);
   marks = λ n small. due_other l.dues at n (Some due) (omega arith) ∙ a.marks n small;
   kept = λ i n small. kept_one i n small (eqb_tells n at);
   late = λ n among. late_one n among (eqb_tells n at);
@@ -251,7 +241,7 @@ kept_later k moment left l lists at due some big within none later a = record {
       chained_put l.next l.prev (due % k) at lists (omega (arith, a.count)) within
       (away_marked at 0 lists (omega (arith, a.count))
       (λ i h. free_at k moment left l lists at i a none (omega (arith, a.count)))) a.ring;
-  dues_long = length-set_due l.dues at (Some due) ∙ a.dues_long ∙ sym (length-put l.next (due % k) at);
+  dues_long = length-set l.dues at (Some due) ∙ a.dues_long ∙ sym (length-put l.next (due % k) at);
   marks = λ n small. due_other l.dues at n (Some due) (omega arith) ∙ a.marks n small;
   kept = λ i n small. kept_one i n small (eqb_tells n at);
   late = λ n among. late_one n among (eqb_tells n at);

@@ -2,8 +2,11 @@
 use Rattle.std.specs.Prelude.{Option, None, Some, ◌-◌, ◌%◌, replicate, map, slice_index, slice_index_or, slice_set}
 use Rattle.std.proofs.Common.{◌≡◌, ◌⊎◌, inl, inr, ℕ, zero, suc, ◌+◌, ◌<◌, ◌≤◌, true, false, List, [], ◌∷◌, ◌++◌, length, refl}
 use Rattle.std.proofs.Common.{sym, ◌∙◌, ap, subst, arith, length-append}
+use Rattle.std.proofs.Math.ListN.{get_or-eq_default}
+use Rattle.std.proofs.Math.Seq.{get_or-append_seam}
 use Rattle.std.proofs.lemmas.Bool.{cases_lt}
-use Rattle.std.proofs.lemmas.List.{get_or-set_same, get_or-set_other}
+use Rattle.std.proofs.lemmas.List.{get_or-set_same, get_or-set_other, length-map, length-replicate, length-set}
+use Rattle.std.proofs.lemmas.List.{map-append, map-set}
 use Rattle.tc_model.specs.Ring.{Linked, IsAway, AreDistinct, AreBelow, IsRing}
 use Rattle.tc_model.specs.Chains.{marked, IsLoop, AreChained, is_among}
 use Rattle.tc_model.proofs.Chained.{ring_grown, index-grown}
@@ -12,7 +15,6 @@ use Rattle.tc_wheel.specs.Links.{Links, AreMarks, grown}
 use Rattle.tc_wheel.specs.Nodes.{links}
 use Rattle.tc_wheel.specs.Kept.{list_at, stands_in, AreKept, IsSwept}
 use Rattle.tc_wheel.specs.declared.nodes.Node.{Node}
-use Rattle.tc_wheel.proofs.Writes.{map-set, length-map_own}
 use Rattle.tc_wheel.proofs.Held.{stands_none}
 
 -- the marks from m on
@@ -45,10 +47,6 @@ list_at-alone i zero = refl
 list_at-alone zero (suc n) = refl
 list_at-alone (suc i) (suc n) = list_at-alone i n
 
-length-alone : (n : ℕ) → length (replicate n (let none : List ℕ = [] in none)) ≡ n
-length-alone zero = refl
-length-alone (suc n) = ap suc (length-alone n)
-
 marks_ring : (k n : ℕ) (l : Links) → AreMarks (suc k) n l → IsRing l.next l.prev 0 (upto 1 k)
 marks_ring k n l h = record {
   linked = upto_linked (suc k) n l 0 k (omega arith) h;
@@ -59,7 +57,7 @@ marks_ring k n l h = record {
 
 kept_alone : (k moment left m : ℕ) (l : Links) → AreMarks (suc k) m l → AreKept k moment left l (replicate (suc k) [])
 kept_alone k moment left m l h = record {
-  count = length-alone (suc k);
+  count = length-replicate (suc k) [];
   ring = subst (λ xs. IsLoop l.next l.prev xs) (sym (marked_alone 0 (suc k))) (marks_ring k m l h);
   dues_long = h.dues_long ∙ sym h.next_long;
   marks = λ n small. h.dues n;
@@ -84,15 +82,8 @@ pub record AreFirst (k m : ℕ) (ns : List Node) : Type 0 where
   pub prev : (n : ℕ) → n < m → slice_index (map (λ (x : Node). x.prev) ns) n ≡ (n + (k - 1)) % k
   pub dues : (n : ℕ) → due_at (map (λ (x : Node). x.due) ns) n ≡ None
 
-map-append : {A B : Type 0} (f : A → B) (xs ys : List A) → map f (xs ++ ys) ≡ map f xs ++ map f ys
-map-append f [] ys = refl
-map-append f (x ∷ xs) ys = ap (λ t. f x ∷ t) (map-append f xs ys)
-
 index_last : (xs : List ℕ) (x n : ℕ) → n ≡ length xs → slice_index (xs ++ x ∷ []) n ≡ x
-index_last [] x zero e = refl
-index_last [] x (suc n) e = absurd (omega arith)
-index_last (y ∷ xs) x zero e = absurd (omega arith)
-index_last (y ∷ xs) x (suc n) e = index_last xs x n (omega arith)
+index_last xs x n e = ap (λ i. slice_index (xs ++ x ∷ []) i) e ∙ get_or-append_seam xs x [] 0
 
 none_behind : (dues : List (Option ℕ)) (n : ℕ) → ((i : ℕ) → due_at dues i ≡ None) → due_at (dues ++ None ∷ []) n ≡ None
 none_behind [] zero h = refl
@@ -105,9 +96,9 @@ index_pushed : (f : Node → ℕ) (g : ℕ → ℕ) (m : ℕ) (ns : List Node) (
 index_pushed f g m ns x long e h n small = ap (λ xs. slice_index xs n) (map-append f ns (x ∷ [])) ∙ go (cases_lt n m)
   where
     go : (n < m) ⊎ (m ≤ n) → slice_index (map f ns ++ f x ∷ []) n ≡ g n
-    go (inl less) = index-grown (map f ns) (f x ∷ []) n (omega (arith, length-map_own f ns)) ∙ h n less
+    go (inl less) = index-grown (map f ns) (f x ∷ []) n (omega (arith, length-map ns f)) ∙ h n less
     go (inr more) =
-        let same : m ≡ n = omega arith in index_last (map f ns) (f x) n (omega (arith, length-map_own f ns)) ∙ e ∙ ap g same
+        let same : m ≡ n = omega arith in index_last (map f ns) (f x) n (omega (arith, length-map ns f)) ∙ e ∙ ap g same
 
 pub first_pushed : (k m : ℕ) (ns all : List Node) (x : Node) → all ≡ ns ++ x ∷ [] → x.next ≡ (m + 1) % k
     → x.prev ≡ (m + (k - 1)) % k → x.due ≡ None → AreFirst k m ns → AreFirst k (m + 1) all
@@ -137,7 +128,7 @@ field_written f g d m ns x here e h i small = ap (λ ys. slice_index_or ys i d) 
     go (inr more) =
         let same : m ≡ i = omega arith in
         ap (λ j. slice_index_or (slice_set (map f ns) m (f x)) j d) (sym same)
-        ∙ get_or-set_same (map f ns) m (f x) d (omega (arith, length-map_own f ns)) ∙ e ∙ ap g same
+        ∙ get_or-set_same (map f ns) m (f x) d (omega (arith, length-map ns f)) ∙ e ∙ ap g same
 
 pub none_written : (k n : ℕ) (ns : List Node) → length ns ≡ n → AreWritten k 0 n ns
 none_written k n ns e = record {
@@ -152,23 +143,18 @@ pub one_written : (k m n : ℕ) (ns : List Node) (x : Node) → m < n → x.next
 one_written k m n ns x small en ep ed h =
     let here : m < length ns = omega (arith, h.long) in
     record {
-      long = length-set_own ns m x ∙ h.long;
+      long = length-set ns m x ∙ h.long;
       next = field_written (λ (y : Node). y.next) (λ i. (i + 1) % k) 0 m ns x here en h.next;
       prev = field_written (λ (y : Node). y.prev) (λ i. (i + (k - 1)) % k) 0 m ns x here ep h.prev;
       dues = field_written (λ (y : Node). y.due) (λ i. None) None m ns x here ed h.dues;
     }
-  where
-    length-set_own : {A : Type 0} (xs : List A) (i : ℕ) (y : A) → length (slice_set xs i y) ≡ length xs
-    length-set_own [] i y = refl
-    length-set_own (z ∷ zs) zero y = refl
-    length-set_own (z ∷ zs) (suc i) y = ap suc (length-set_own zs i y)
 
 pub marks_written : (n : ℕ) (ns : List Node) → 4097 ≤ n → AreWritten 4097 n n ns → AreMarks 4097 n (links ns)
 marks_written n ns all h = record {
   within = all;
-  next_long = length-map_own (λ (x : Node). x.next) ns ∙ h.long;
-  prev_long = length-map_own (λ (x : Node). x.prev) ns ∙ h.long;
-  dues_long = length-map_own (λ (x : Node). x.due) ns ∙ h.long;
+  next_long = length-map ns (λ (x : Node). x.next) ∙ h.long;
+  prev_long = length-map ns (λ (x : Node). x.prev) ∙ h.long;
+  dues_long = length-map ns (λ (x : Node). x.due) ∙ h.long;
   next = λ i small. h.next i (omega (arith, all)) ∙ omega arith;
   last = λ i e. h.next i (omega (arith, all)) ∙ omega arith;
   prev = λ i small. h.prev (suc i) (omega (arith, all)) ∙ omega arith;
@@ -176,14 +162,9 @@ marks_written n ns all h = record {
   dues = λ i. none_at i (cases_lt i n);
 }
   where
-    beyond : (dues : List (Option ℕ)) (i : ℕ) → length dues ≤ i → due_at dues i ≡ None
-    beyond [] i h = refl
-    beyond (d ∷ dues) zero h = absurd (omega arith)
-    beyond (d ∷ dues) (suc i) h = beyond dues i (omega arith)
-
     none_at : (i : ℕ) → (i < n) ⊎ (n ≤ i) → due_at (links ns).dues i ≡ None
     none_at i (inl less) = h.dues i less
-    none_at i (inr more) = beyond (links ns).dues i (omega (arith, length-map_own (λ (x : Node). x.due) ns, h.long))
+    none_at i (inr more) = get_or-eq_default (links ns).dues None (omega (arith, length-map ns (λ (x : Node). x.due), h.long))
 
 pub marks_of : (ns : List Node) → AreFirst 4097 4097 ns → AreMarks 4097 4097 (links ns)
 marks_of ns h =
@@ -200,10 +181,6 @@ due_at-grown : (dues : List (Option ℕ)) (n i : ℕ) → due_at (dues ++ replic
 due_at-grown [] n i = due_at-none n i
 due_at-grown (d ∷ dues) n zero = refl
 due_at-grown (d ∷ dues) n (suc i) = due_at-grown dues n i
-
-length-room : {A : Type 0} (n : ℕ) (x : A) → length (replicate n x) ≡ n
-length-room zero x = refl
-length-room (suc n) x = ap suc (length-room n x)
 
 chained_grown : (next prev : List ℕ) (n : ℕ) (lists : List (List ℕ)) → AreChained next prev lists
     → AreChained (next ++ replicate n 0) (prev ++ replicate n 0) lists
@@ -226,8 +203,8 @@ swept_grown k moment left all l s =
               a.dues_long,
               length-append l.dues (replicate n None),
               length-append l.next (replicate n 0),
-              length-room {A = Option ℕ} n None,
-              length-room {A = ℕ} n 0,
+              length-replicate {A = Option ℕ} n None,
+              length-replicate {A = ℕ} n 0,
             );
         marks = λ i small. same i ∙ a.marks i small;
         kept = λ i m small. a.kept i m small ∙ sym (ap (λ o. stands_in k i (is_among m (list_at k s.lists)) o) (same m));

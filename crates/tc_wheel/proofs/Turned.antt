@@ -5,6 +5,7 @@ use Rattle.std.proofs.Common.{◌≡◌, ℕ, zero, suc, ◌+◌, ◌<◌, ◌�
 use Rattle.std.proofs.Common.{ap, subst, arith}
 use Rattle.tc_item.specs.declared.no_memory.NoMemory.{NoMemory}
 use Rattle.tc_model.specs.Ring.{HasPlace}
+use Rattle.std.proofs.Math.ListN.{get_or-eq_default}
 use Rattle.std.proofs.lemmas.Bool.{leb-true, leb-false}
 use Rattle.tc_model.specs.Chains.{fronted, without_node}
 use Rattle.tc_model.proofs.Chained.{mark_place}
@@ -33,9 +34,7 @@ room_of l moment w slots e s long =
 
 -- nothing is held beyond the room
 due_at-beyond : (dues : List (Option ℕ)) (n : ℕ) → length dues ≤ n → due_at dues n ≡ None
-due_at-beyond [] n h = refl
-due_at-beyond (d ∷ dues) zero h = absurd (omega arith)
-due_at-beyond (d ∷ dues) (suc n) h = due_at-beyond dues n (omega arith)
+due_at-beyond dues n h = get_or-eq_default dues None h
 
 pub beyond_held : {left : ℕ} (l : Links) (moment : ℕ) (w : Dues) (slot : ℕ) → shown l moment ≡ w → IsSwept 4096 moment left l
     → length l.next ≤ slot + 4097 → false ≡ holds slot w

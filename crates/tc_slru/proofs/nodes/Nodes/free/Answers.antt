@@ -6,4 +6,4 @@ pub returns : goal.returns
 returns c =
     rw (← c.self.view_is)
     (area_behind c.self.inside.marks c.self.inside.rest.items c.args.at None c.index_mut.result.now c.requires.slot
-    c.self.invariant.marks (rw (← c.self.view_is) at c.requires.within) c.index_mut.ensures.value)
+    c.self.invariant.marks c.index_mut.ensures.value)

@@ -7,4 +7,4 @@ returns c =
     rw (← c.self.view_is)
     (note_behind c.self.inside.marks c.self.inside.rest.items c.args.at c.args.weight
     (Some c.args.area) c.index_mut-node.result.now c.requires.slot c.self.invariant.marks
-    (rw (← c.self.view_is) at c.requires.within) c.index_mut-node.ensures.value)
+    c.index_mut-node.ensures.value)

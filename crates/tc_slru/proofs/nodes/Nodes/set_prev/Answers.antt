@@ -5,4 +5,4 @@ pub returns-else-at-lt-MARKS : goal.returns-else-at-lt-MARKS
 returns-else-at-lt-MARKS c =
     rw (← c.self.view_is, c.link_to-link.ensures)
     (prev_behind c.self.inside.marks c.self.inside.rest.items c.args.at c.args.to c.index_mut.result.now c.if-at-lt-MARKS.false
-    c.self.invariant.marks (rw (← c.self.view_is) at c.requires.within) c.index_mut.ensures.value)
+    c.self.invariant.marks c.index_mut.ensures.value)

@@ -1,10 +1,10 @@
 use Rattle.std.specs.Prelude.{None, replicate, vec_len}
 use Rattle.std.proofs.Common.{◌≡◌, ℕ, ◌+◌, ◌-◌, ◌++◌, List, length, take, arith, ◌∙◌, ap, refl}
-use Rattle.std.proofs.lemmas.List.{take_all}
+use Rattle.std.proofs.lemmas.List.{length-map, take_all}
 use Rattle.tc_wheel.specs.Links.{Links, grown}
 use Rattle.tc_wheel.specs.Nodes.{links}
 use Rattle.tc_wheel.specs.declared.nodes.Node.{Node}
-use Rattle.tc_wheel.proofs.Writes.{links-grown, length-map_own}
+use Rattle.tc_wheel.proofs.Writes.{links-grown}
 use Rattle.tc_wheel.proofs.nodes.Nodes.reserve.Goals as goal
 
 pub returns-in_ok-resize-clause-nodes : goal.returns-in_ok-resize-clause-nodes
@@ -15,7 +15,7 @@ returns-in_ok-resize-clause-nodes c =
     take_all all c.self.inside.nodes.items
     (omega (
       arith,
-      length-map_own (λ (n : Node). n.next) c.self.inside.nodes.items,
+      length-map c.self.inside.nodes.items (λ (n : Node). n.next),
       ap (λ (l : Links). length l.next) c.self.view_is,
     )) in
     ap links (c.in_ok-resize.ensures.items
