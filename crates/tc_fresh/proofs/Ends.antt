@@ -16,7 +16,8 @@ use Rattle.tc_stats.specs.declared.outcome.Outcome.TheVariants.{Stored, TooLarge
 use Rattle.tc_plain.specs.declared.entry.Entry.{Entry}
 use Rattle.tc_plain.specs.EvictionState.{held}
 use Rattle.tc_plain.specs.UserCache.{UserCache, advance}
-use Rattle.tc_plain.specs.Storing.{Offered, Refused, offer_by, accepted, stored, changed, is_too_large, is_worn, item_of, item_under}
+use Rattle.tc_plain.specs.Storing.{Offered, Refused, offer_by, accepted, stored, changed, is_too_large, is_worn}
+use Rattle.tc_plain.specs.Storing.{item_of, item_under}
 use Rattle.tc_plain.specs.Doing.{act, done, deleted, touched, counted, counted_to, counted_under}
 use Rattle.tc_session.specs.Replies.{can_end, is_store_end, is_refusal}
 
@@ -24,7 +25,8 @@ offered-ends : (k : UserCache) (key : List ℕ) (item : Item) → is_store_end (
 offered-ends k key item = go (is_too_large k key item.blob) (is_worn k) k (changed (record { key = key; item = item }) k)
   where
     go : (large worn : Bool) (stays after : UserCache)
-        → is_store_end (cond {A = Outcome × UserCache} large (TooLarge, stays) (cond worn (CasWorn, stays) (Stored, after))).0 ≡ true
+        → is_store_end (cond {A = Outcome × UserCache} large (TooLarge, stays)
+            (cond worn (CasWorn, stays) (Stored, after))).0 ≡ true
     go true worn stays after = refl
     go false true stays after = refl
     go false false stays after = refl
@@ -65,7 +67,8 @@ counted-ends way by key value quiet None k = refl
 counted-ends way by key value quiet (Some e) k = go (number_in e.item.blob)
   where
     taken : (worn : Bool) (number : ℕ) (stays after : UserCache)
-        → can_end (Count way key value quiet) (cond {A = Outcome × UserCache} worn (CasWorn, stays) (Number number, after)).0 ≡ true
+        → can_end (Count way key value quiet)
+            (cond {A = Outcome × UserCache} worn (CasWorn, stays) (Number number, after)).0 ≡ true
     taken true number stays after = refl
     taken false number stays after = refl
 

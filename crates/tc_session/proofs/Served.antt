@@ -1,6 +1,7 @@
 -- What a connection asks of its user's cache: never to quit.
 use Rattle.std.proofs.Common.{◌≡◌, ◌≢◌, ℕ, List, Option, Some, None, refl}
-use Rattle.tc_model.specs.Connection.{Phase, Unbound, Bound, Closed, Endpoint, Asks, Idle, Tell, Login, Leave, Wants, Rest, Reply, Run}
+use Rattle.tc_model.specs.Connection.{Phase, Unbound, Bound, Closed, Endpoint, Asks, Idle, Tell, Login, Leave}
+use Rattle.tc_model.specs.Connection.{Wants, Rest, Reply, Run}
 use Rattle.tc_model.specs.Connection.{Quit as Parting, Call, login, login_turn, unbound_turn, bound_turn, turn_at, turn}
 use Rattle.tc_grammar.specs.declared.command.Command.{Command}
 use Rattle.tc_grammar.specs.declared.command.Command.TheVariants.{Store, Get, Gat, Delete, Count, Touch, Flush, Stats, Version}
