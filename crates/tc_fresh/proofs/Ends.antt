@@ -26,7 +26,7 @@ offered-ends k key item = go (is_too_large k key item.blob) (is_worn k) k (chang
   where
     go : (large worn : Bool) (stays after : UserCache)
         → is_store_end (cond {A = Outcome × UserCache} large (TooLarge, stays)
-            (cond worn (CasWorn, stays) (Stored, after))).0 ≡ true
+        (cond worn (CasWorn, stays) (Stored, after))).0 ≡ true
     go true worn stays after = refl
     go false true stays after = refl
     go false false stays after = refl
@@ -68,7 +68,7 @@ counted-ends way by key value quiet (Some e) k = go (number_in e.item.blob)
   where
     taken : (worn : Bool) (number : ℕ) (stays after : UserCache)
         → can_end (Count way key value quiet)
-            (cond {A = Outcome × UserCache} worn (CasWorn, stays) (Number number, after)).0 ≡ true
+        (cond {A = Outcome × UserCache} worn (CasWorn, stays) (Number number, after)).0 ≡ true
     taken true number stays after = refl
     taken false number stays after = refl
 
