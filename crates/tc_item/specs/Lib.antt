@@ -1,4 +1,3 @@
-pub mod Blobs
 pub mod Expiry
 pub mod KeyFaults
 pub mod KeyLists
