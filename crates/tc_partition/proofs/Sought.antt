@@ -1,16 +1,16 @@
 -- Places of keys that were sought, one after another.
-use Rattle.std.specs.Prelude.{max}
-use Rattle.std.proofs.Common.{◌≡◌, ℕ, zero, suc, ◌<◌, ◌+◌, List, [], ◌∷◌, ◌++◌, length, get_or, take, Option, None, sym, ◌∙◌, ap}
+use Rattle.std.specs.Prelude.{max, map}
+use Rattle.std.proofs.Common.{◌≡◌, ℕ, zero, suc, ◌<◌, ◌+◌, List, [], ◌∷◌, ◌++◌, length, get_or, drop, Option, None, sym, ◌∙◌, ap}
 use Rattle.std.proofs.Common.{Bool, true, false, cond, Some, refl, subst, arith}
 use Rattle.std.specs.Str.{bytes_eq}
 use Rattle.std.proofs.lemmas.Slice.Eq.{bytes_eq-Decides}
-use Rattle.std.proofs.lemmas.List.{take_more}
 use Rattle.tc_item.specs.declared.slot.Slot.{Slot}
 use Rattle.tc_model.specs.Areas.{Areas}
 use Rattle.tc_plain.specs.declared.entry.Entry.{Entry}
 use Rattle.tc_plain.specs.declared.plans.Plan.{Plan}
 use Rattle.tc_plain.specs.declared.plans.Plan.TheVariants.{Ends, Changes}
 use Rattle.tc_plain.specs.EvictionState.{EvictionState, held, at_moment, advanced}
+use Rattle.tc_plain.specs.AreaLists.{found_in}
 use Rattle.tc_plain.specs.Plans.{IsUnder}
 use Rattle.tc_item.specs.declared.item.Item.{Item}
 use Rattle.tc_plain.specs.Entries.{lives, with_item}
@@ -18,27 +18,26 @@ use Rattle.tc_plain.specs.Doing.{looked_up}
 use Rattle.tc_plain.specs.Soundness.{AreSound}
 use Rattle.tc_plain.proofs.Asked.{held-used}
 use Rattle.tc_plain.proofs.Used.{held_key}
-use Rattle.tc_partition.specs.Deferred.{Lazy, IsLazy, settled, raised_to, deferred}
-use Rattle.tc_partition.specs.LiveSlots.{IsFree}
-use Rattle.tc_partition.specs.WaitingSlots.{AreSought}
+use Rattle.tc_partition.specs.Deferred.{Lazy, IsLazy, peeked, settled, raised_to, deferred}
+use Rattle.tc_partition.specs.LiveSlots.{live_of, IsFree}
+use Rattle.tc_partition.specs.declared.live_slots.LiveSlots.{LiveSlots}
+use Rattle.tc_partition.specs.WaitingSlots.{SeeksSlot, AreSought, placed_in}
 use Rattle.tc_partition.proofs.Deferral.{look_answer, noted_lazy, raised_settled, raised_lazy}
 
-sought-push : (keys : List (List ℕ)) (places : List (Option Slot)) (key : List ℕ) (place : Option Slot) (l : EvictionState)
-    → AreSought keys places l → (place ≡ None → held key l.areas ≡ None)
-    → AreSought (keys ++ key ∷ []) (places ++ place ∷ []) l
-sought-push [] [] key place l h f = (f, tt)
-sought-push [] (p ∷ places) key place l h f = absurd h
-sought-push (k ∷ keys) [] key place l h f = absurd h
-sought-push (k ∷ keys) (p ∷ places) key place l h f = (h.0, sought-push keys places key place l h.1 f)
+-- what is at a place that was found is what its key will hold
+pub placed_sought : (place : Option Slot) (m : ℕ) (key : List ℕ) (s : LiveSlots) → SeeksSlot place m key s
+    → placed_in s.held.slots place ≡ peeked m key (live_of s)
+placed_sought None m key s h = sym h
+placed_sought (Some slot) m key s h = h.1 ∙ sym h.3
 
--- one more comes last
-pub sought-take_more : (keys : List (List ℕ)) (i : ℕ) (d key : List ℕ) (places : List (Option Slot)) (place : Option Slot)
-    (l : EvictionState)
-    → i < length keys → key ≡ get_or keys i d → AreSought (take i keys) places l → (place ≡ None → held key l.areas ≡ None)
-    → AreSought (take (i + 1) keys) (places ++ place ∷ []) l
-sought-take_more keys i d key places place l lt same h f =
-    subst (λ ks. AreSought ks (places ++ place ∷ []) l) (ap (λ k. take i keys ++ k ∷ []) same ∙ sym (take_more keys i d lt))
-    (sought-push (take i keys) places key place l h f)
+-- where what is at each place is what its key holds, a key with no place holds nothing
+pub sought_by : (slots : List (Option Entry)) (m : ℕ) (keys : List (List ℕ)) (places : List (Option Slot)) (l : EvictionState)
+    → map (placed_in slots) places ≡ found_in m keys l → AreSought keys places (at_moment m l)
+sought_by slots m [] [] l h = tt
+sought_by slots m [] (p ∷ places) l h = absurd (cc h)
+sought_by slots m (k ∷ keys) [] l h = absurd (cc h)
+sought_by slots m (k ∷ keys) (p ∷ places) l h =
+    (λ none. ap (λ es. get_or es 0 None) (sym h) ∙ ap (placed_in slots) none, sought_by slots m keys places l (ap (drop 1) h))
 
 -- as many places as keys
 pub sought_long : (keys : List (List ℕ)) (places : List (Option Slot)) (l : EvictionState) → AreSought keys places l

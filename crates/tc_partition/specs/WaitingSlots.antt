@@ -43,6 +43,11 @@ SeeksSlot None t key s = peeked t key (live_of s) ≡ None
 SeeksSlot (Some slot) t key s =
     (e : Entry) × (slice_index_or s.held.slots slot.0 None ≡ Some e) × (e.key ≡ key) × (peeked t key (live_of s) ≡ Some e)
 
+-- what is at a place that was found
+abbrev pub placed_in : List (Option Entry) → Option Slot → Option Entry
+placed_in slots None = None
+placed_in slots (Some slot) = slice_index_or slots slot.0 None
+
 -- a place for each key, or none where nothing is held under it
 abbrev pub AreSought : List (List ℕ) → List (Option Slot) → EvictionState → Type 0
 AreSought [] [] l = Unit {0}

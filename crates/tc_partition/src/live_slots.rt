@@ -1,6 +1,7 @@
 //! What look-ups touch of one user's cache.
 ghost use Rattle.std.specs.Prelude.{◌≡◌, ℕ, max, false, None, IsSome, slice_index_or, ◌<◌, ◌≤◌, ◌+◌, ◌^◌, true, is_some, length};
-ghost use Rattle.std.specs.Prelude.{Some, IfOk, OnOk, MatchOption, List, ⊤};
+ghost use Rattle.std.specs.Prelude.{Some, IfOk, OnOk, MatchOption, List};
+ghost use Rattle.std.specs.Option.{option_copied};
 ghost use Rattle.tc_model.specs.Areas.{total, settle};
 ghost use Rattle.tc_stats.specs.UserCounters.{more};
 ghost use Rattle.tc_plain.specs.declared.entry.Entry.{Entry};
@@ -14,14 +15,14 @@ ghost use Rattle.tc_plain.specs.UserCache.{UserCache};
 ghost use Rattle.tc_plain.specs.Plans.{outcome_of, planned, IsLightPlan};
 ghost use Rattle.tc_partition.specs.Held.{IsFound};
 ghost use Rattle.tc_partition.specs.Deferred.{Miss, hit, do_note, peeked};
-ghost use Rattle.tc_partition.specs.WaitingSlots.{SeeksSlot};
+ghost use Rattle.tc_partition.specs.WaitingSlots.{SeeksSlot, placed_in};
 ghost use Rattle.tc_partition.specs.LiveSlots.{live_of, plan_of, IsKeyed, IsFree};
 
 use crate::slots::Slots;
 use crate::work::Work;
 use std::alloc::Global;
 use tc_item::{Due, Key, Moment, NoMemory, Slot, alive};
-use tc_plain::{End, Entry, EvictionState, Limits, LookUps};
+use tc_plain::{End, Entry, EvictionState, Limits};
 use tc_sketch::{Sketch, hash};
 use tc_stats::Counters;
 
@@ -124,7 +125,8 @@ impl LiveSlots {
 
     /// What is held at the place that was found for a key.
     pub(crate) fn held_at(&self, place: Option<Slot>) -> Option<&Entry>
-        ensures { (moment : ℕ) (key : List ℕ) → SeeksSlot place moment key self.now
+        ensures placed { option_copied result ≡ placed_in self.now.held.slots place }
+        ensures sought { (moment : ℕ) (key : List ℕ) → SeeksSlot place moment key self.now
             → MatchOption result (peeked moment key (live_of self.now) ≡ None)
             (λ e. peeked moment key (live_of self.now) ≡ Some e.now) }
     {
@@ -132,6 +134,19 @@ impl LiveSlots {
             Some(slot) => self.held.entry(slot),
             None => None,
         }
+    }
+
+    /// One look-up of a key: whether it is held. What it holds has this due from now on, if one is
+    /// given.
+    pub(crate) fn look(&mut self, key: &Key, due: Option<Due>) -> bool
+        requires sound { AreSound self.old.held.limits self.old.held.areas }
+        requires weight { total weight self.old.held.areas < 2 ^ 32 }
+        ensures live { live_of self.new ≡ (looked_up (change_of due) key.now
+            (held key.now self.old.held.areas) (live_of self.old)).1 }
+        ensures found { result ≡ is_some (held key.now self.old.held.areas) }
+    {
+        let place = self.held.find(key);
+        self.look_at(place, key, due)
     }
 
     /// One look-up of a key that was found at this place or holds nothing: whether it is held. What
@@ -309,20 +324,5 @@ impl LiveSlots {
         *last = cas;
         counters.evictions = self.change(place, key, entry, counters.evictions);
         end
-    }
-}
-
-impl LookUps for LiveSlots {
-    ghost touched = { live_of };
-
-    ghost has_room = { λ s. ⊤ };
-
-    fn peek(&self, key: &Key, moment: Moment) -> Option<&Entry> {
-        self.held_at(self.seek(key, moment))
-    }
-
-    fn look(&mut self, key: &Key, due: Option<Due>) -> bool {
-        let place = self.held.find(key);
-        self.look_at(place, key, due)
     }
 }

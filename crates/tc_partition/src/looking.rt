@@ -1,17 +1,12 @@
 //! Look-ups that wait: what they show is peeked at, then each is noted.
-ghost use Rattle.std.specs.Prelude.{◌≡◌, ◌<◌, ◌∷◌, ◌++◌, [], None, nat_lt, length, option_map, option_to_list, IfOk, OnOk, OnErr};
-ghost use Rattle.std.specs.Prelude.{ℕ, List, ◌&&◌, ◌+◌, ◌^◌, cond};
-ghost use Rattle.std.specs.Str.{bytes_eq};
-ghost use Rattle.std.specs.List.{list_any};
-ghost use Rattle.tc_plain.specs.Entries.{hit_of};
+ghost use Rattle.std.specs.Prelude.{◌≡◌, ℕ, List, ◌<◌, ◌+◌, ◌^◌, ◌∷◌, ◌++◌, [], None, nat_lt, length, map, IfOk, OnOk, OnErr};
 ghost use Rattle.tc_plain.specs.EvictionState.{at_moment, held};
-ghost use Rattle.tc_plain.specs.AreaLists.{change_of};
+ghost use Rattle.tc_plain.specs.AreaLists.{change_of, found_in};
 ghost use Rattle.tc_plain.specs.Soundness.{AreSound};
 ghost use Rattle.tc_plain.specs.UserCache.{advance};
 ghost use Rattle.tc_plain.specs.Doing.{with_live, all_looked_up};
-ghost use Rattle.tc_partition.specs.Deferred.{peeked};
 ghost use Rattle.tc_partition.specs.LiveSlots.{live_of};
-ghost use Rattle.tc_partition.specs.WaitingSlots.{SeeksSlot, AreSought};
+ghost use Rattle.tc_partition.specs.WaitingSlots.{AreSought, placed_in};
 ghost use Rattle.tc_partition.specs.Delayed.{settled_in, noted_in, hit_in, waits_next, waits_after};
 
 use crate::Fast;
@@ -19,7 +14,7 @@ use crate::live_slots::LiveSlots;
 use smallvec::SmallVec;
 use std::alloc::Global;
 use tc_item::{Due, Key, Moment, NoMemory, Slot};
-use tc_plain::{is_asked, is_due};
+use tc_plain::{Entry, FoundEntries, show_all};
 use tc_readbuf::{Noted, PLACES, ReadBuf};
 use tc_sketch::hash;
 use tc_stats::Hits;
@@ -27,55 +22,44 @@ use tc_stats::Hits;
 /// Where keys were found, in the order asked. A few take no memory.
 type Places = SmallVec<Option<Slot>, 4>;
 
-/// Adds the hit of what a key will hold at the moment, and says where that is.
-fn add_hit(
-    alloc: Global,
-    live: &LiveSlots,
-    key: &Key,
-    moment: Moment,
-    hits: &mut Hits,
-) -> Result<Option<Slot>, NoMemory>
-    requires { AreSound live.now.held.limits live.now.held.areas }
-    ensures hits { OnOk result (hits.new
-        ≡ hits.old
-        ++ option_to_list (option_map hit_of (peeked moment key.now (live_of live.now)))) }
-    ensures place { IfOk result (λ place. SeeksSlot place moment key.now live.now) }
-{
-    let Some(slot) = live.seek(key, moment) else {
-        return Ok(None);
-    };
-    if let Some(entry) = live.held.entry(slot) {
-        hits.push(alloc, entry.show(alloc)?)?;
-    }
-    Ok(Some(slot))
+/// What the slots hold in which keys were found.
+#[derive(Drop)]
+struct Sought<'a> {
+    live: &'a LiveSlots,
+    places: &'a [Option<Slot>],
 }
 
-/// The same, of a key that was not among those asked before, or is not gone since then.
-fn add_next(
+impl<'a> FoundEntries for Sought<'a> {
+    ghost entries = { λ s. map (placed_in s.live.now.held.slots) s.places.now };
+
+    fn entry(&self, i: usize) -> Option<&Entry> {
+        self.live.held_at(self.places[i])
+    }
+}
+
+/// Where keys are found that will hold something at the moment, in the order asked.
+fn seek_all(
     alloc: Global,
     live: &LiveSlots,
-    asked: &[Key],
-    key: &Key,
+    keys: &[Key],
     moment: Moment,
-    gone: bool,
-    hits: &mut Hits,
-) -> Result<Option<Slot>, NoMemory>
+) -> Result<Places, NoMemory>
     requires { AreSound live.now.held.limits live.now.held.areas }
-    ensures hits { OnOk result (hits.new ≡ hits.old
-        ++ option_to_list (cond (gone && list_any (λ k. bytes_eq k key.now) asked.now) None
-        (option_map hit_of (peeked moment key.now (live_of live.now))))) }
-    ensures place { IfOk result (λ place. SeeksSlot place moment key.now live.now) }
+    ensures { IfOk result (λ places. map (placed_in live.now.held.slots) places.items
+        ≡ found_in moment keys.now (live_of live.now)) }
 {
-    if gone && is_asked(asked, key) {
-        return Ok(live.seek(key, moment));
+    let mut places = SmallVec::new(alloc);
+    places.reserve(keys.len())?;
+    for key in keys {
+        places.push(live.seek(key, moment))?;
     }
-    add_hit(alloc, live, key, moment, hits)
+    Ok(places)
 }
 
 /// The hits of keys at the moment, in the order asked, and where each key was found. What is held
 /// has this due after its hit, if one is given; where that due has come it is gone, so that a key
 /// asked again shows nothing.
-pub(crate) fn seek_all(
+pub(crate) fn seek_hits(
     alloc: Global,
     live: &LiveSlots,
     keys: &[Key],
@@ -88,14 +72,12 @@ pub(crate) fn seek_all(
     ensures places { IfOk result (λ r.
         AreSought keys.now r.1.items (at_moment moment (live_of live.now))) }
 {
-    let gone = is_due(due, moment);
-    let mut hits = Hits::with_capacity(alloc, keys.len())?;
-    let mut places = SmallVec::new(alloc);
-    places.reserve(keys.len())?;
-    for (i, key) in keys.iter().enumerate() {
-        let place = add_next(alloc, live, &keys[..i], key, moment, gone, &mut hits)?;
-        places.push(place)?;
-    }
+    let places = seek_all(alloc, live, keys, moment)?;
+    let found = Sought {
+        live,
+        places: places.as_slice(),
+    };
+    let hits = show_all(alloc, keys, &found, moment, due)?;
     Ok((hits, places))
 }
 
@@ -135,7 +117,7 @@ impl Fast {
             AreSought keys.now r.1.items (advance (settled_in self.now) now).live) }
     {
         let moment = self.moment.later(now);
-        seek_all(alloc, &self.cache.live, keys, moment, None)
+        seek_hits(alloc, &self.cache.live, keys, moment, None)
     }
 
     /// Notes a look-up of a key, which was found at this place, or holds nothing.

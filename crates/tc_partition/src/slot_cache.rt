@@ -20,7 +20,7 @@ ghost use Rattle.tc_partition.specs.WaitingSlots.{SeeksSlot};
 ghost use Rattle.tc_model.specs.Areas.{total};
 
 use crate::live_slots::LiveSlots;
-use crate::looking::{look_all, seek_all};
+use crate::looking::{look_all, seek_hits};
 use crate::slots::Slots;
 use crate::work::{Work, with_key};
 use std::alloc::Global;
@@ -28,7 +28,7 @@ use std::hash::RandomState;
 use tc_grammar::{Command, Head, Way};
 use tc_item::exptime::due;
 use tc_item::{Blob, Due, Key, Keys, Moment, NoMemory, Slot};
-use tc_plain::{Bid, End, EvictionState, Limits, LookUps, Plan, offer, plan_count, plan_item};
+use tc_plain::{Bid, End, EvictionState, Limits, Plan, offer, plan_count, plan_item};
 use tc_sketch::{Sketch, width_of};
 use tc_stats::{Counters, Hits, Outcome, Statistics};
 
@@ -290,7 +290,7 @@ impl SlotCache {
         ensures unchanged_on_err { OnErr result (cache_of self.new ≡ cache_of self.old) }
     {
         let moment = self.live.moment.later(now);
-        let (first, places) = seek_all(alloc, &self.live, keys, moment, due)?;
+        let (first, places) = seek_hits(alloc, &self.live, keys, moment, due)?;
         let second = first.copy(alloc)?;
         self.live.advance(now);
         look_all(&mut self.live, keys, places.as_slice(), due);

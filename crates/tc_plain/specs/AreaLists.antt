@@ -1,6 +1,6 @@
 -- The areas and what look-ups touch, as the code keeps them. Source: this project's own.
-use Rattle.std.specs.Prelude.{ℕ, ◌+◌, ◌≤◌, ◌∷◌, ◌++◌, [], ◌≡◌, ◌⊎◌, cond, not, vec_len, vec_capacity, Bool, true, false, Option}
-use Rattle.std.specs.Prelude.{Some, None}
+use Rattle.std.specs.Prelude.{ℕ, ◌+◌, ◌≤◌, ◌∷◌, ◌++◌, [], ◌≡◌, ◌⊎◌, cond, not, map, vec_len, vec_capacity, Bool, true, false, List}
+use Rattle.std.specs.Prelude.{Option, Some, None}
 use Rattle.tc_model.specs.Areas.{Areas}
 use Rattle.tc_sketch.specs.Sketch.{Sketch, freq, hash}
 use Rattle.tc_item.specs.declared.moment.Due.{Due}
@@ -12,7 +12,7 @@ use Rattle.tc_plain.specs.declared.areas.Origin.{Origin}
 use Rattle.tc_plain.specs.declared.areas.Origin.TheVariants.{Window, Main}
 use Rattle.tc_plain.specs.declared.eviction_state.EvictionState.{EvictionState as LiveLists}
 use Rattle.tc_plain.specs.Entries.{with_due}
-use Rattle.tc_plain.specs.EvictionState.{EvictionState}
+use Rattle.tc_plain.specs.EvictionState.{EvictionState, at_moment, held}
 
 -- the areas that three lists are
 abbrev pub areas_of : AreaLists → Areas Entry
@@ -63,3 +63,7 @@ frequency_in s e = freq s (hash e.key)
 abbrev pub is_due : Option Due → ℕ → Bool
 is_due None moment = false
 is_due (Some due) moment = not (is_before moment due)
+
+-- what keys will hold at a moment, in the order asked
+abbrev pub found_in : ℕ → List (List ℕ) → EvictionState → List (Option Entry)
+found_in moment keys l = map (λ key. held key (at_moment moment l).areas) keys

@@ -11,9 +11,9 @@ ghost use Rattle.tc_plain.specs.AreaLists.{areas_of, live_of, HasRoom, is_from_w
 use crate::areas::Origin;
 use crate::lists::put_first;
 use crate::lookup::find_alive;
-use crate::{Areas, Entry, Limits, LookUps};
+use crate::{Areas, Entry, Limits};
 use std::alloc::Global;
-use tc_item::{Due, Key, Moment, NoMemory, alive};
+use tc_item::{Due, Moment, NoMemory, alive};
 use tc_sketch::{Sketch, hash};
 
 /// What look-ups touch: the areas that hold the entries, how often each key was seen, and when the
@@ -186,19 +186,5 @@ impl EvictionState {
         } else {
             self.flush = Some(self.moment.seconds() + u64::from(delay));
         }
-    }
-}
-
-impl LookUps for EvictionState {
-    ghost touched = { live_of };
-
-    ghost has_room = { λ l. HasRoom 0 l.areas };
-
-    fn peek(&self, key: &Key, moment: Moment) -> Option<&Entry> {
-        self.peek(key.as_bytes(), moment)
-    }
-
-    fn look(&mut self, key: &Key, due: Option<Due>) -> bool {
-        self.look(key.as_bytes(), due)
     }
 }

@@ -10,7 +10,6 @@ ghost use Rattle.tc_plain.specs.AreaLists.{change_of};
 ghost use Rattle.tc_plain.specs.Plans.{outcome_of, planned, IsLightPlan};
 
 use crate::end::End;
-use crate::hits::{look_all, look_up};
 use crate::offers::{Bid, offer};
 use crate::plans::{Plan, plan_count, plan_item};
 use crate::{Areas, EvictionState, Limits};
@@ -226,11 +225,11 @@ impl Plain {
         ensures unchanged_on_err { OnErr result (self.new ≡ self.old) }
     {
         let moment = self.live.moment.later(now);
-        let first = look_up(alloc, &self.live, keys, moment, due)?;
+        let first = self.live.look_up(alloc, keys, moment, due)?;
         let second = first.copy(alloc)?;
         self.live.areas.make_room()?;
         self.live.advance(now);
-        look_all(&mut self.live, keys, due);
+        self.live.look_all(keys, due);
         Ok((first, second))
     }
 

@@ -9,8 +9,8 @@ use Rattle.tc_partition.specs.SlotCaches.{cache_of}
 use Rattle.tc_partition.proofs.Limited.{both_small}
 use Rattle.tc_partition.proofs.slot_cache.SlotCache.look.Goals as goal
 
-pub seek_all-requires : goal.seek_all-requires
-seek_all-requires c = c.requires.areas
+pub seek_hits-requires : goal.seek_hits-requires
+seek_hits-requires c = c.requires.areas
 
 pub look_all-requires-clause-sound : goal.look_all-requires-clause-sound
 look_all-requires-clause-sound c =

@@ -16,7 +16,7 @@ returns-in-Some-clause-light c =
     let e = c.in-Some.entry.now in
     let key : length e.key ≡ length c.args.key.now =
     ap length (held_key c.args.key.now (at_moment (max i.live.moment c.args.now) (live_of i.live)).areas e
-    (c.in-Some.ensures _ _ c.requires.place)) in
+    (c.in-Some.ensures.sought _ _ c.requires.place)) in
     let main : i.live.held.limits.main ≡ (limits_of i.budget).main = ap (λ (t : Limits). t.main) c.requires.sound.limits in
     let small : weight_of e.key 20 ≤ i.live.held.limits.main =
     omega (arith, key, main, c.as_bytes-bytes.ensures.short, c.requires.sound.least_budget) in
@@ -27,4 +27,4 @@ returns-in-Some-clause-missed c = λ none.
     let live = c.args.self.now.live in
     let nothing : peeked (max live.moment c.args.now) c.args.key.now (live_of live) ≡ None =
     subst (λ place. SeeksSlot place (max live.moment c.args.now) c.args.key.now live) none c.requires.place in
-    absurd (cc (sym nothing ∙ c.in-Some.ensures _ _ c.requires.place))
+    absurd (cc (sym nothing ∙ c.in-Some.ensures.sought _ _ c.requires.place))

@@ -1,6 +1,6 @@
 use Rattle.std.proofs.Common.{subst}
 use Rattle.tc_partition.specs.Held.{FindsSlot}
-use Rattle.tc_partition.proofs.live_slots.LiveSlotsLookUps.look.Goals as goal
+use Rattle.tc_partition.proofs.live_slots.LiveSlots.look.Goals as goal
 
 pub look_at-requires-clause-missed : goal.look_at-requires-clause-missed
 look_at-requires-clause-missed c = λ none.
