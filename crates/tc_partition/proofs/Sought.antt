@@ -1,7 +1,7 @@
 -- Places of keys that were sought, one after another.
 use Rattle.std.specs.Prelude.{max, map}
-use Rattle.std.proofs.Common.{◌≡◌, ℕ, zero, suc, ◌<◌, ◌+◌, List, [], ◌∷◌, ◌++◌, length, get_or, drop, Option, None, sym, ◌∙◌, ap}
-use Rattle.std.proofs.Common.{Bool, true, false, cond, Some, refl, subst, arith}
+use Rattle.std.proofs.Common.{◌≡◌, ℕ, zero, suc, ◌<◌, List, [], ◌∷◌, length, get_or, drop, Option, None, sym, ◌∙◌, ap}
+use Rattle.std.proofs.Common.{Bool, true, false, cond, Some, refl, arith}
 use Rattle.std.specs.Str.{bytes_eq}
 use Rattle.std.proofs.lemmas.Slice.Eq.{bytes_eq-Decides}
 use Rattle.tc_item.specs.declared.slot.Slot.{Slot}

@@ -1,7 +1,6 @@
-use Rattle.std.specs.Prelude.{map, IfOk}
-use Rattle.std.proofs.Common.{◌≡◌, length, sym, ◌∙◌, ap, subst}
+use Rattle.std.specs.Prelude.{map}
+use Rattle.std.proofs.Common.{length, ◌∙◌, ap}
 use Rattle.std.proofs.lemmas.List.{length-map}
-use Rattle.std.proofs.lemmas.Result.{IfOk-weaker}
 use Rattle.tc_partition.specs.Deferred.{peeked}
 use Rattle.tc_partition.specs.LiveSlots.{live_of}
 use Rattle.tc_partition.specs.WaitingSlots.{placed_in}
