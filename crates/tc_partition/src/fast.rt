@@ -32,7 +32,7 @@ use std::hash::RandomState;
 use std::marker::Model;
 use tc_grammar::Command;
 use tc_item::{Moment, NoMemory};
-use tc_plain::{Cache, Plain};
+use tc_plain::{Cache, Plain, act};
 use tc_readbuf::ReadBuf;
 use tc_stats::Outcome;
 
@@ -128,7 +128,7 @@ impl Fast {
     {
         keys_are_short(command);
         let moment = self.moment.later(now);
-        let both = self.cache.act(alloc, moment, command)?;
+        let both = act(&mut self.cache, alloc, moment, command)?;
         self.moment = moment;
         Ok(both)
     }

@@ -4,20 +4,17 @@
 //! (`specs/SlotCaches.antt`), under the premise that this is sound, and `Fast`, whose base it is,
 //! keeps it so.
 ghost use Rattle.std.specs.Prelude.{◌≡◌, ◌≤◌, ◌<◌, ◌^◌, None, max, IfOk, OnOk, OnErr};
-ghost use Rattle.tc_stats.specs.UserCounters.{noted};
-ghost use Rattle.tc_plain.specs.Entries.{with_due, weight};
+ghost use Rattle.tc_model.specs.Areas.{total};
+ghost use Rattle.tc_plain.specs.Entries.{weight};
 ghost use Rattle.tc_plain.specs.EvictionState.{held};
 ghost use Rattle.tc_plain.specs.UserCache.{fresh, advance};
 ghost use Rattle.tc_plain.specs.Storing.{stored};
-ghost use Rattle.tc_plain.specs.Doing.{with_live, all_looked_up, as_values, done, act, touched, deleted, counted_under, flushed};
-ghost use Rattle.tc_plain.specs.Doing.{numbers_of};
+ghost use Rattle.tc_plain.specs.Doing.{counted_under, numbers_of};
 ghost use Rattle.tc_plain.specs.Plans.{outcome_of, planned, IsLightPlan};
-ghost use Rattle.tc_item.specs.Expiry.{due_of};
-ghost use Rattle.tc_plain.specs.AreaLists.{change_of, HasRoom, live_of as lists_live};
+ghost use Rattle.tc_plain.specs.AreaLists.{HasRoom, live_of as lists_live};
 ghost use Rattle.tc_partition.specs.LiveSlots.{live_of, plan_of, IsKeyed, IsFree};
 ghost use Rattle.tc_partition.specs.SlotCaches.{cache_of, IsSlotCache};
 ghost use Rattle.tc_partition.specs.WaitingSlots.{SeeksSlot};
-ghost use Rattle.tc_model.specs.Areas.{total};
 
 use crate::live_slots::LiveSlots;
 use crate::looking::{look_all, seek_hits};
@@ -27,8 +24,8 @@ use std::alloc::Global;
 use std::hash::RandomState;
 use tc_grammar::{Command, Head, Way};
 use tc_item::exptime::due;
-use tc_item::{Blob, Due, Key, Keys, Moment, NoMemory, Slot};
-use tc_plain::{Bid, End, EvictionState, Limits, Plan, offer, plan_count, plan_item};
+use tc_item::{Blob, Due, Key, Moment, NoMemory, Slot};
+use tc_plain::{Bid, Commands, End, EvictionState, Limits, Plan, offer, plan_count, plan_item};
 use tc_sketch::{Sketch, width_of};
 use tc_stats::{Counters, Hits, Outcome, Statistics};
 
@@ -82,13 +79,6 @@ impl SlotCache {
         let mut live = self.live.copy(alloc, Limits::of(self.budget))?;
         live.areas.make_room()?;
         Ok(live)
-    }
-
-    /// Brings the cache to the moment, if that is later than its own.
-    pub(crate) fn advance(&mut self, now: Moment)
-        ensures { cache_of self.new ≡ advance (cache_of self.old) now }
-    {
-        self.live.advance(now);
     }
 
     /// Where what a key will hold at the moment is.
@@ -173,130 +163,6 @@ impl SlotCache {
         )
     }
 
-    /// A storage line with its block. A refusal changes nothing.
-    pub(crate) fn store(
-        &mut self,
-        alloc: Global,
-        now: Moment,
-        head: &Head,
-        blob: &Blob,
-    ) -> Result<End, NoMemory>
-        requires { IsSlotCache self.old }
-        ensures outcome { IfOk result (λ end. outcome_of end
-            ≡ (stored (advance (cache_of self.old) now) head.now blob.now).0) }
-        ensures state { OnOk result (cache_of self.new
-            ≡ (stored (advance (cache_of self.old) now) head.now blob.now).1) }
-        ensures unchanged_on_err { OnErr result (cache_of self.new ≡ cache_of self.old) }
-    {
-        let place = self.seek(now, &head.key);
-        let plan = self.plan_store(alloc, now, place, head, blob)?;
-        let work = with_key(alloc, plan)?;
-        self.change(now, place, work)
-    }
-
-    /// Counts what a key holds up or down. A refusal changes nothing.
-    pub(crate) fn count(
-        &mut self,
-        alloc: Global,
-        now: Moment,
-        way: Way,
-        key: &Key,
-        by: u64,
-    ) -> Result<End, NoMemory>
-        requires { IsSlotCache self.old }
-        ensures outcome { IfOk result (λ end. outcome_of end
-            ≡ (counted_under way by (held key.now (advance (cache_of self.old) now).live.areas)
-            (advance (cache_of self.old) now)).0) }
-        ensures state { OnOk result (cache_of self.new
-            ≡ (counted_under way by (held key.now (advance (cache_of self.old) now).live.areas)
-            (advance (cache_of self.old) now)).1) }
-        ensures unchanged_on_err { OnErr result (cache_of self.new ≡ cache_of self.old) }
-    {
-        let place = self.seek(now, key);
-        let plan = self.plan_count(alloc, now, place, way, key, by)?;
-        let work = with_key(alloc, plan)?;
-        self.change(now, place, work)
-    }
-
-    /// What a key holds has another due from now on.
-    pub(crate) fn touch(&mut self, now: Moment, key: &Key, due: Due) -> End
-        requires { IsSlotCache self.old }
-        ensures outcome { outcome_of result
-            ≡ (touched due key.now (held key.now (advance (cache_of self.old) now).live.areas)
-            (advance (cache_of self.old) now)).0 }
-        ensures state { cache_of self.new
-            ≡ (touched due key.now (held key.now (advance (cache_of self.old) now).live.areas)
-            (advance (cache_of self.old) now)).1 }
-    {
-        self.live.advance(now);
-        if self.live.look(key, Some(due)) {
-            End::Touched
-        } else {
-            End::NotFound
-        }
-    }
-
-    /// Takes out what a key holds.
-    pub(crate) fn delete(&mut self, now: Moment, key: &Key) -> End
-        requires { IsSlotCache self.old }
-        ensures outcome { outcome_of result
-            ≡ (deleted key.now (held key.now (advance (cache_of self.old) now).live.areas)
-            (advance (cache_of self.old) now)).0 }
-        ensures state { cache_of self.new
-            ≡ (deleted key.now (held key.now (advance (cache_of self.old) now).live.areas)
-            (advance (cache_of self.old) now)).1 }
-    {
-        self.live.advance(now);
-        if self.live.remove(key) {
-            End::Deleted
-        } else {
-            End::NotFound
-        }
-    }
-
-    /// Takes all items out, at once or so many seconds later.
-    pub(crate) fn flush(&mut self, now: Moment, delay: u32)
-        ensures { cache_of self.new ≡ with_live (advance (cache_of self.old) now) (flushed delay
-            (advance (cache_of self.old) now).live) }
-    {
-        self.live.advance(now);
-        self.live.flush(delay);
-    }
-
-    /// The due of an exptime at the moment, or at the cache's own where that is later.
-    pub(crate) fn due(&self, now: Moment, exptime: i64) -> Due
-        ensures { result ≡ due_of exptime (advance (cache_of self.now) now).live.moment }
-    {
-        due(exptime, self.live.moment.later(now))
-    }
-
-    /// Looks keys up; what they hold has this due from now on, if one is given. A refusal changes
-    /// nothing.
-    pub(crate) fn look(
-        &mut self,
-        alloc: Global,
-        now: Moment,
-        keys: &[Key],
-        due: Option<Due>,
-    ) -> Result<(Hits, Hits), NoMemory>
-        requires { IsSlotCache self.old }
-        ensures first { IfOk result (λ r. r.0
-            ≡ (all_looked_up (change_of due) keys.now (advance (cache_of self.old) now).live).0) }
-        ensures second { IfOk result (λ r. r.1
-            ≡ (all_looked_up (change_of due) keys.now (advance (cache_of self.old) now).live).0) }
-        ensures state { OnOk result (cache_of self.new
-            ≡ with_live (advance (cache_of self.old) now) (all_looked_up (change_of due) keys.now
-            (advance (cache_of self.old) now).live).1) }
-        ensures unchanged_on_err { OnErr result (cache_of self.new ≡ cache_of self.old) }
-    {
-        let moment = self.live.moment.later(now);
-        let (first, places) = seek_hits(alloc, &self.live, keys, moment, due)?;
-        let second = first.copy(alloc)?;
-        self.live.advance(now);
-        look_all(&mut self.live, keys, places.as_slice(), due);
-        Ok((first, second))
-    }
-
     /// The user's counters, with what is held and the limits.
     fn numbers(&self) -> Counters
         requires { total weight self.now.live.held.areas < 2 ^ 64 }
@@ -309,19 +175,91 @@ impl SlotCache {
         numbers.item_size_max = self.largest;
         numbers
     }
+}
 
-    /// The user's counters at the moment, twice. A refusal changes nothing.
-    pub(crate) fn stats(
+impl Commands for SlotCache {
+    ghost cache = { cache_of };
+
+    ghost is_sound = { IsSlotCache };
+
+    fn advance(&mut self, now: Moment) {
+        self.live.advance(now);
+    }
+
+    fn store(
         &mut self,
         alloc: Global,
         now: Moment,
-    ) -> Result<(Statistics, Statistics), NoMemory>
-        requires { IsSlotCache self.old }
-        ensures first { IfOk result (λ r. r.0 ≡ numbers_of (advance (cache_of self.old) now)) }
-        ensures second { IfOk result (λ r. r.1 ≡ numbers_of (advance (cache_of self.old) now)) }
-        ensures state { OnOk result (cache_of self.new ≡ advance (cache_of self.old) now) }
-        ensures unchanged_on_err { OnErr result (cache_of self.new ≡ cache_of self.old) }
-    {
+        head: &Head,
+        blob: &Blob,
+    ) -> Result<End, NoMemory> {
+        let place = self.seek(now, &head.key);
+        let plan = self.plan_store(alloc, now, place, head, blob)?;
+        let work = with_key(alloc, plan)?;
+        self.change(now, place, work)
+    }
+
+    fn count(
+        &mut self,
+        alloc: Global,
+        now: Moment,
+        way: Way,
+        key: &Key,
+        by: u64,
+    ) -> Result<End, NoMemory> {
+        let place = self.seek(now, key);
+        let plan = self.plan_count(alloc, now, place, way, key, by)?;
+        let work = with_key(alloc, plan)?;
+        self.change(now, place, work)
+    }
+
+    fn look(
+        &mut self,
+        alloc: Global,
+        now: Moment,
+        keys: &[Key],
+        due: Option<Due>,
+    ) -> Result<(Hits, Hits), NoMemory> {
+        let moment = self.live.moment.later(now);
+        let (first, places) = seek_hits(alloc, &self.live, keys, moment, due)?;
+        let second = first.copy(alloc)?;
+        self.live.advance(now);
+        look_all(&mut self.live, keys, places.as_slice(), due);
+        Ok((first, second))
+    }
+
+    fn touch(&mut self, now: Moment, key: &Key, due: Due) -> Result<End, NoMemory> {
+        self.live.advance(now);
+        if self.live.look(key, Some(due)) {
+            Ok(End::Touched)
+        } else {
+            Ok(End::NotFound)
+        }
+    }
+
+    fn delete(&mut self, now: Moment, key: &Key) -> End {
+        self.live.advance(now);
+        if self.live.remove(key) {
+            End::Deleted
+        } else {
+            End::NotFound
+        }
+    }
+
+    fn flush(&mut self, now: Moment, delay: u32) {
+        self.live.advance(now);
+        self.live.flush(delay);
+    }
+
+    fn due(&self, now: Moment, exptime: i64) -> Due {
+        due(exptime, self.live.moment.later(now))
+    }
+
+    fn stats(
+        &mut self,
+        alloc: Global,
+        now: Moment,
+    ) -> Result<(Statistics, Statistics), NoMemory> {
         let mut first = Statistics::new(alloc, self.counters)?;
         let mut second = Statistics::new(alloc, self.counters)?;
         self.advance(now);
@@ -331,141 +269,7 @@ impl SlotCache {
         Ok((first, second))
     }
 
-    /// Counts a command that came to this outcome.
-    pub(crate) fn note(&mut self, command: &Command, outcome: &Outcome)
-        ensures { cache_of self.new ≡ record (cache_of self.old)
-            { counters = noted command.now outcome.now (cache_of self.old).counters } }
-    {
+    fn note(&mut self, command: &Command, outcome: &Outcome) {
         self.counters.note(command, outcome);
-    }
-
-    /// Looks keys up, as an outcome. A refusal changes nothing.
-    fn look_up(
-        &mut self,
-        alloc: Global,
-        now: Moment,
-        keys: &Keys,
-        due: Option<Due>,
-    ) -> Result<(Outcome, Outcome), NoMemory>
-        requires { IsSlotCache self.old }
-        ensures outcome { IfOk result (λ r. r.0
-            ≡ (as_values (advance (cache_of self.old) now) (all_looked_up (change_of due) keys.now
-            (advance (cache_of self.old) now).live)).0) }
-        ensures kept { IfOk result (λ r. r.1
-            ≡ (as_values (advance (cache_of self.old) now) (all_looked_up (change_of due) keys.now
-            (advance (cache_of self.old) now).live)).0) }
-        ensures state { OnOk result (cache_of self.new
-            ≡ (as_values (advance (cache_of self.old) now) (all_looked_up (change_of due) keys.now
-            (advance (cache_of self.old) now).live)).1) }
-        ensures unchanged_on_err { OnErr result (cache_of self.new ≡ cache_of self.old) }
-    {
-        let (first, second) = self.look(alloc, now, keys.as_slice(), due)?;
-        Ok((Outcome::Values(first), Outcome::Values(second)))
-    }
-
-    /// Looks keys up and gives what they hold another due, as an outcome. A refusal changes
-    /// nothing.
-    fn look_up_due(
-        &mut self,
-        alloc: Global,
-        now: Moment,
-        keys: &Keys,
-        exptime: i64,
-    ) -> Result<(Outcome, Outcome), NoMemory>
-        requires { IsSlotCache self.old }
-        ensures outcome { IfOk result (λ r. r.0
-            ≡ (as_values (advance (cache_of self.old) now) (all_looked_up (with_due
-            (due_of exptime (advance (cache_of self.old) now).live.moment)) keys.now (advance
-            (cache_of self.old) now).live)).0) }
-        ensures kept { IfOk result (λ r. r.1
-            ≡ (as_values (advance (cache_of self.old) now) (all_looked_up (with_due
-            (due_of exptime (advance (cache_of self.old) now).live.moment)) keys.now (advance
-            (cache_of self.old) now).live)).0) }
-        ensures state { OnOk result (cache_of self.new
-            ≡ (as_values (advance (cache_of self.old) now) (all_looked_up (with_due
-            (due_of exptime (advance (cache_of self.old) now).live.moment)) keys.now (advance
-            (cache_of self.old) now).live)).1) }
-        ensures unchanged_on_err { OnErr result (cache_of self.new ≡ cache_of self.old) }
-    {
-        let due = self.due(now, exptime);
-        self.look_up(alloc, now, keys, Some(due))
-    }
-
-    /// A command, but for its note in the counters. A refusal changes nothing.
-    fn done(
-        &mut self,
-        alloc: Global,
-        now: Moment,
-        command: &Command,
-    ) -> Result<(Outcome, Outcome), NoMemory>
-        requires { IsSlotCache self.old }
-        ensures outcome { IfOk result (λ r. r.0
-            ≡ (done (advance (cache_of self.old) now) command.now).0) }
-        ensures kept { IfOk result (λ r. r.1
-            ≡ (done (advance (cache_of self.old) now) command.now).0) }
-        ensures state { OnOk result (cache_of self.new
-            ≡ (done (advance (cache_of self.old) now) command.now).1) }
-        ensures unchanged_on_err { OnErr result (cache_of self.new ≡ cache_of self.old) }
-    {
-        match command {
-            Command::Store(head, blob) => Ok(self.store(alloc, now, head, blob)?.twice()),
-            Command::Get { form: _, keys } => self.look_up(alloc, now, keys, None),
-            Command::Gat {
-                form: _,
-                exptime,
-                keys,
-            } => self.look_up_due(alloc, now, keys, *exptime),
-            Command::Delete { key, quiet: _ } => Ok(self.delete(now, key).twice()),
-            Command::Count {
-                way,
-                key,
-                value,
-                quiet: _,
-            } => Ok(self.count(alloc, now, *way, key, *value)?.twice()),
-            Command::Touch {
-                key,
-                exptime,
-                quiet: _,
-            } => {
-                let due = self.due(now, *exptime);
-                Ok(self.touch(now, key, due).twice())
-            }
-            Command::Flush { delay, quiet: _ } => {
-                self.flush(now, *delay);
-                Ok(End::Done.twice())
-            }
-            Command::Stats => {
-                let (first, second) = self.stats(alloc, now)?;
-                Ok((Outcome::Stats(first), Outcome::Stats(second)))
-            }
-            Command::Version => {
-                self.advance(now);
-                Ok(End::Version.twice())
-            }
-            Command::Verbosity { .. } | Command::Quit => {
-                self.advance(now);
-                Ok(End::Done.twice())
-            }
-        }
-    }
-
-    /// Does one command, at this moment or at the cache's own where that is later. A refusal
-    /// changes nothing.
-    pub fn act(
-        &mut self,
-        alloc: Global,
-        now: Moment,
-        command: &Command,
-    ) -> Result<(Outcome, Outcome), NoMemory>
-        requires { IsSlotCache self.old }
-        ensures outcome { IfOk result (λ r. r.0 ≡ (act (cache_of self.old) now command.now).0) }
-        ensures kept { IfOk result (λ r. r.1 ≡ (act (cache_of self.old) now command.now).0) }
-        ensures state { OnOk result (cache_of self.new
-            ≡ (act (cache_of self.old) now command.now).1) }
-        ensures unchanged_on_err { OnErr result (cache_of self.new ≡ cache_of self.old) }
-    {
-        let both = self.done(alloc, now, command)?;
-        self.note(command, &both.0);
-        Ok(both)
     }
 }

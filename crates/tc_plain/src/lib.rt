@@ -14,7 +14,7 @@
 
 mod areas;
 mod cache;
-mod doing;
+mod commands;
 mod end;
 mod entry;
 mod eviction_state;
@@ -31,6 +31,7 @@ mod settling;
 
 pub use areas::Areas;
 pub use cache::Cache;
+pub use commands::{Commands, act};
 pub use end::End;
 pub use entry::Entry;
 pub use eviction_state::EvictionState;

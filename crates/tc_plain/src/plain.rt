@@ -1,18 +1,16 @@
 //! The plain cache: three lists, with nothing deferred.
-ghost use Rattle.std.specs.Prelude.{◌≡◌, ◌≤◌, ◌^◌, IfOk, OnOk, OnErr};
-ghost use Rattle.tc_item.specs.Expiry.{due_of};
-ghost use Rattle.tc_stats.specs.UserCounters.{noted};
+ghost use Rattle.std.specs.Prelude.{◌≡◌, ◌≤◌, ◌^◌, ⊤, IfOk, OnOk, OnErr};
 ghost use Rattle.tc_plain.specs.EvictionState.{held};
 ghost use Rattle.tc_plain.specs.UserCache.{fresh, advance};
 ghost use Rattle.tc_plain.specs.Storing.{stored};
-ghost use Rattle.tc_plain.specs.Doing.{with_live, all_looked_up, touched, deleted, counted_under, flushed, numbers_of};
-ghost use Rattle.tc_plain.specs.AreaLists.{change_of};
+ghost use Rattle.tc_plain.specs.Doing.{counted_under, numbers_of};
 ghost use Rattle.tc_plain.specs.Plans.{outcome_of, planned, IsLightPlan};
 
+use crate::commands::{Commands, act};
 use crate::end::End;
 use crate::offers::{Bid, offer};
 use crate::plans::{Plan, plan_count, plan_item};
-use crate::{Areas, EvictionState, Limits};
+use crate::{Areas, Cache, EvictionState, Limits};
 use std::alloc::Global;
 use std::marker::Model;
 use tc_grammar::{Command, Head, Way};
@@ -99,13 +97,6 @@ impl Plain {
         })
     }
 
-    /// Brings the cache to the moment, if that is later than its own.
-    pub(crate) fn advance(&mut self, now: Moment)
-        ensures { self.new ≡ advance self.old now }
-    {
-        self.live.advance(now);
-    }
-
     /// What a storage line with its block will do at the moment.
     fn plan_store(
         &self,
@@ -171,115 +162,6 @@ impl Plain {
         )
     }
 
-    /// A storage line with its block. A refusal changes nothing.
-    pub(crate) fn store(
-        &mut self,
-        alloc: Global,
-        now: Moment,
-        head: &Head,
-        blob: &Blob,
-    ) -> Result<End, NoMemory>
-        ensures outcome { IfOk result (λ end. outcome_of end
-            ≡ (stored (advance self.old now) head.now blob.now).0) }
-        ensures state { OnOk result (self.new
-            ≡ (stored (advance self.old now) head.now blob.now).1) }
-        ensures unchanged_on_err { OnErr result (self.new ≡ self.old) }
-    {
-        let plan = self.plan_store(alloc, now, head, blob)?;
-        self.change(now, plan)
-    }
-
-    /// Counts what a key holds up or down. A refusal changes nothing.
-    pub(crate) fn count(
-        &mut self,
-        alloc: Global,
-        now: Moment,
-        way: Way,
-        key: &Key,
-        by: u64,
-    ) -> Result<End, NoMemory>
-        ensures outcome { IfOk result (λ end. outcome_of end ≡ (counted_under way by
-            (held key.now (advance self.old now).live.areas) (advance self.old now)).0) }
-        ensures state { OnOk result (self.new ≡ (counted_under way by
-            (held key.now (advance self.old now).live.areas) (advance self.old now)).1) }
-        ensures unchanged_on_err { OnErr result (self.new ≡ self.old) }
-    {
-        let plan = self.plan_count(alloc, now, way, key, by)?;
-        self.change(now, plan)
-    }
-
-    /// Looks keys up; what they hold has this due from now on, if one is given. A refusal changes nothing.
-    pub(crate) fn look(
-        &mut self,
-        alloc: Global,
-        now: Moment,
-        keys: &[Key],
-        due: Option<Due>,
-    ) -> Result<(Hits, Hits), NoMemory>
-        ensures first { IfOk result (λ r. r.0 ≡ (all_looked_up (change_of due) keys.now
-            (advance self.old now).live).0) }
-        ensures second { IfOk result (λ r. r.1 ≡ (all_looked_up (change_of due) keys.now
-            (advance self.old now).live).0) }
-        ensures state { OnOk result (self.new ≡ with_live (advance self.old now)
-            (all_looked_up (change_of due) keys.now (advance self.old now).live).1) }
-        ensures unchanged_on_err { OnErr result (self.new ≡ self.old) }
-    {
-        let moment = self.live.moment.later(now);
-        let first = self.live.look_up(alloc, keys, moment, due)?;
-        let second = first.copy(alloc)?;
-        self.live.areas.make_room()?;
-        self.live.advance(now);
-        self.live.look_all(keys, due);
-        Ok((first, second))
-    }
-
-    /// The due of an exptime at the moment, or at the cache's own where that is later.
-    pub(crate) fn due(&self, now: Moment, exptime: i64) -> Due
-        ensures { result ≡ due_of exptime (advance self.now now).live.moment }
-    {
-        due(exptime, self.live.moment.later(now))
-    }
-
-    /// What a key holds has another due from now on. A refusal changes nothing.
-    pub(crate) fn touch(&mut self, now: Moment, key: &Key, due: Due) -> Result<End, NoMemory>
-        ensures outcome { IfOk result (λ end. outcome_of end ≡ (touched due key.now
-            (held key.now (advance self.old now).live.areas) (advance self.old now)).0) }
-        ensures state { OnOk result (self.new ≡ (touched due key.now
-            (held key.now (advance self.old now).live.areas) (advance self.old now)).1) }
-        ensures unchanged_on_err { OnErr result (self.new ≡ self.old) }
-    {
-        self.live.areas.make_room()?;
-        self.live.advance(now);
-        if self.live.look(key.as_bytes(), Some(due)) {
-            Ok(End::Touched)
-        } else {
-            Ok(End::NotFound)
-        }
-    }
-
-    /// Takes out what a key holds.
-    pub(crate) fn delete(&mut self, now: Moment, key: &Key) -> End
-        ensures outcome { outcome_of result ≡ (deleted key.now
-            (held key.now (advance self.old now).live.areas) (advance self.old now)).0 }
-        ensures state { self.new ≡ (deleted key.now (held key.now (advance self.old now).live.areas)
-            (advance self.old now)).1 }
-    {
-        self.live.advance(now);
-        match self.live.areas.take(key.as_bytes()) {
-            Some(_) => End::Deleted,
-            None => End::NotFound,
-        }
-    }
-
-    /// Takes all items out, at once or so many seconds later.
-    pub(crate) fn flush(&mut self, now: Moment, delay: u32)
-        ensures { self.new
-            ≡ with_live (advance self.old now) (flushed delay (advance self.old now).live) }
-    {
-        self.live.advance(now);
-        self.live.flush(delay);
-    }
-
     /// The user's counters, with what is held and the limits.
     fn numbers(&self) -> Counters
         ensures { result ≡ numbers_of self.now }
@@ -291,18 +173,88 @@ impl Plain {
         numbers.item_size_max = self.largest;
         numbers
     }
+}
 
-    /// The user's counters at the moment, twice. A refusal changes nothing.
-    pub(crate) fn stats(
+impl Commands for Plain {
+    ghost cache = { λ p. p };
+
+    ghost is_sound = { λ p. ⊤ };
+
+    fn advance(&mut self, now: Moment) {
+        self.live.advance(now);
+    }
+
+    fn store(
         &mut self,
         alloc: Global,
         now: Moment,
-    ) -> Result<(Statistics, Statistics), NoMemory>
-        ensures first { IfOk result (λ r. r.0 ≡ numbers_of (advance self.old now)) }
-        ensures second { IfOk result (λ r. r.1 ≡ numbers_of (advance self.old now)) }
-        ensures state { OnOk result (self.new ≡ advance self.old now) }
-        ensures unchanged_on_err { OnErr result (self.new ≡ self.old) }
-    {
+        head: &Head,
+        blob: &Blob,
+    ) -> Result<End, NoMemory> {
+        let plan = self.plan_store(alloc, now, head, blob)?;
+        self.change(now, plan)
+    }
+
+    fn count(
+        &mut self,
+        alloc: Global,
+        now: Moment,
+        way: Way,
+        key: &Key,
+        by: u64,
+    ) -> Result<End, NoMemory> {
+        let plan = self.plan_count(alloc, now, way, key, by)?;
+        self.change(now, plan)
+    }
+
+    fn look(
+        &mut self,
+        alloc: Global,
+        now: Moment,
+        keys: &[Key],
+        due: Option<Due>,
+    ) -> Result<(Hits, Hits), NoMemory> {
+        let moment = self.live.moment.later(now);
+        let first = self.live.look_up(alloc, keys, moment, due)?;
+        let second = first.copy(alloc)?;
+        self.live.areas.make_room()?;
+        self.live.advance(now);
+        self.live.look_all(keys, due);
+        Ok((first, second))
+    }
+
+    fn touch(&mut self, now: Moment, key: &Key, due: Due) -> Result<End, NoMemory> {
+        self.live.areas.make_room()?;
+        self.live.advance(now);
+        if self.live.look(key.as_bytes(), Some(due)) {
+            Ok(End::Touched)
+        } else {
+            Ok(End::NotFound)
+        }
+    }
+
+    fn delete(&mut self, now: Moment, key: &Key) -> End {
+        self.live.advance(now);
+        match self.live.areas.take(key.as_bytes()) {
+            Some(_) => End::Deleted,
+            None => End::NotFound,
+        }
+    }
+
+    fn flush(&mut self, now: Moment, delay: u32) {
+        self.live.advance(now);
+        self.live.flush(delay);
+    }
+
+    fn due(&self, now: Moment, exptime: i64) -> Due {
+        due(exptime, self.live.moment.later(now))
+    }
+
+    fn stats(
+        &mut self,
+        alloc: Global,
+        now: Moment,
+    ) -> Result<(Statistics, Statistics), NoMemory> {
         let mut first = Statistics::new(alloc, self.counters)?;
         let mut second = Statistics::new(alloc, self.counters)?;
         self.advance(now);
@@ -312,11 +264,28 @@ impl Plain {
         Ok((first, second))
     }
 
-    /// Counts a command that came to this outcome.
-    pub(crate) fn note(&mut self, command: &Command, outcome: &Outcome)
-        ensures { self.new
-            ≡ record self.old { counters = noted command.now outcome.now self.old.counters } }
-    {
+    fn note(&mut self, command: &Command, outcome: &Outcome) {
         self.counters.note(command, outcome);
+    }
+}
+
+impl Cache for Plain {
+    ghost settled = { λ p. p };
+
+    fn act(
+        &mut self,
+        alloc: Global,
+        now: Moment,
+        command: &Command,
+    ) -> Result<(Outcome, Outcome), NoMemory> {
+        act(self, alloc, now, command)
+    }
+
+    fn maintain(&mut self, now: Moment, _limit: u32) {
+        self.advance(now);
+    }
+
+    fn freeze(&self, alloc: Global) -> Result<Plain, NoMemory> {
+        self.copy(alloc)
     }
 }

@@ -9,7 +9,7 @@ use Rattle.tc_plain.proofs.Stays.{sound_advance}
 use Rattle.tc_plain.proofs.Planning.{weighs_little}
 use Rattle.tc_partition.specs.LiveSlots.{live_of}
 use Rattle.tc_partition.specs.SlotCaches.{cache_of}
-use Rattle.tc_partition.proofs.slot_cache.SlotCache.touch.Goals as goal
+use Rattle.tc_partition.proofs.slot_cache.SlotCacheCommands.touch.Goals as goal
 
 pub look-requires-clause-sound : goal.look-requires-clause-sound
 look-requires-clause-sound c =

@@ -3,7 +3,7 @@ use Rattle.tc_grammar.specs.declared.command.Command.TheVariants.{Flush}
 use Rattle.tc_plain.specs.UserCache.{UserCache, advance}
 use Rattle.tc_plain.specs.AreaLists.{live_of}
 use Rattle.tc_plain.proofs.Stays.{sound_advance, sound_done}
-use Rattle.tc_plain.proofs.plain.Plain.flush.Goals as goal
+use Rattle.tc_plain.proofs.plain.PlainCommands.flush.Goals as goal
 
 pub invariant_of-self : goal.invariant_of-self
 invariant_of-self c =

@@ -5,7 +5,7 @@ use Rattle.tc_plain.specs.UserCache.{advance}
 use Rattle.tc_plain.specs.Doing.{with_live}
 use Rattle.tc_plain.proofs.Planning.{deleted_leaves}
 use Rattle.tc_partition.specs.SlotCaches.{cache_of}
-use Rattle.tc_partition.proofs.slot_cache.SlotCache.delete.Goals as goal
+use Rattle.tc_partition.proofs.slot_cache.SlotCacheCommands.delete.Goals as goal
 
 pub returns-then-remove-clause-state : goal.returns-then-remove-clause-state
 returns-then-remove-clause-state c =

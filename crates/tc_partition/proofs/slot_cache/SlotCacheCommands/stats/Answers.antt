@@ -5,7 +5,7 @@ use Rattle.tc_plain.specs.UserCache.{UserCache, advance}
 use Rattle.tc_plain.proofs.Stays.{sound_advance}
 use Rattle.tc_plain.proofs.Planning.{weighs_little}
 use Rattle.tc_partition.specs.SlotCaches.{cache_of}
-use Rattle.tc_partition.proofs.slot_cache.SlotCache.stats.Goals as goal
+use Rattle.tc_partition.proofs.slot_cache.SlotCacheCommands.stats.Goals as goal
 
 pub numbers-numbers-requires : goal.numbers-numbers-requires
 numbers-numbers-requires c =

@@ -6,7 +6,7 @@ use Rattle.tc_plain.specs.AreaLists.{live_of, change_of}
 use Rattle.tc_plain.specs.Soundness.{IsSound}
 use Rattle.tc_plain.proofs.Asked.{change_light}
 use Rattle.tc_plain.proofs.Stays.{sound_advance, sound_looked, sound_with}
-use Rattle.tc_plain.proofs.plain.Plain.look.Goals as goal
+use Rattle.tc_plain.proofs.plain.PlainCommands.look.Goals as goal
 
 pub look_all-requires-clause-sound : goal.look_all-requires-clause-sound
 look_all-requires-clause-sound c =

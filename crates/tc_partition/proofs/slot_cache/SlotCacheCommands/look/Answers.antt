@@ -7,7 +7,7 @@ use Rattle.tc_partition.specs.LiveSlots.{live_of}
 use Rattle.tc_partition.specs.WaitingSlots.{AreSought}
 use Rattle.tc_partition.specs.SlotCaches.{cache_of}
 use Rattle.tc_partition.proofs.Limited.{both_small}
-use Rattle.tc_partition.proofs.slot_cache.SlotCache.look.Goals as goal
+use Rattle.tc_partition.proofs.slot_cache.SlotCacheCommands.look.Goals as goal
 
 pub seek_hits-requires : goal.seek_hits-requires
 seek_hits-requires c = c.requires.areas

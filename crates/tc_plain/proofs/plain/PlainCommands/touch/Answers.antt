@@ -8,7 +8,7 @@ use Rattle.tc_plain.specs.AreaLists.{live_of, areas_of}
 use Rattle.tc_plain.specs.Soundness.{IsSound}
 use Rattle.tc_plain.proofs.Stays.{sound_advance, sound_touched}
 use Rattle.tc_plain.proofs.Planning.{weighs_little, touched_leaves}
-use Rattle.tc_plain.proofs.plain.Plain.touch.Goals as goal
+use Rattle.tc_plain.proofs.plain.PlainCommands.touch.Goals as goal
 
 pub look-requires-clause-weight : goal.look-requires-clause-weight
 look-requires-clause-weight c =

@@ -8,7 +8,7 @@ use Rattle.tc_plain.specs.Soundness.{IsSound}
 use Rattle.tc_plain.proofs.Sound.{sound_kept}
 use Rattle.tc_plain.proofs.Stays.{sound_advance, sound_with}
 use Rattle.tc_plain.proofs.Planning.{deleted_leaves}
-use Rattle.tc_plain.proofs.plain.Plain.delete.Goals as goal
+use Rattle.tc_plain.proofs.plain.PlainCommands.delete.Goals as goal
 
 pub invariant_of-self : goal.invariant_of-self
 invariant_of-self c =
