@@ -62,9 +62,6 @@ module _ (rows : List UserSpec) (clock c : ℕ) (caches : List UserCache) (es : 
   nothing : numbered c (map numbered_of es) ≡ None
   nothing = numbered-sessions c es ∙ ap (option_map connection_of) none
 
-  pub opened-caches : caches ≡ (effect server_machine rows clock caches Open (numbered c (map numbered_of es))).caches
-  opened-caches = sym (ap (λ o. (effect server_machine rows clock caches Open o).caches) nothing)
-
   pub opened-connections : (s : SessionView) (later : List (ℕ × SessionView)) → later ≡ insert_entry nat_cmp es c s
       → s.endpoint ≡ new_endpoint text_protocol → s.out ≡ []
       → map numbered_of later ≡ with_some c

@@ -246,10 +246,6 @@ lacking_more limit u v n h lt =
     rw (in_more, take-append-le n u v (omega arith))
     (lacking_line (n + 1) (drop (n + 1) (u ++ v)) _ (omega (arith, lt, length-drop (n + 1) (u ++ v), length-append u v)))
 
--- where a line ends among its first bytes
-pub end_short : (u : List ℕ) (n : ℕ) → line_length (take line_room u) ≡ Some n → n ≤ 65536
-end_short u n e = let lt = (line_front line_room u n e).0 in omega (arith, lt, line_room-is)
-
 -- the end of a line among some first bytes is one of all
 pub end_within : (u : List ℕ) (seen : ℕ) (o : Option ℕ) → line_length (take seen u) ≡ o → IfSome o (λ n. n < length u)
 end_within u seen None e = tt
@@ -294,26 +290,6 @@ awaited_line limit u n needed e same bounded = record {
   bounded = bounded;
 }
 
--- with fewer bytes than are needed there is no whole request
-pub lacking_now : (limit needed : ℕ) (u : List ℕ) → IsAwaited limit needed u → length u < needed → first limit u ≡ None
-lacking_now limit needed u h lt =
-    subst (λ v. first limit v ≡ None) (append-nil u) (h.lacking [] (omega (arith, length-append u [])))
-
--- bytes without a line feed, fewer than a longest line has, need one more
-pub awaited_none : (limit : ℕ) (u : List ℕ) → line_length (take line_room u) ≡ None → length u ≤ 65536
-    → IsAwaited limit (length u + 1) u
-awaited_none limit u none short = record {
-  lacking = λ later lt. go later lt;
-  bounded = omega arith;
-}
-  where
-    here : first limit u ≡ None
-    here = let long : nat_lt 65536 (length u) ≡ false = le-ltb _ _ short in rw (none, long) refl
-
-    go : (later : List ℕ) → length (u ++ later) < length u + 1 → first limit (u ++ later) ≡ None
-    go [] lt = subst (λ v. first limit v ≡ None) (sym (append-nil u)) here
-    go (x ∷ later) lt = absurd (omega (arith, lt, length-append u (x ∷ later)))
-
 -- a line's end is a line feed
 at_line : (xs : List ℕ) (n : ℕ) → line_length xs ≡ Some n → get_or xs n 0 ≡ 10
 at_line [] n e = absurd (grind arith)
@@ -340,10 +316,3 @@ remembered_line u n needed said e same none =
     let lt = line_front line_room u n e in
     let more = needed_more (n + 1) (drop (n + 1) u) said none in
     inr (inr (omega (arith, same, more), lt.1, sym (get_take line_room u n lt.0) ∙ at_line (take line_room u) n e))
-
--- what is remembered stays so, whatever comes
-pub remembered_more : (needed scanned : ℕ) (u v : List ℕ) → IsRemembered needed scanned u → IsRemembered needed scanned (u ++ v)
-remembered_more needed scanned u v (inl h) = inl h
-remembered_more needed scanned u v (inr (inl h)) = inr (inl h)
-remembered_more needed scanned u v (inr (inr h)) =
-    inr (inr (h.0, omega (arith, h.1, length-append u v), get_append u v scanned h.1 ∙ h.2))

@@ -201,17 +201,3 @@ tally_is terms k s now conn c p ys lt h tied =
     let more = ap length (by_same_seat s k.log n refl) ∙ length-append (by_seat s k.log) (n ∷ []) in
     let count = kept_count terms k s lt h in
     let all = ap length tied in omega arith
-
-pub kept_fresh : (terms : Terms) (begins : UserCache) (user : ℕ) → user_at terms.begins user ≡ Some begins → IsEmptyCache begins
-    → IsKept terms (record { user = user; book = fresh_book begins terms.seats; log = [] })
-kept_fresh terms begins user at empty = record {
-  begins = begins;
-  begins_at = at;
-  empty = empty;
-  counts = length-replicate {A = ℕ} terms.seats 0;
-  whole = stands_fresh begins terms.seats empty;
-  older = [];
-  page = refl;
-  turned = refl;
-  room = omega arith;
-}

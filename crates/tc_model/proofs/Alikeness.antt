@@ -43,10 +43,6 @@ pub record AreAlike (M : Machine) (u clock : ℕ) (a b : Effect M) : Type 0 wher
   pub caches : Agrees M u clock a.caches b.caches
   pub connection : b.connection ≡ option_map (solo_connection M) a.connection
 
-pub are_alike : (M : Machine) (u clock : ℕ) (a b : Effect M) → Agrees M u clock a.caches b.caches
-    → b.connection ≡ option_map (solo_connection M) a.connection → AreAlike M u clock a b
-are_alike M u clock a b h e = record { caches = h; connection = e }
-
 pub bound_turn-alike : (M : Machine) → IsLawful M.cache → (u clock : ℕ) (caches alone : List M.cache.State)
     → Agrees M u clock caches alone → (out : List ℕ) (r : M.protocol.Reader) (w : Wants M.Command)
     → AreAlike M u clock (turn_effect M clock caches out (bound_turn M.protocol u r w))

@@ -153,13 +153,6 @@ are_linked next prev m b xs (ys ∷ yss) h =
     let both = linked_split next prev m b (suc m) xs (ys ++ marked (suc (suc m)) yss) h in
     (both.0, are_linked next prev (suc m) b ys yss both.1)
 
-pub walks-again : (next prev : List ℕ) (m b : ℕ) (lists : List (List ℕ)) → AreLinked next prev m lists b
-    → walks m next (map (λ xs. length xs) lists) ≡ lists
-walks-again next prev m b [] h = refl
-walks-again next prev m b (xs ∷ []) h = ap (λ t. t ∷ []) (linked_walk next prev m b xs h)
-walks-again next prev m b (xs ∷ ys ∷ yss) h =
-    rw (linked_walk next prev m (suc m) xs h.0) (ap (λ t. xs ∷ t) (walks-again next prev (suc m) b (ys ∷ yss) h.1))
-
 pub each_distinct : (m : ℕ) (lists : List (List ℕ)) → AreDistinct (marked m lists) → EachDistinct lists
 each_distinct m [] h = tt
 each_distinct m (xs ∷ xss) h = (front xs (marked (suc m) xss) h.1, each_distinct (suc m) xss (back xs (marked (suc m) xss) h.1))

@@ -73,16 +73,6 @@ module _ {A B : Type 0} where
   sum_by-map f w (x ∷ xs) =
       sum_by-cons (λ x. w (f x)) x xs ∙ ap (λ t. w (f x) + t) (sum_by-map f w xs) ∙ sym (sum_by-cons w (f x) (map f xs))
 
-  pub is_in-map : (f : A → B) (p : B → Bool) (xs : List A) → is_in (λ x. p (f x)) xs ≡ is_in p (map f xs)
-  is_in-map f p [] = refl
-  is_in-map f p (x ∷ xs) = ap (λ b. p (f x) || b) (is_in-map f p xs)
-
-  pub map-without : (f : A → B) (p : B → Bool) (xs : List A) → map f (without (λ x. p (f x)) xs) ≡ without p (map f xs)
-  map-without f p [] = refl
-  map-without f p (x ∷ xs) =
-      map-cond f (not (p (f x))) (x ∷ without (λ x. p (f x)) xs) (without (λ x. p (f x)) xs)
-      ∙ ap (λ t. cond (not (p (f x))) (f x ∷ t) t) (map-without f p xs)
-
   pub list_all-map : (f : A → B) (p : B → Bool) (xs : List A) → list_all (λ x. p (f x)) xs ≡ list_all p (map f xs)
   list_all-map f p [] = refl
   list_all-map f p (x ∷ xs) = ap (λ b. p (f x) && b) (list_all-map f p xs)
@@ -94,37 +84,6 @@ module _ {A B : Type 0} where
       (map-append f (beyond (λ x. w (f x)) l.protected a.protected) a.probation
       ∙ ap (λ t. t ++ map f a.probation) (map-beyond f w l.protected a.protected))
       (map-fitting f w l.protected a.protected)
-
-  pub map-raised : (f : A → B) (p : B → Bool) (x : A) (a : Areas A)
-      → map_areas f (raised (λ y. p (f y)) x a) ≡ raised p (f x) (map_areas f a)
-  map-raised f p x a =
-      ap
-      (λ b. map_areas f (cond b
-      (areas_by (x ∷ without (λ y. p (f y)) a.window) (without (λ y. p (f y)) a.probation)
-      (without (λ y. p (f y)) a.protected))
-      (areas_by (without (λ y. p (f y)) a.window) (without (λ y. p (f y)) a.probation)
-      (x ∷ without (λ y. p (f y)) a.protected))))
-      (is_in-map f p a.window)
-      ∙ go (is_in p (map f a.window))
-    where
-      go : (b : Bool)
-          → map_areas f (cond b
-          (areas_by (x ∷ without (λ y. p (f y)) a.window) (without (λ y. p (f y)) a.probation)
-          (without (λ y. p (f y)) a.protected))
-          (areas_by (without (λ y. p (f y)) a.window) (without (λ y. p (f y)) a.probation)
-          (x ∷ without (λ y. p (f y)) a.protected)))
-          ≡ cond b (areas_by (f x ∷ without p (map f a.window)) (without p (map f a.probation)) (without p (map f a.protected)))
-          (areas_by (without p (map f a.window)) (without p (map f a.probation)) (f x ∷ without p (map f a.protected)))
-      go true =
-          same3 _ _ _ _ _ _ (ap (λ t. f x ∷ t) (map-without f p a.window)) (map-without f p a.probation)
-          (map-without f p a.protected)
-      go false =
-          same3 _ _ _ _ _ _ (map-without f p a.window) (map-without f p a.probation)
-          (ap (λ t. f x ∷ t) (map-without f p a.protected))
-
-  pub map-accessed : (f : A → B) (w : B → ℕ) (l : Limits) (p : B → Bool) (x : A) (a : Areas A)
-      → map_areas f (accessed (λ y. w (f y)) l (λ y. p (f y)) x a) ≡ accessed w l p (f x) (map_areas f a)
-  map-accessed f w l p x a = map-demoted f w l (raised (λ y. p (f y)) x a) ∙ ap (λ z. demoted w l z) (map-raised f p x a)
 
   pub map-without_last : (f : A → B) (n : ℕ) (a : Areas A) → map_areas f (without_last n a) ≡ without_last n (map_areas f a)
   map-without_last f n a = same3 _ _ _ _ _ _ refl
@@ -166,9 +125,6 @@ module _ {A B : Type 0} where
       (map-shortest f w (main_weight (λ x. w (f x)) a - l.main) (from_tail a)
       ∙ ap (λ t. shortest w (t - l.main) (map f (from_tail a))) (main_weight-map f w a)
       ∙ ap (λ t. shortest w (main_weight w (map_areas f a) - l.main) t) (map-from_tail f a))
-
-  map-entered : (f : A → B) (c : A) (a : Areas A) → map_areas f (entered c a) ≡ entered (f c) (map_areas f a)
-  map-entered f c a = refl
 
   pub map-admitted : (f : A → B) (freq : B → ℕ) (c : A) (a : Areas A) (vs : List A)
       → map_settled f (admitted (λ x. freq (f x)) c a vs) ≡ admitted freq (f c) (map_areas f a) (map f vs)

@@ -37,7 +37,3 @@ user_at-other xs zero zero x ne = refl
 user_at-other xs zero (suc j) x ne = refl
 user_at-other xs (suc i) zero x ne = refl
 user_at-other xs (suc i) (suc j) x ne = slice_get-slice_set_other xs i j x (λ e. ne (ap suc e))
-
-pub cond_id : {A : Type 0} (b : Bool) (x : A) → cond b x x ≡ x
-cond_id true x = refl
-cond_id false x = refl

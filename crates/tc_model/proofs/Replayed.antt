@@ -58,11 +58,6 @@ joined : (M : Machine) (clock : ℕ) (k : M.cache.State) (caches : List M.cache.
 joined M clock k caches es later none h = h k refl
 joined M clock k caches es later (one command) h = (omega arith, refl, h (M.cache.act k clock command).1 refl)
 
-one_left : (M : Machine) (clock : ℕ) (k : M.cache.State) (caches : List M.cache.State) (es : List (Event M.Command M.Outcome))
-    → Calls M clock k caches es → (j : M.cache.State) × (caches ≡ j ∷ [])
-one_left M clock k caches es none = (k, refl)
-one_left M clock k caches es (one command) = ((M.cache.act k clock command).1, refl)
-
 replayed_from : (M : Machine) (rows : List M.protocol.Row) (k : M.cache.State) (xs : List Step) (w : World M) → IsUnmaintained xs
     → w.caches ≡ k ∷ [] → Replays M.cache w.clock k (course_from M rows w xs).history
 replayed_from M rows k [] w plain e = tt

@@ -18,17 +18,6 @@ and_parts true b h = (refl, h)
 and_parts false b h = absurd (cc)
 
 module _ {A : Type 0} where
-  -- rule 1: the last of protected goes to the front of probation
-  pub settle_demotes : (weigh freq : A → ℕ) (l : Limits) (w p q : List A) (y : A) → l.protected < sum_by weigh (q ++ y ∷ [])
-      → settle weigh freq l (areas_by w p (q ++ y ∷ [])) ≡ settle weigh freq l (areas_by w (y ∷ p) q)
-  settle_demotes weigh freq l w p q y h =
-      let same : demoted weigh l (areas_by w p (q ++ y ∷ [])) ≡ demoted weigh l (areas_by w (y ∷ p) q) =
-      ap (λ t. areas_by w (t ++ p) (fitting weigh l.protected (q ++ y ∷ []))) (beyond_last weigh l.protected q y h)
-      ∙ ap (λ t. areas_by w t (fitting weigh l.protected (q ++ y ∷ []))) (append_assoc (beyond weigh l.protected q) (y ∷ []) p)
-      ∙ ap (λ t. areas_by w (beyond weigh l.protected q ++ y ∷ p) t) (fitting_last weigh l.protected q y h) in
-      ap (λ z. let s = trimmed weigh l z in
-      and_then s.dropped
-      (all_admitted weigh freq l (narrowed (fitting weigh l.window w) s.areas) (reverse (beyond weigh l.window w)))) same
 
   pub beyond_none : (w : A → ℕ) (room : ℕ) (xs : List A) → sum_by w xs ≤ room → beyond w room xs ≡ []
   beyond_none w room [] h = refl
@@ -180,21 +169,6 @@ module _ {A : Type 0} where
       (beyond_last weigh l.window w c x)
       ∙ ap (λ t. all_admitted weigh freq l (areas_by (fitting weigh l.window w) p q) t)
       (reverse_last (beyond weigh l.window w) [] c)
-
-  -- rule 3, where main has room: the last of the window enters
-  pub settle_enters : (weigh freq : A → ℕ) (l : Limits) (w p q : List A) (c : A) → sum_by weigh q ≤ l.protected
-      → main_weight weigh (areas_by w p q) + weigh c ≤ l.main → l.window < sum_by weigh (w ++ c ∷ [])
-      → settle weigh freq l (areas_by (w ++ c ∷ []) p q) ≡ settle weigh freq l (areas_by w (c ∷ p) q)
-  settle_enters weigh freq l w p q c h m x =
-      let window : List A = fitting weigh l.window w in
-      let none : main_weight weigh (areas_by window p q) + weigh c - l.main ≡ 0 = omega arith in
-      let no : victims weigh l (areas_by window p q) c ≡ [] =
-      ap (λ n. shortest weigh n (from_tail (areas_by window p q))) none
-      ∙ none_shortest weigh (from_tail (areas_by window p q)) in
-      settle_main weigh freq l (areas_by (w ++ c ∷ []) p q) h (omega arith) ∙ candidate weigh freq l w p q c x
-      ∙ ap (λ vs. first_of weigh freq l w c (admitted freq c (areas_by window p q) vs)) no
-      ∙ ap (λ z. all_admitted weigh freq l (entered c z) (reverse (beyond weigh l.window w))) (without_none (areas_by window p q))
-      ∙ sym (settle_main weigh freq l (areas_by w (c ∷ p) q) h (omega (arith, sum_by-cons weigh c p)))
 
   -- rule 3, where it is refused
   pub settle_refuses : (weigh freq : A → ℕ) (l : Limits) (w p q : List A) (c : A) → sum_by weigh q ≤ l.protected

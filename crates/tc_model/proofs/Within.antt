@@ -23,19 +23,6 @@ sum-fitting {A} weigh room (x ∷ xs) = go (nat_lt room (weigh x)) refl (sum-fit
         let le : weigh x ≤ room = ltb-false room (weigh x) e in
         omega (arith, sum_by-cons weigh x (fitting weigh (room - weigh x) xs))
 
-sum-parts : {A : Type 0} (weigh : A → ℕ) (room : ℕ) (xs : List A)
-    → sum_by weigh (fitting weigh room xs) + sum_by weigh (beyond weigh room xs) ≡ sum_by weigh xs
-sum-parts weigh room [] = refl
-sum-parts {A} weigh room (x ∷ xs) = go (nat_lt room (weigh x)) (sum-parts weigh (room - weigh x) xs)
-  where
-    go : (b : Bool)
-        → sum_by weigh (fitting weigh (room - weigh x) xs) + sum_by weigh (beyond weigh (room - weigh x) xs) ≡ sum_by weigh xs
-        → sum_by weigh (cond b [] (x ∷ fitting weigh (room - weigh x) xs))
-        + sum_by weigh (cond b (x ∷ xs) (beyond weigh (room - weigh x) xs))
-        ≡ sum_by weigh (x ∷ xs)
-    go true h = omega arith
-    go false h = omega (arith, sum_by-cons weigh x (fitting weigh (room - weigh x) xs), sum_by-cons weigh x xs)
-
 sum-shortest : {A : Type 0} (weigh : A → ℕ) (need : ℕ) (xs : List A) → need ≤ sum_by weigh xs
     → need ≤ sum_by weigh (shortest weigh need xs)
 sum-shortest weigh need [] h = h

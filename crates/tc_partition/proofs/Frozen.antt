@@ -86,13 +86,6 @@ settled_sound k f sound h e =
     ∙ ap (λ (z : EvictionState). z.limits) e in
     sound_with k (settled f) sound limits (subst (λ (t : Limits). AreSound t (settled f).areas) limits there)
 
-pub room_less : (a : AreaLists) → HasRoom 1 a → HasRoom 0 a
-room_less a h = record {
-  window_room = omega (arith, h.window_room);
-  probation_room = omega (arith, h.probation_room);
-  protected_room = omega (arith, h.protected_room);
-}
-
 -- what a copy comes to once all that waits is done to it
 pub frozen_sound : (k : UserCache) (l j : EvictionState) (slots : List (Option Entry)) (rs : List (Noted × ℕ)) (m : ℕ) → IsSound k
     → IsLazy (lazy_over k.live slots rs m) → l ≡ k.live → j ≡ settled (lazy_over l slots rs m) → IsSound (with_live k j)

@@ -134,10 +134,6 @@ module _ {St : Type 0} (i : IndexMap (List ℕ) Slot St) (s : Slab Entry) (l : S
           not_held v.0 l.areas
           (none_at (index_get bytes_eq i) (slab_get s) (due_at w.dues) l.areas h e v taken.vacant (index_free e.key free))
 
-      pub fill_untimed : due_at w.dues v.0 ≡ None
-      fill_untimed =
-          untimed (index_get bytes_eq i) (slab_get s) (due_at w.dues) l.areas h e v taken.vacant (index_free e.key free)
-
       pub slots_filled : (m : SlotLists) (x : Dues) (n : ℕ) → n ≡ weight e → m ≡ pushed v.0 n l
           → ((k : ℕ) → due_at x.dues k ≡ set_at v.0 (due_by e.item.due) (due_at w.dues) k)
           → Agree (index_get bytes_eq j) (slab_get t) (due_at x.dues) m.areas
@@ -239,9 +235,6 @@ within_vacated n v S T f h = λ k g. go k (k == v) (sym (ap is_some (f k)) ∙ g
     go : (k : ℕ) (b : Bool) → is_some (cond b None (S k)) ≡ true → k < n
     go k true g = absurd (cc)
     go k false g = h k g
-
-pub within_more : (n m : ℕ) (S : ℕ → Option Entry) → n ≤ m → AreWithin n S → AreWithin m S
-within_more n m S l h = λ k g. let below : k < n = h k g in omega (arith, below, l)
 
 pub long_cleared : (w x : Dues) (v : ℕ) → x ≡ untimed_at v w → length x.dues ≡ length w.dues
 long_cleared w x v ex = ap (λ (z : Dues). length z.dues) ex ∙ length-set w.dues v None

@@ -91,31 +91,6 @@ module _ (s : Sketch) (level need rest : ℕ) (xs ys : List Entry) (a : Areas En
       → r ≡ list_all (IsBelow (frequency_in s c)) (shortest weight need (from_tail a))
   outranks_first r no_more h = no_more ∙ of_all false (sym no_more ∙ h)
 
--- a search from the end of a list goes on
-front_more : (p : Entry → Bool) (need left : ℕ) (items : List Entry) (x : Entry) → left < length items → x ≡ get_or items left x
-    → 0 < need
-    → shortest weight need (reverse (take (left + 1) items)) ≡ x ∷ shortest weight (need - weight x) (reverse (take left items))
-front_more p need left items x lt at pos =
-    ap (λ t. shortest weight need (reverse t)) (take_more items left x lt)
-    ∙ ap (λ y. shortest weight need (reverse (take left items ++ y ∷ []))) (sym at)
-    ∙ ap (shortest weight need) (reverse-push (take left items) [] x)
-    ∙ shortest_more weight need x (reverse (take left items)) pos
-
-pub outranked_past : (p : Entry → Bool) (need left : ℕ) (items : List Entry) (x : Entry) → left < length items
-    → x ≡ get_or items left x → 0 < need → p x ≡ true
-    → list_all p (shortest weight (need - weight x) (reverse (take left items)))
-    ≡ list_all p (shortest weight need (reverse (take (left + 1) items)))
-outranked_past p need left items x lt at pos t =
-    sym (ap (list_all p) (front_more p need left items x lt at pos)
-    ∙ ap (λ b. b && list_all p (shortest weight (need - weight x) (reverse (take left items)))) t)
-
-pub outranked_stops : (p : Entry → Bool) (need left : ℕ) (items : List Entry) (x : Entry) → left < length items
-    → x ≡ get_or items left x → 0 < need → p x ≡ false
-    → false ≡ list_all p (shortest weight need (reverse (take (left + 1) items)))
-outranked_stops p need left items x lt at pos t =
-    sym (ap (list_all p) (front_more p need left items x lt at pos)
-    ∙ ap (λ b. b && list_all p (shortest weight (need - weight x) (reverse (take left items)))) t)
-
 -- the search has come to the list's beginning, or needs no more
 pub outranked_ends : (p : Entry → Bool) (need left : ℕ) (items : List Entry) → ((left ≡ 0) ⊎ (need ≡ 0))
     → true ≡ list_all p (shortest weight need (reverse (take left items)))

@@ -29,11 +29,6 @@ peeked : (o : Option (Bor Entry)) (h : Option Entry) → MatchOption o (h ≡ No
 peeked None h p = sym (ap (option_map (λ e. e.item)) p)
 peeked (Some x) h p = sym (ap (option_map (λ e. e.item)) p)
 
--- what is held at the later of two moments
-pub held_now : (k : UserCache) (now m : ℕ) (key : List ℕ) (h : Option Entry) → m ≡ max k.live.moment now
-    → held key (at_moment m k.live).areas ≡ h → held key (advance k now).live.areas ≡ h
-held_now k now m key h e p = ap (λ n. held key (at_moment n k.live).areas) (sym e) ∙ p
-
 -- what a storage line offers is stored
 pub stored_by : (k : UserCache) (now m : ℕ) (head : Head) (blob key : List ℕ) (bid : Bid) (o : Option (Bor Entry))
     → m ≡ max k.live.moment now → key ≡ head.key

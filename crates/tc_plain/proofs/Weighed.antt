@@ -34,13 +34,6 @@ pub record SameRoom (a b : AreaLists) : Type 0 where
   pub probation : vec_capacity b.probation ≡ vec_capacity a.probation
   pub protected : vec_capacity b.protected ≡ vec_capacity a.protected
 
-pub room_same : (a b : AreaLists) (spare : ℕ) → SameRoom a b → HasRoom spare a → HasRoom spare b
-room_same a b spare s h = record {
-  window_room = omega (arith, s.count, s.window, h.window_room);
-  probation_room = omega (arith, s.count, s.probation, h.probation_room);
-  protected_room = omega (arith, s.count, s.protected, h.protected_room);
-}
-
 -- lists on the way to hold protected to its limit
 pub record IsHolding (most : ℕ) (a b : AreaLists) : Type 0 where
   pub areas : (limits : Limits) → limits.protected ≡ most

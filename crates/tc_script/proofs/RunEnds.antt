@@ -12,14 +12,6 @@ use Rattle.tc_script.specs.Refusing.{IsFaultOf}
 use Rattle.tc_script.specs.Answering.{ended_of, IsPrintOf, IsWrittenTo, IsBegun, Unread, Unwritten, IsUnread, IsEndOf}
 use Rattle.tc_script.specs.Answering.{IsUnwritten}
 
-pub Keeps-same : (held : Option (List ℕ)) → Keeps held held
-Keeps-same None = tt
-Keeps-same (Some xs) = refl
-
-pub Appends-nothing : (held : Option (List ℕ)) → Appends held held []
-Appends-nothing None = tt
-Appends-nothing (Some xs) = sym (append-nil xs)
-
 Appends-both : (old mid new : Option (List ℕ)) (xs ys : List ℕ) → Appends old mid xs → Appends mid new ys
     → Appends old new (xs ++ ys)
 Appends-both None mid new xs ys a b = tt
@@ -32,10 +24,6 @@ Appends-kept None mid new xs a k = tt
 Appends-kept (Some held) None new xs a k = absurd a
 Appends-kept (Some held) (Some more) None xs a k = absurd k
 Appends-kept (Some held) (Some more) (Some all) xs a k = k ∙ a
-
--- nothing is written yet
-pub unbegun : (bytes : List ℕ) (held : Option (List ℕ)) → IsWrittenTo bytes bytes held held
-unbegun bytes held = record { front = []; whole = refl; written = Appends-nothing held }
 
 -- what comes behind a front makes a longer front
 pub written_to-more : (bytes rest : List ℕ) (n : ℕ) (old mid new : Option (List ℕ)) → IsWrittenTo bytes rest old mid
@@ -56,54 +44,11 @@ written_to-kept bytes rest old mid new b k = record {
   written = Appends-kept old mid new b.front b.written k;
 }
 
--- nothing is left to write
-pub written_to-end : (bytes rest : List ℕ) (old new : Option (List ℕ)) → IsWrittenTo bytes rest old new → rest ≡ []
-    → Appends old new bytes
-written_to-end bytes rest old new b e =
-    subst (Appends old new) (sym (b.whole ∙ (ap (λ xs. b.front ++ xs) e ∙ append-nil b.front))) b.written
-
--- a front was written
-pub written_to-begun : (bytes rest : List ℕ) (old new : Option (List ℕ)) → IsWrittenTo bytes rest old new → IsBegun bytes old new
-written_to-begun bytes rest old new b = record { rest = rest; written = b }
-
-by_fault : (text : List ℕ) (held : Option (List ℕ)) (fault : ScriptFault) → IsFaultOf (reading_of text) fault
-    → IsEndOf text held held (ended_of fault)
-by_fault text held (BadLineFault n) e = (e, Keeps-same held)
-by_fault text held NoMemoryFault e = Keeps-same held
-
--- the text is no script
-pub ended-by_fault : (known : Option (List ℕ)) (text : List ℕ) (held : Option (List ℕ)) (fault : ScriptFault) (ended : Ended)
-    → IfSome known (λ xs. text ≡ xs)
-    → IsFaultOf (reading_of text) fault → ended ≡ ended_of fault → IfSome known (λ xs. IsEndOf xs held held ended)
-ended-by_fault None text held fault ended same e f = tt
-ended-by_fault (Some xs) text held fault ended same e f = rw f (by_fault xs held fault (rw same at e))
-
--- the text was not read to its end
-pub ended-unread : (known : Option (List ℕ)) (held : Option (List ℕ)) (ended : Ended) → IsUnread ended
-    → IfSome known (λ xs. IsEndOf xs held held ended)
-ended-unread None held ended e = tt
-ended-unread (Some xs) held Done e = absurd e
-ended-unread (Some xs) held (BadLine n) e = absurd e
-ended-unread (Some xs) held NoMemory e = Keeps-same held
-ended-unread (Some xs) held Stream e = Unread (Keeps-same held)
-
 print_of-same : (text xs print : List ℕ) → text ≡ xs → IsPrintOf text print → IsPrintOf xs print
 print_of-same text xs print same p = subst (λ (t : List ℕ). IsPrintOf t print) same p
-
--- all was done
-pub ended-done : (known : Option (List ℕ)) (text print : List ℕ) (old new : Option (List ℕ)) → IfSome known (λ xs. text ≡ xs)
-    → IsPrintOf text print → Appends old new print → IfSome known (λ xs. IsEndOf xs old new Done)
-ended-done None text print old new same p a = tt
-ended-done (Some xs) text print old new same p a = record { print = print; is = print_of-same text xs print same p; written = a }
 
 -- writing failed
 pub ended-stream : (known : Option (List ℕ)) (text print : List ℕ) (old new : Option (List ℕ)) → IfSome known (λ xs. text ≡ xs)
     → IsPrintOf text print → IsBegun print old new → IfSome known (λ xs. IsEndOf xs old new Stream)
 ended-stream None text print old new same p b = tt
 ended-stream (Some xs) text print old new same p b = Unwritten print (print_of-same text xs print same p) b
-
-pub unwritten-same : (held : Option (List ℕ)) (ended : Ended) → IsUnwritten held held ended
-unwritten-same held Done = tt
-unwritten-same held (BadLine n) = Keeps-same held
-unwritten-same held NoMemory = Keeps-same held
-unwritten-same held Stream = ([], Appends-nothing held)

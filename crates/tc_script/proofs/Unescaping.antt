@@ -43,10 +43,6 @@ unescaped-front (b ∷ text) h = go (b == 92)
 abbrev pub behind : List ℕ → Option (List ℕ) → Option (List ℕ)
 behind bytes text = option_map (λ bs. bytes ++ bs) text
 
-pub behind-none_read : (text : Option (List ℕ)) → behind [] text ≡ text
-behind-none_read None = refl
-behind-none_read (Some bs) = refl
-
 behind-put : (bytes : List ℕ) (b : ℕ) (text : Option (List ℕ)) → behind bytes (put b text) ≡ behind (bytes ++ b ∷ []) text
 behind-put bytes b None = refl
 behind-put bytes b (Some bs) = ap Some (sym (append_assoc bytes (b ∷ []) bs))

@@ -67,18 +67,6 @@ holding_moves limit before now after last over l e h =
     } in
     subst (λ (z : Shown). IsHolding limit before z) (sym is) done
 
-pub fewer_protected : (now after : Shown) (last : Placed) → IsLast last Protected now.areas
-    → after ≡ record now { areas = fronted_in Probation last (without_slot last.slot now.areas) }
-    → length after.areas.protected < length now.areas.protected
-fewer_protected now after last l e =
-    omega (
-      arith,
-      ap (λ (z : Shown). length z.areas.protected) e,
-      ap (λ (z : Areas Placed). length z.protected) (moved last now.areas l),
-      ap length l.list,
-      length-append l.others (last ∷ []),
-    )
-
 -- what is within its limit stays
 demoted-within : (limits : Limits) (a : Areas Placed) → sum_by weigh a.protected ≤ limits.protected → demoted weigh limits a ≡ a
 demoted-within limits a fits =

@@ -8,14 +8,6 @@ use Rattle.tc_slru.specs.InAreas.{list_in, with_list, IsLast}
 use Rattle.tc_slru.specs.declared.area.Area.{Area}
 use Rattle.tc_slru.specs.declared.area.Area.TheVariants.{Window, Probation, Protected}
 
-in-push : (slot : ℕ) (ps : List Placed) (p : Placed) → p.slot ≡ slot → is_in (is_slot slot) (ps ++ p ∷ []) ≡ true
-in-push slot [] p e = ap (λ b. b || false) (eq-eqb p.slot slot e)
-in-push slot (x ∷ xs) p e = go (is_slot slot x) (in-push slot xs p e)
-  where
-    go : (b : Bool) → is_in (is_slot slot) (xs ++ p ∷ []) ≡ true → (b || is_in (is_slot slot) (xs ++ p ∷ [])) ≡ true
-    go true h = refl
-    go false h = h
-
 or_true : (a b : Bool) → b ≡ true → (a || b) ≡ true
 or_true true b h = refl
 or_true false b h = h
@@ -24,9 +16,6 @@ held_in : (slot : ℕ) (area : Area) (a : Areas Placed) → is_in (is_slot slot)
 held_in slot Window a h = ap (λ b. b || (is_in (is_slot slot) a.probation || is_in (is_slot slot) a.protected)) h
 held_in slot Probation a h = or_true (is_in (is_slot slot) a.window) _ (ap (λ b. b || is_in (is_slot slot) a.protected) h)
 held_in slot Protected a h = or_true (is_in (is_slot slot) a.window) _ (or_true (is_in (is_slot slot) a.probation) _ h)
-
-pub last_held : (p : Placed) (area : Area) (a : Areas Placed) → IsLast p area a → holds p.slot a ≡ true
-last_held p area a l = held_in p.slot area a (ap (λ ps. is_in (is_slot p.slot) ps) l.list ∙ in-push p.slot l.others p refl)
 
 with_total : (p : Placed) (area : Area) (a : Areas Placed) (others : List Placed) → list_in area a ≡ others ++ p ∷ []
     → total weigh (with_list area others a) + p.weight ≡ total weigh a
@@ -37,7 +26,3 @@ with_total p Protected a others e = omega (arith, ap (λ ps. sum_by weigh ps) e,
 pub last_total : (p : Placed) (area : Area) (a : Areas Placed) → IsLast p area a
     → total weigh (without_slot p.slot a) + p.weight ≡ total weigh a
 last_total p area a l = omega (arith, ap (λ z. total weigh z) l.left, with_total p area a l.others l.list)
-
-pub some_weigh : (ps : List Placed) → 0 < sum_by weigh ps → 0 < length ps
-some_weigh [] h = absurd (omega arith)
-some_weigh (p ∷ ps) h = omega arith

@@ -14,14 +14,6 @@ and_assoc : (a b c : Bool) → (a && (b && c)) ≡ ((a && b) && c)
 and_assoc true b c = refl
 and_assoc false b c = refl
 
--- a text no longer than the name is none
-pub login_data-short : (name token text : List ℕ) → length text ≤ length name → bytes_eq text (login_data name token) ≡ false
-login_data-short [] token [] h = refl
-login_data-short [] token (x ∷ xs) h = absurd (omega arith)
-login_data-short (c ∷ cs) token [] h = refl
-login_data-short (c ∷ cs) token (x ∷ xs) h =
-    ap (λ b. eqb x c && b) (login_data-short cs token xs (omega arith)) ∙ and_false (eqb x c)
-
 -- nor is one with no space after the name
 pub login_data-no_space : (name token text : List ℕ) → length name < length text → get_or text (length name) 0 ≢ 32
     → bytes_eq text (login_data name token) ≡ false

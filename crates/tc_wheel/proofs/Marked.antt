@@ -82,35 +82,6 @@ pub record AreFirst (k m : ℕ) (ns : List Node) : Type 0 where
   pub prev : (n : ℕ) → n < m → slice_index (map (λ (x : Node). x.prev) ns) n ≡ (n + (k - 1)) % k
   pub dues : (n : ℕ) → due_at (map (λ (x : Node). x.due) ns) n ≡ None
 
-index_last : (xs : List ℕ) (x n : ℕ) → n ≡ length xs → slice_index (xs ++ x ∷ []) n ≡ x
-index_last xs x n e = ap (λ i. slice_index (xs ++ x ∷ []) i) e ∙ get_or-append_seam xs x [] 0
-
-none_behind : (dues : List (Option ℕ)) (n : ℕ) → ((i : ℕ) → due_at dues i ≡ None) → due_at (dues ++ None ∷ []) n ≡ None
-none_behind [] zero h = refl
-none_behind [] (suc n) h = refl
-none_behind (d ∷ dues) zero h = h 0
-none_behind (d ∷ dues) (suc n) h = none_behind dues n (λ i. h (suc i))
-
-index_pushed : (f : Node → ℕ) (g : ℕ → ℕ) (m : ℕ) (ns : List Node) (x : Node) → length ns ≡ m → f x ≡ g m
-    → ((n : ℕ) → n < m → slice_index (map f ns) n ≡ g n) → (n : ℕ) → n < m + 1 → slice_index (map f (ns ++ x ∷ [])) n ≡ g n
-index_pushed f g m ns x long e h n small = ap (λ xs. slice_index xs n) (map-append f ns (x ∷ [])) ∙ go (cases_lt n m)
-  where
-    go : (n < m) ⊎ (m ≤ n) → slice_index (map f ns ++ f x ∷ []) n ≡ g n
-    go (inl less) = index-grown (map f ns) (f x ∷ []) n (omega (arith, length-map ns f)) ∙ h n less
-    go (inr more) =
-        let same : m ≡ n = omega arith in index_last (map f ns) (f x) n (omega (arith, length-map ns f)) ∙ e ∙ ap g same
-
-pub first_pushed : (k m : ℕ) (ns all : List Node) (x : Node) → all ≡ ns ++ x ∷ [] → x.next ≡ (m + 1) % k
-    → x.prev ≡ (m + (k - 1)) % k → x.due ≡ None → AreFirst k m ns → AreFirst k (m + 1) all
-first_pushed k m ns all x e en ep ed h = subst (λ ys. AreFirst k (m + 1) ys) (sym e) (record {
-  long = omega (arith, length-append ns (x ∷ []), h.long);
-  next = index_pushed (λ (y : Node). y.next) (λ i. (i + 1) % k) m ns x h.long en h.next;
-  prev = index_pushed (λ (y : Node). y.prev) (λ i. (i + (k - 1)) % k) m ns x h.long ep h.prev;
-  dues =
-      λ n. ap (λ ds. due_at ds n) (map-append (λ (y : Node). y.due) ns (x ∷ []))
-      ∙ ap (λ d. due_at (map (λ (y : Node). y.due) ns ++ d ∷ []) n) ed ∙ none_behind (map (λ (y : Node). y.due) ns) n h.dues;
-})
-
 -- the first m of n nodes, as they are written
 pub record AreWritten (k m n : ℕ) (ns : List Node) : Type 0 where
   pub long : length ns ≡ n

@@ -39,16 +39,6 @@ due_written ns at due n w =
     same_links _ _ _ _ _ _ (kept_field (λ n. n.next) ns at n x w refl) (kept_field (λ n. n.prev) ns at n x w refl)
     (map-set (λ n. n.due) ns at x)
 
-pub due_read : (ns : List Node) (at : ℕ) (n : Node) → at < length (links ns).next → n ≡ slice_index_or ns at n
-    → n.due ≡ due_at (links ns).dues at
-due_read ns at n h w = ap (λ (m : Node). m.due) w ∙ through ns at n (omega (arith, length-map ns (λ (n : Node). n.next)))
-  where
-    through : (ns : List Node) (at : ℕ) (n : Node) → at < length ns
-        → (slice_index_or ns at n).due ≡ slice_index_or (map (λ (m : Node). m.due) ns) at None
-    through [] at n h = absurd (omega arith)
-    through (x ∷ xs) zero n h = refl
-    through (x ∷ xs) (suc at) n h = through xs at n (omega arith)
-
 -- nodes that come
 
 map-replicate : {B : Type 0} (f : Node → B) (n : ℕ) (x : Node) → map f (replicate n x) ≡ replicate n (f x)
