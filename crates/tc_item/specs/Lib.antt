@@ -1,5 +1,5 @@
 pub mod Expiry
+pub mod FewItems
 pub mod KeyFaults
-pub mod KeyLists
 pub mod KeyRule
 pub mod Weight

@@ -8,7 +8,7 @@ ghost use Rattle.tc_item.specs.KeyRule.{is_key, is_key_byte};
 ghost use Rattle.tc_item.specs.KeyFaults.{key_fault};
 ghost use Rattle.tc_item.specs.declared.key.KeyFault.TheVariants.{NoMemory as OutOfMemory};
 
-use crate::NoMemory;
+use crate::{Few, NoMemory, TryCopy};
 use smallvec::SmallVec;
 use std::alloc::Global;
 use std::error::Error;
@@ -130,6 +130,15 @@ impl Key {
         Key::from_key_bytes(alloc, self.as_bytes())
     }
 }
+
+impl TryCopy for Key {
+    fn try_copy(&self, alloc: Global) -> Result<Key, NoMemory> {
+        self.copy(alloc)
+    }
+}
+
+/// Keys in order; a key may stand twice.
+pub type Keys = Few<Key>;
 
 impl PartialEq for Key {
     ghost eq = { bytes_eq };

@@ -1,4 +1,3 @@
-pub mod HitLists
 pub mod UserCounters
 pub mod StatsRows
 pub mod Sameness

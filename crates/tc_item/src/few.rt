@@ -1,0 +1,177 @@
+//! Lists of few items, which take no memory for none or one.
+ghost use Rattle.std.specs.Prelude.{◌≡◌, ◌∷◌, ◌++◌, [], length, IfOk, OnOk, OnErr, IsTrue, ◌↔◌, Decides};
+ghost use Rattle.std.specs.Cmp.Lexicographic.{pointwise, lists_per, lists_equiv};
+
+use crate::NoMemory;
+use std::alloc::Global;
+use std::fmt;
+use std::marker::Model;
+use std::sync::Arc;
+
+/// What can be copied where there is memory.
+pub trait TryCopy: Drop {
+    /// An equal value.
+    fn try_copy(&self, alloc: Global) -> Result<Self, NoMemory>
+        ensures { IfOk result (λ copied. copied ≡ self.now) };
+}
+
+/// Items in order; an item may stand twice. Copies of many share one list.
+#[derive(Drop)]
+pub struct Few<T> {
+    held: Held<T>,
+}
+
+/// Most lists have one item, so one alone is kept in place, in an array that is lent as a slice.
+#[derive(Drop)]
+enum Held<T> {
+    Nothing,
+    One([T; 1]),
+    Many(Arc<Vec<T>>),
+}
+
+impl<T> Model for Few<T> {
+    ghost use Rattle.std.specs.Prelude.{List};
+    ghost use Rattle.tc_item.specs.FewItems.{items_held};
+
+    ghost Value = { List T };
+
+    ghost view = { λ f. items_held f.held };
+}
+
+/// Equal items and one more, with room for others.
+fn lengthened<T: TryCopy>(alloc: Global, items: &[T], item: T) -> Result<Arc<Vec<T>>, NoMemory>
+    ensures { IfOk result (λ shared. shared.value.items ≡ items.now ++ item ∷ []) }
+{
+    let mut copied = Vec::with_capacity(alloc, items.len().saturating_add(8))?;
+    for item in items {
+        copied.push(item.try_copy(alloc)?)?;
+    }
+    copied.push(item)?;
+    Ok(Arc::new(alloc, copied)?)
+}
+
+/// Puts an item behind those of a list. Whoever shares the list keeps it as it was.
+fn push_shared<T: TryCopy>(alloc: Global, shared: &mut Arc<Vec<T>>, item: T) -> Result<(), NoMemory>
+    ensures pushed { OnOk result (shared.new.value.items ≡ shared.old.value.items ++ item ∷ []) }
+    ensures unchanged_on_err { OnErr result (shared.new.value.items ≡ shared.old.value.items) }
+{
+    match Arc::get_mut(shared) {
+        Some(items) => items.push(item)?,
+        None => *shared = lengthened(alloc, shared.as_slice(), item)?,
+    }
+    Ok(())
+}
+
+impl<T> Few<T> {
+    /// No items.
+    pub fn new() -> Few<T>
+        ensures { result ≡ [] }
+    {
+        Few {
+            held: Held::Nothing,
+        }
+    }
+
+    /// One item.
+    pub fn one(item: T) -> Few<T>
+        ensures { result ≡ item ∷ [] }
+    {
+        Few {
+            held: Held::One([item]),
+        }
+    }
+
+    /// How many items.
+    pub fn len(&self) -> usize
+        ensures { result ≡ length self.now }
+    {
+        self.as_slice().len()
+    }
+
+    /// Whether there is no item.
+    pub fn is_empty(&self) -> bool
+        ensures { IsTrue result ↔ (self.now ≡ []) }
+    {
+        self.len() == 0
+    }
+
+    /// The items, in order.
+    pub fn as_slice(&self) -> &[T]
+        ensures { result.now ≡ self.now }
+    {
+        match &self.held {
+            Held::Nothing => &[],
+            Held::One(one) => one.as_slice(),
+            Held::Many(shared) => shared.as_slice(),
+        }
+    }
+}
+
+impl<T: TryCopy> Few<T> {
+    /// No items, with room for so many.
+    pub fn with_capacity(alloc: Global, count: usize) -> Result<Few<T>, NoMemory>
+        ensures { IfOk result (λ few. few ≡ []) }
+    {
+        if count < 2 {
+            return Ok(Few::new());
+        }
+        let shared = Arc::new(alloc, Vec::with_capacity(alloc, count)?)?;
+        Ok(Few {
+            held: Held::Many(shared),
+        })
+    }
+
+    /// Puts an item at the end. Where memory is refused the items are as they were.
+    pub fn push(&mut self, alloc: Global, item: T) -> Result<(), NoMemory>
+        ensures pushed { OnOk result (self.new ≡ self.old ++ item ∷ []) }
+        ensures unchanged_on_err { OnErr result (self.new ≡ self.old) }
+    {
+        match &mut self.held {
+            Held::Nothing => self.held = Held::One([item]),
+            Held::One(_) => {
+                let items = lengthened(alloc, self.as_slice(), item)?;
+                self.held = Held::Many(items);
+            }
+            Held::Many(shared) => push_shared(alloc, shared, item)?,
+        }
+        Ok(())
+    }
+
+    /// Equal items in the same order.
+    pub fn copy(&self, alloc: Global) -> Result<Few<T>, NoMemory>
+        ensures { IfOk result (λ few. few ≡ self.now) }
+    {
+        let held = match &self.held {
+            Held::Nothing => Held::Nothing,
+            Held::One([item]) => Held::One([item.try_copy(alloc)?]),
+            Held::Many(shared) => Held::Many(shared.clone()?),
+        };
+        Ok(Few { held })
+    }
+}
+
+/// Where `==` of two items says whether they are the same, so does `==` of two lists.
+impl<T: PartialEq> PartialEq for Few<T> {
+    ghost eq = { pointwise T.eq };
+
+    ghost laws = { lists_per T.laws };
+
+    fn eq(&self, other: &Few<T>) -> bool
+        ensures value { result ≡ pointwise T.eq self.now other.now }
+        ensures same { ((a b : T) → Decides (T.eq a b) (a ≡ b))
+            → Decides result (self.now ≡ other.now) }
+    {
+        self.as_slice() == other.as_slice()
+    }
+}
+
+impl<T: Eq> Eq for Few<T> {
+    ghost laws = { lists_equiv T.Eq.laws };
+}
+
+/// The items as a list.
+impl<T: fmt::Debug> fmt::Debug for Few<T> {
+    fn fmt<W: fmt::Write>(&self, f: &mut fmt::Formatter<W>) -> fmt::Result {
+        write!(f, "{:?}", self.as_slice())
+    }
+}
