@@ -8,8 +8,7 @@ use Rattle.std.proofs.lemmas.List.Elements.{filter-append}
 use Rattle.tc_model.specs.Ring.{Linked, IsAway, AreDistinct, AreBelow, IsRing, HasPlace, walk, put_next, put_prev, cut_next}
 use Rattle.tc_model.specs.Ring.{cut_prev}
 use Rattle.tc_model.specs.Chains.{is_node, marked, IsLoop, AreChained, AreLinked, EachDistinct, fronted, without_node, is_among}
-use Rattle.tc_model.specs.Chains.{walks}
-use Rattle.tc_model.proofs.Rings.{linked_split, linked_walk, ring_cut, ring_put, ring_put_first, away_append, below_append, split}
+use Rattle.tc_model.proofs.Rings.{linked_split, ring_cut, ring_put, ring_put_first, away_append, below_append, split}
 use Rattle.tc_model.proofs.Rings.{IsSplit}
 
 pub append_nil : (xs : List ℕ) → xs ++ [] ≡ xs

@@ -1,13 +1,13 @@
 -- Areas of one kind of thing, seen as areas of another of the same weights and frequencies.
-use Rattle.std.specs.Prelude.{nat_lt, reverse, sum_by, map, not, ◌==◌, ◌&&◌, ◌||◌}
+use Rattle.std.specs.Prelude.{nat_lt, reverse, sum_by, map, ◌==◌, ◌&&◌}
 use Rattle.std.specs.List.{list_all}
 use mathlib.Core.List.{reverse_aux}
 use Rattle.std.proofs.Common.{◌≡◌, ℕ, zero, suc, ◌+◌, ◌-◌, Bool, true, false, cond, List, [], ◌∷◌, ◌++◌, length, take, refl, sym}
 use Rattle.std.proofs.Common.{◌∙◌, ap}
 use Rattle.std.proofs.lemmas.List.Sums.{sum_by-cons}
-use Rattle.tc_model.specs.Areas.{Areas, Limits, Settled, fitting, beyond, shortest, demoted, raised, accessed, trimmed, victims}
+use Rattle.tc_model.specs.Areas.{Areas, Limits, Settled, fitting, beyond, shortest, demoted, trimmed, victims}
 use Rattle.tc_model.specs.Areas.{admitted, all_admitted, and_then, entered, narrowed, without_last, from_tail, main_weight}
-use Rattle.tc_model.specs.Areas.{settle, is_in, without}
+use Rattle.tc_model.specs.Areas.{settle}
 use Rattle.tc_model.specs.Mapped.{map_areas, map_settled}
 
 abbrev areas_by : {A : Type 0} → List A → List A → List A → Areas A

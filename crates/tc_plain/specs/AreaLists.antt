@@ -1,6 +1,6 @@
 -- The areas and what look-ups touch, as the code keeps them. Source: this project's own.
-use Rattle.std.specs.Prelude.{ℕ, ◌+◌, ◌≤◌, ◌∷◌, ◌++◌, [], ◌≡◌, ◌⊎◌, cond, not, map, vec_len, vec_capacity, Bool, true, false, List}
-use Rattle.std.specs.Prelude.{Option, Some, None}
+use Rattle.std.specs.Prelude.{ℕ, ◌+◌, ◌≤◌, ◌∷◌, ◌++◌, [], ◌≡◌, ◌⊎◌, cond, not, map, vec_len, vec_capacity, Bool, true, false}
+use Rattle.std.specs.Prelude.{List, Option, Some, None}
 use Rattle.tc_model.specs.Areas.{Areas}
 use Rattle.tc_sketch.specs.Sketch.{Sketch, freq, hash}
 use Rattle.tc_item.specs.declared.moment.Due.{Due}

@@ -1,5 +1,6 @@
 //! The hits of keys.
-ghost use Rattle.std.specs.Prelude.{◌≡◌, ℕ, List, Option, ◌<◌, ◌++◌, ◌&&◌, cond, length, get_or, option_map, option_to_list, None, IfOk, OnOk};
+ghost use Rattle.std.specs.Prelude.{◌≡◌, ◌<◌, ◌++◌, ◌&&◌, cond, List, length, slice_index_or, Option, None, option_map};
+ghost use Rattle.std.specs.Prelude.{option_to_list, IfOk, OnOk};
 ghost use Rattle.std.specs.Option.{option_copied};
 ghost use Rattle.std.specs.Str.{bytes_eq};
 ghost use Rattle.std.specs.List.{list_any};
@@ -23,7 +24,7 @@ pub trait FoundEntries {
     /// What the key at this place in the order was found to hold.
     fn entry(&self, i: usize) -> Option<&Entry>
         requires { i < length (entries self.now) }
-        ensures { option_copied result ≡ get_or (entries self.now) i None };
+        ensures { option_copied result ≡ slice_index_or (entries self.now) i None };
 }
 
 /// Whether a due is given that has come at the moment.

@@ -1,7 +1,7 @@
 -- Protected is held to its limit, one slot at a time.
 use Rattle.std.specs.Prelude.{sum_by, reverse}
-use Rattle.std.proofs.Common.{◌≡◌, ℕ, ◌+◌, ◌<◌, ◌≤◌, ◌^◌, Bool, true, false, cond, List, [], ◌∷◌, ◌++◌, length, refl, sym, ◌∙◌}
-use Rattle.std.proofs.Common.{ap, subst, arith, append_assoc, length-append}
+use Rattle.std.proofs.Common.{◌≡◌, ℕ, ◌+◌, ◌<◌, ◌≤◌, ◌^◌, Bool, true, false, cond, List, [], ◌∷◌, ◌++◌, refl, sym, ◌∙◌}
+use Rattle.std.proofs.Common.{ap, subst, arith, append_assoc}
 use Rattle.std.proofs.lemmas.List.Sums.{sum_by-cons, sum_by-append, sum_by_push}
 use Rattle.tc_model.specs.Areas.{Areas, Limits, fitting, beyond, demoted, trimmed, all_admitted, and_then, narrowed, settle}
 use Rattle.tc_model.specs.Areas.{raised, is_in, without, total}

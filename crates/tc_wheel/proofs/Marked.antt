@@ -3,13 +3,12 @@ use Rattle.std.specs.Prelude.{Option, None, Some, ◌-◌, ◌%◌, replicate, m
 use Rattle.std.proofs.Common.{◌≡◌, ◌⊎◌, inl, inr, ℕ, zero, suc, ◌+◌, ◌<◌, ◌≤◌, true, false, List, [], ◌∷◌, ◌++◌, length, refl}
 use Rattle.std.proofs.Common.{sym, ◌∙◌, ap, subst, arith, length-append}
 use Rattle.std.proofs.Math.ListN.{get_or-eq_default}
-use Rattle.std.proofs.Math.Seq.{get_or-append_seam}
 use Rattle.std.proofs.lemmas.Bool.{cases_lt}
 use Rattle.std.proofs.lemmas.List.{get_or-set_same, get_or-set_other, length-map, length-replicate, length-set}
-use Rattle.std.proofs.lemmas.List.{map-append, map-set}
+use Rattle.std.proofs.lemmas.List.{map-set}
 use Rattle.tc_model.specs.Ring.{Linked, IsAway, AreDistinct, AreBelow, IsRing}
 use Rattle.tc_model.specs.Chains.{marked, IsLoop, AreChained, is_among}
-use Rattle.tc_model.proofs.Chained.{ring_grown, index-grown}
+use Rattle.tc_model.proofs.Chained.{ring_grown}
 use Rattle.tc_wheel.specs.Dues.{due_at, is_due}
 use Rattle.tc_wheel.specs.Links.{Links, AreMarks, grown}
 use Rattle.tc_wheel.specs.Nodes.{links}

@@ -1,6 +1,6 @@
 -- What a write to one node does to the lists of links.
 use Rattle.std.specs.Prelude.{Option, None, map, slice_set, slice_index_or, replicate}
-use Rattle.std.proofs.Common.{◌≡◌, ℕ, zero, suc, ◌+◌, ◌-◌, ◌<◌, ◌≤◌, List, [], ◌∷◌, ◌++◌, length, refl, ◌∙◌, ap, arith}
+use Rattle.std.proofs.Common.{◌≡◌, ℕ, zero, suc, ◌+◌, ◌-◌, ◌≤◌, List, ◌∷◌, ◌++◌, length, refl, ◌∙◌, ap, arith}
 use Rattle.std.proofs.Math.Seq.{map-set_same}
 use Rattle.std.proofs.lemmas.List.{drop-append-le, drop-set-add, get_or-drop, length-drop, length-map, map-append, map-set}
 use Rattle.tc_wheel.specs.Dues.{due_at}
