@@ -95,4 +95,4 @@ held_noted f key q h = look_answer (deferred f key) q (noted_lazy f key h) ∙ s
 -- a plan under a key that holds nothing
 pub free_under : (key : List ℕ) (a : Areas Entry) (plan : Plan) → held key a ≡ None → IsUnder key plan → IsFree a plan
 free_under key a (Ends end) none same = tt
-free_under key a (Changes end e) none same = ap (λ k. held k a) same ∙ none
+free_under key a (Changes end under draft) none same = ap (λ k. held k a) same ∙ none

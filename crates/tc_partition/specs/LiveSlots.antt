@@ -16,14 +16,14 @@ live_of s = record { limits = s.held.limits; areas = s.held.areas; sketch = s.sk
 -- the plan of some work
 abbrev pub plan_of : Work → Plan
 plan_of (EndsWork end) = Ends end
-plan_of (ChangesWork end key entry) = Changes end entry
+plan_of (ChangesWork end copy key draft) = Changes end key draft
 
--- the key of some work is that of its entry
+-- the first key of some work is a copy of the second
 abbrev pub IsKeyed : Work → Type 0
 IsKeyed (EndsWork end) = Unit {0}
-IsKeyed (ChangesWork end key entry) = key ≡ entry.key
+IsKeyed (ChangesWork end copy key draft) = copy ≡ key
 
--- nothing is held under the key of a plan's entry
+-- nothing is held under the key of what a plan stores
 abbrev pub IsFree : Areas Entry → Plan → Type 0
 IsFree a (Ends end) = Unit {0}
-IsFree a (Changes end e) = held e.key a ≡ None
+IsFree a (Changes end key draft) = held key a ≡ None

@@ -291,7 +291,7 @@ impl LiveSlots {
     }
 
     /// Carries work out on a key that was found at this place or holds nothing, for which there is
-    /// room: an entry gets the next cas number after `last`, and each entry that is dropped for it
+    /// room: a draft gets the next cas number after `last`, and each entry that is dropped for it
     /// is counted.
     pub(crate) fn carry_out(
         &mut self,
@@ -313,16 +313,16 @@ impl LiveSlots {
             → (planned k (plan_of work)).1
             ≡ record k { live = live_of self.new; last = last.new; counters = counters.new } }
     {
-        let (end, key, mut entry) = match work {
+        let (end, copy, key, draft) = match work {
             Work::Ends(end) => return end,
-            Work::Changes(end, key, entry) => (end, key, entry),
+            Work::Changes(end, copy, key, draft) => (end, copy, key, draft),
         };
         let Some(cas) = last.checked_add(1) else {
             return End::CasWorn;
         };
-        entry.item.cas = cas;
         *last = cas;
-        counters.evictions = self.change(place, key, entry, counters.evictions);
+        let item = draft.numbered(cas);
+        counters.evictions = self.change(place, copy, Entry { key, item }, counters.evictions);
         end
     }
 }

@@ -111,7 +111,7 @@ impl SlotCache {
         let held = self.live.held_at(place);
         match offer(alloc, held, head, blob, moment)? {
             Bid::Refused(end) => Ok(Plan::Ends(end)),
-            Bid::Offered(item) => plan_item(alloc, self.largest, main, &head.key, item),
+            Bid::Offered(draft) => plan_item(alloc, self.largest, main, &head.key, draft),
         }
     }
 

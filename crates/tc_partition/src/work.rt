@@ -4,14 +4,14 @@ ghost use Rattle.tc_partition.specs.LiveSlots.{plan_of, IsKeyed};
 
 use std::alloc::Global;
 use tc_item::{Key, NoMemory};
-use tc_plain::{End, Entry, Plan};
+use tc_plain::{Draft, End, Plan};
 
-/// What a command will do: end so at once, or use an entry under the next cas number and then end
-/// so. The key is a copy of the entry's, for the index.
+/// What a command will do: end so at once, or use a draft under a key, with the next cas number,
+/// before it ends so. The first key is a copy of the second, for the index.
 #[derive(Drop)]
 pub enum Work {
     Ends(End),
-    Changes(End, Key, Entry),
+    Changes(End, Key, Key, Draft),
 }
 
 /// A plan with its key's copy.
@@ -21,9 +21,9 @@ pub fn with_key(alloc: Global, plan: Plan) -> Result<Work, NoMemory>
 {
     match plan {
         Plan::Ends(end) => Ok(Work::Ends(end)),
-        Plan::Changes(end, entry) => {
-            let key = entry.key.copy(alloc)?;
-            Ok(Work::Changes(end, key, entry))
+        Plan::Changes(end, key, draft) => {
+            let copy = key.copy(alloc)?;
+            Ok(Work::Changes(end, copy, key, draft))
         }
     }
 }

@@ -49,16 +49,16 @@ stored_by k now m head blob key bid o e same p q =
     ∙ ap (λ n. offer_by head.kind head.cas_unique (item_of head blob (at_moment n l).moment cas)
     (option_map (λ e. e.item) (held head.key (at_moment n l).areas))) e)
 
--- a plan whose entry fits in main leaves a sound cache sound
+-- a plan whose item fits in main leaves a sound cache sound
 pub sound_planned : (k : UserCache) (plan : Plan) → IsLightPlan k.live.limits plan → IsSound k → IsSound (planned k plan).1
 sound_planned k (Ends end) l h = h
-sound_planned k (Changes end e) l h = go (is_worn k) refl
+sound_planned k (Changes end key draft) l h = go (is_worn k) refl
   where
     go : (b : Bool) → is_worn k ≡ b
         → IsSound (cond b (let r : Outcome × UserCache = (CasWorn, k) in r)
-        (outcome_of end, changed (numbered (k.last + 1) e) k)).1
+        (outcome_of end, changed (record { key = key; item = numbered (k.last + 1) draft }) k)).1
     go true w = h
-    go false w = sound_changed (numbered (k.last + 1) e) k w l h
+    go false w = sound_changed (record { key = key; item = numbered (k.last + 1) draft }) k w l h
 
 -- a sound cache weighs no more than its budget
 pub weighs_little : (k : UserCache) → IsSound k → total weight k.live.areas ≤ 2 ^ 30

@@ -38,6 +38,6 @@ pub use eviction_state::EvictionState;
 pub use hits::{FoundEntries, show_all};
 pub use laws::{advancing, freshness, soundness};
 pub use limits::Limits;
-pub use offers::{Bid, offer};
+pub use offers::{Bid, Draft, offer};
 pub use plain::Plain;
 pub use plans::{Plan, plan_count, plan_item};

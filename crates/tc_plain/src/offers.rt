@@ -1,33 +1,65 @@
 //! What storage lines make of their own item and of what their key holds.
-ghost use Rattle.std.specs.Prelude.{◌≡◌, ℕ, ◌++◌, option_map, IfOk};
+ghost use Rattle.std.specs.Prelude.{◌≡◌, ℕ, ◌++◌, length, option_map, IfOk};
+ghost use Rattle.tc_item.specs.Weight.{weight_of};
 ghost use Rattle.tc_plain.specs.Entries.{with_data};
 ghost use Rattle.tc_plain.specs.Storing.{Offered, item_of, offer_by};
-ghost use Rattle.tc_plain.specs.Plans.{offer_of, with_cas};
+ghost use Rattle.tc_plain.specs.Plans.{offer_of, numbered};
 
 use crate::Entry;
 use crate::end::End;
 use std::alloc::Global;
 use tc_grammar::{Head, StoreKind};
 use tc_item::exptime::due;
-use tc_item::{Blob, Item, Moment, NoMemory};
+use tc_item::{Blob, Due, Item, Key, Moment, NoMemory};
 
-/// What a storage line offers before its item is weighed and numbered: it is refused for what its key
-/// holds, or there is an item to store.
+/// An item that is to be stored and has no cas number yet.
+#[derive(Debug, Drop)]
+pub struct Draft {
+    /// What the client stores beside the data and gets back with it.
+    pub flags: u32,
+    /// Until when the item will be alive.
+    pub due: Due,
+    /// The data.
+    pub blob: Blob,
+}
+
+impl Draft {
+    /// The item, with this cas number.
+    pub fn numbered(self, cas: u64) -> Item
+        ensures { result ≡ numbered cas self }
+    {
+        Item {
+            flags: self.flags,
+            due: self.due,
+            cas,
+            blob: self.blob,
+        }
+    }
+
+    /// What the item will weigh under a key, in bytes.
+    pub(crate) fn weight_under(&self, key: &Key) -> u64
+        ensures { result ≡ weight_of key.now (length self.now.blob) }
+    {
+        key.as_bytes().len() as u64 + self.blob.as_slice().len() as u64 + 64
+    }
+}
+
+/// What a storage line offers before it is weighed and numbered: it is refused for what its key holds,
+/// or there is an item to store.
 #[derive(Debug, Drop)]
 pub enum Bid {
     Refused(End),
-    Offered(Item),
+    Offered(Draft),
 }
 
 /// The line's own item.
-fn own_item(head: &Head, blob: &Blob, moment: Moment) -> Result<Item, NoMemory>
-    ensures { IfOk result (λ item. (cas : ℕ)
-        → with_cas cas item ≡ item_of head.now blob.now moment cas) }
+fn own_item(head: &Head, blob: &Blob, moment: Moment) -> Result<Draft, NoMemory>
+    ensures { IfOk result (λ draft. (cas : ℕ)
+        → numbered cas draft ≡ item_of head.now blob.now moment cas) }
 {
-    Ok(Item {
+    Ok(Draft {
         flags: head.flags,
         due: due(head.exptime, moment),
-        cas: 0,
         blob: blob.copy()?,
     })
 }
@@ -43,14 +75,13 @@ fn join(alloc: Global, first: &[u8], second: &[u8]) -> Result<Blob, NoMemory>
 }
 
 /// The held item with joined data.
-fn joined(alloc: Global, held: &Item, first: &Blob, second: &Blob) -> Result<Item, NoMemory>
-    ensures { IfOk result (λ item. (cas : ℕ)
-        → with_cas cas item ≡ with_data cas (first.now ++ second.now) held.now) }
+fn joined(alloc: Global, held: &Item, first: &Blob, second: &Blob) -> Result<Draft, NoMemory>
+    ensures { IfOk result (λ draft. (cas : ℕ)
+        → numbered cas draft ≡ with_data cas (first.now ++ second.now) held.now) }
 {
-    Ok(Item {
+    Ok(Draft {
         flags: held.flags,
         due: held.due,
-        cas: 0,
         blob: join(alloc, first.as_slice(), second.as_slice())?,
     })
 }

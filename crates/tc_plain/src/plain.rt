@@ -113,13 +113,13 @@ impl Plain {
         let held = self.live.peek(head.key.as_bytes(), moment);
         match offer(alloc, held, head, blob, moment)? {
             Bid::Refused(end) => Ok(Plan::Ends(end)),
-            Bid::Offered(item) => {
+            Bid::Offered(draft) => {
                 plan_item(
                     alloc,
                     self.largest,
                     self.live.limits.main_limit(),
                     &head.key,
-                    item,
+                    draft,
                 )
             }
         }

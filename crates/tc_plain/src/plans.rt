@@ -8,20 +8,21 @@ ghost use Rattle.tc_plain.specs.UserCache.{UserCache};
 ghost use Rattle.tc_plain.specs.Storing.{Offered, accepted};
 ghost use Rattle.tc_plain.specs.Doing.{counted, counted_under};
 ghost use Rattle.tc_plain.specs.AreaLists.{areas_of, live_of, HasRoom};
-ghost use Rattle.tc_plain.specs.Plans.{outcome_of, with_cas, planned, IsLightPlan, IsUnder};
+ghost use Rattle.tc_plain.specs.Plans.{outcome_of, numbered, planned, IsLightPlan, IsUnder};
 
 use crate::end::End;
-use crate::{Entry, EvictionState};
+use crate::{Draft, Entry, EvictionState};
 use std::alloc::Global;
 use tc_grammar::Way;
-use tc_item::{Blob, Item, Key, NoMemory};
+use tc_item::{Blob, Key, NoMemory};
 use tc_stats::Counters;
 
-/// What a command will do: end so at once, or use an entry under the next cas number and then end so.
+/// What a command will do: end so at once, or use a draft under a key, with the next cas number, before it
+/// ends so.
 #[derive(Debug, Drop)]
 pub enum Plan {
     Ends(End),
-    Changes(End, Entry),
+    Changes(End, Key, Draft),
 }
 
 /// What storing an item under a key will do: it is too large, or is used.
@@ -30,21 +31,20 @@ pub fn plan_item(
     largest: u64,
     main: u64,
     key: &Key,
-    item: Item,
+    draft: Draft,
 ) -> Result<Plan, NoMemory>
     ensures plan { IfOk result (λ plan. (k : UserCache) → k.largest ≡ largest
         → k.live.limits.main ≡ main
-        → planned k plan ≡ accepted k key.now (Offered (with_cas (k.last + 1) item))) }
+        → planned k plan ≡ accepted k key.now (Offered (numbered (k.last + 1) draft))) }
     ensures light { IfOk result (λ plan. (limits : Limits) → limits.main ≡ main
         → IsLightPlan limits plan) }
     ensures key { IfOk result (IsUnder key.now) }
 {
     let key = key.copy(alloc)?;
-    let entry = Entry { key, item };
-    if entry.item.blob.len() as u64 > largest || entry.weight() > main {
+    if draft.blob.len() as u64 > largest || draft.weight_under(&key) > main {
         return Ok(Plan::Ends(End::TooLarge));
     }
-    Ok(Plan::Changes(End::Stored, entry))
+    Ok(Plan::Changes(End::Stored, key, draft))
 }
 
 /// A number counted: up it wraps at 2^64, and down it stops at 0.
@@ -78,17 +78,16 @@ pub fn plan_count(alloc: Global, entry: &Entry, way: Way, by: u64) -> Result<Pla
     };
     let number = count(way, number, by);
     let key = entry.key.copy(alloc)?;
-    let item = Item {
+    let draft = Draft {
         flags: entry.item.flags,
         due: entry.item.due,
-        cas: 0,
         blob: spell(alloc, number)?,
     };
-    Ok(Plan::Changes(End::Number(number), Entry { key, item }))
+    Ok(Plan::Changes(End::Number(number), key, draft))
 }
 
 impl EvictionState {
-    /// Carries a plan out, for which there is room: an entry gets the next cas number after `last`, and
+    /// Carries a plan out, for which there is room: a draft gets the next cas number after `last`, and
     /// each entry that is dropped for it is counted.
     pub(crate) fn carry_out(&mut self, plan: Plan, last: &mut u64, counters: &mut Counters) -> End
         requires weight { total weight (areas_of self.old.areas) < 2 ^ 63 }
@@ -102,16 +101,16 @@ impl EvictionState {
             → (planned k plan).1
             ≡ record k { live = live_of self.new; last = last.new; counters = counters.new } }
     {
-        let (end, mut entry) = match plan {
+        let (end, key, draft) = match plan {
             Plan::Ends(end) => return end,
-            Plan::Changes(end, entry) => (end, entry),
+            Plan::Changes(end, key, draft) => (end, key, draft),
         };
         let Some(cas) = last.checked_add(1) else {
             return End::CasWorn;
         };
-        entry.item.cas = cas;
         *last = cas;
-        counters.evictions = self.change(entry, counters.evictions);
+        let item = draft.numbered(cas);
+        counters.evictions = self.change(Entry { key, item }, counters.evictions);
         end
     }
 }
