@@ -4,13 +4,10 @@ use crate::fault::Fault;
 use crate::measuring::{Extent, Tally, Topic, Work, report};
 use std::alloc::Global;
 use tc_grammar::{Line, parse_line};
-use tc_item::NoMemory;
+use tc_item::{LARGEST_ITEM, NoMemory};
 
 /// How often a line is read where times are wanted.
 const TIMES: u32 = 100_000;
-
-/// The most bytes of a block.
-const LIMIT: u32 = 1_048_576;
 
 /// How many keys of 16 bytes a `get` asks.
 const GETS: [(u32, &str); 3] = [
@@ -44,7 +41,7 @@ struct Readings<'a> {
 impl Readings<'_> {
     /// Whether a line has no fault.
     fn read(&self, alloc: Global) -> Result<bool, NoMemory> {
-        match parse_line(alloc, self.line.as_bytes(), LIMIT)? {
+        match parse_line(alloc, self.line.as_bytes(), LARGEST_ITEM)? {
             Line::Ready(_) | Line::NeedsBlock(..) => Ok(true),
             _ => Ok(false),
         }

@@ -9,7 +9,7 @@ use std::alloc::Global;
 use std::hash::RandomState;
 use std::time::{Duration, Instant};
 use tc_grammar::Command;
-use tc_item::{Blob, Moment, NoMemory};
+use tc_item::{Blob, LARGEST_BUDGET, Moment, NoMemory, RECORD_WEIGHT, SMALLEST_BUDGET};
 use tc_kinds::Kind;
 use tc_partition::Fast;
 
@@ -19,8 +19,8 @@ const WAITING: u32 = 128;
 /// How many pieces of work the server's keeper asks for at once.
 const PIECES: u32 = 64;
 
-/// What an item weighs: its key, its data and 64.
-const WEIGHT: u64 = 180;
+/// What an item weighs: its key, its data and its record.
+const WEIGHT: u64 = 116 + RECORD_WEIGHT;
 
 const EVICTED: &str = "evicted";
 
@@ -106,7 +106,7 @@ impl Size {
 
 /// An empty cache of this budget.
 fn empty<C: Kind>(alloc: Global, budget: u64, hasher: RandomState) -> Result<C, NoMemory> {
-    C::begin(alloc, budget.max(65_536).min(1 << 30), 1_024, hasher)
+    C::begin(alloc, budget.max(SMALLEST_BUDGET).min(LARGEST_BUDGET), 1_024, hasher)
 }
 
 /// Items that are made and set, one after another.

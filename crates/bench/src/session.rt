@@ -1,6 +1,7 @@
 //! What it takes to read requests from a stream, and to serve them on one connection, with the
 //! memory that is taken and given back.
 ghost use Rattle.std.specs.Prelude.{◌≤◌};
+ghost use Rattle.tc_session.specs.SessionView.{reply_room};
 
 use crate::commands::data;
 use crate::fault::Fault;
@@ -8,16 +9,13 @@ use crate::measuring::{Extent, Tally, Topic, Work, report};
 use std::alloc::Global;
 use tc_feed::Feed;
 use tc_grammar::Command;
-use tc_item::{Key, NoMemory};
+use tc_item::{Key, LARGEST_ITEM, NoMemory, SMALLEST_BUDGET};
 use tc_session::{Session, Want, can_end};
 use tc_stats::{Hit, Hits, Outcome};
 use tc_users::{Text, UserSpec, Users};
 
 /// How many bytes come at once.
 const PIECE: usize = 16_384;
-
-/// The most bytes of a block.
-const LIMIT: u32 = 1_048_576;
 
 /// How many times as many requests come where times are wanted.
 const MORE: u32 = 100;
@@ -112,8 +110,8 @@ fn row(alloc: Global) -> Result<UserSpec, NoMemory> {
         name,
         token,
         second: None,
-        budget: 65_536,
-        largest: 1_048_576,
+        budget: SMALLEST_BUDGET,
+        largest: LARGEST_ITEM as u64,
     })
 }
 
@@ -162,7 +160,7 @@ struct Fed<'a> {
 fn take_all(alloc: Global, feed: &mut Feed) -> Result<u32, NoMemory> {
     let mut taken: u32 = 0;
     for _ in 0..feed.kept() {
-        match feed.next(alloc, LIMIT)? {
+        match feed.next(alloc, LARGEST_ITEM)? {
             None => return Ok(taken),
             Some(_) => taken = taken.wrapping_add(1),
         }
@@ -206,7 +204,7 @@ enum Turn {
 
 impl Cache<'_> {
     fn answer(&self, session: &mut Session, command: &Command) -> Result<Turn, NoMemory>
-        requires room { 64 ≤ session.old.room }
+        requires room { reply_room ≤ session.old.room }
     {
         if can_end(command, self.outcome) {
             session.answer(command, self.outcome)?;

@@ -10,6 +10,7 @@ use std::marker::Brand;
 use std::sync::Wait;
 use std::time::{Duration, Instant};
 use tc_grammar::Command;
+use tc_item::SMALLEST_BUDGET;
 use tc_kinds::Kind;
 use tc_locked::{Hall, Naming, Opened, Seat};
 use tc_partition::Fast;
@@ -29,7 +30,7 @@ struct Load {
 const LIGHT: Load = Load {
     part: "hall",
     items: 20,
-    budget: 65_536,
+    budget: SMALLEST_BUDGET,
     journal: 16,
     turns: 3,
 };

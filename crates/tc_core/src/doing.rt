@@ -5,6 +5,7 @@ ghost use Rattle.tc_model.specs.Server.{call_effect, turn_effect, effect, number
 ghost use Rattle.tc_grammar.specs.declared.command.Command.TheVariants.{Quit};
 ghost use Rattle.tc_plain.specs.Doing.{act};
 ghost use Rattle.tc_session.specs.Replies.{can_end, render};
+ghost use Rattle.tc_session.specs.SessionView.{reply_room};
 ghost use Rattle.tc_session.specs.TextProtocol.{text_protocol};
 ghost use Rattle.tc_core.specs.ServerMachine.{server_machine};
 ghost use Rattle.tc_core.specs.Steps.{connection_of, numbered_of, happening_of};
@@ -47,7 +48,7 @@ fn cache_step<C: Cache>(
     session: &mut Session,
     command: &Command,
 ) -> Result<(), NoMemory>
-    requires room { 64 ≤ session.old.room }
+    requires room { reply_room ≤ session.old.room }
     requires runs { command.now ≢ Quit }
     ensures cache { OnOk result (C.settled cache.new
         ≡ (act (C.settled cache.old) clock command.now).1) }
@@ -76,7 +77,7 @@ fn call_step<C: Cache>(
     user: UserNo,
     command: &Command,
 ) -> Result<(), NoMemory>
-    requires room { 64 ≤ session.old.room }
+    requires room { reply_room ≤ session.old.room }
     requires runs { command.now ≢ Quit }
     ensures caches { OnOk result (map C.settled caches.new.items
         ≡ (call_effect server_machine clock (map C.settled caches.old.items) user command.now

@@ -30,9 +30,13 @@ abbrev pub line_length : List ℕ → Option ℕ
 line_length [] = None
 line_length (x ∷ xs) = cond (x == 10) (Some 0) (option_map suc (line_length xs))
 
--- a line has at most 65,536 bytes before its line feed, so that it ends within so many first bytes
+-- the most bytes of a line before its line feed
+abbrev pub longest_line : ℕ
+longest_line = 65536
+
+-- a line ends within so many first bytes
 unfoldable pub line_room : ℕ
-line_room = 65537
+line_room = longest_line + 1
 
 -- a line without one carriage return at its end
 abbrev pub trimmed : List ℕ → List ℕ
@@ -59,10 +63,11 @@ line_request line bytes (RefusedLine fault quiet skip) =
     Some (record { request = Refused fault quiet; length = line; skip = skip })
 line_request line bytes (NeedsBlock head n) = block_of head line n bytes
 
--- the first request, by where the first 65,537 bytes hold a line feed: with none among them the line is too long
+-- the first request, by where the room of a line holds a line feed: with none there the line is too long
 abbrev pub first_by : ℕ → List ℕ → Option ℕ → Option Taken
 first_by limit unread None =
-    cond (nat_lt 65536 (length unread)) (Some (record { request = Refused LineTooLong false; length = 65537; skip = 0 })) None
+    cond (nat_lt longest_line (length unread))
+    (Some (record { request = Refused LineTooLong false; length = longest_line + 1; skip = 0 })) None
 first_by limit unread (Some n) = line_request (n + 1) (drop (n + 1) unread) (reading limit (trimmed (take n unread)))
 
 -- the first whole request of unread bytes, where blocks of at most `limit` bytes are taken

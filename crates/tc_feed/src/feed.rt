@@ -1,6 +1,6 @@
 //! The unread bytes of a stream.
 ghost use Rattle.std.specs.Prelude.{◌≡◌, ◌++◌, ◌+◌, ◌≤◌, [], drop, None, OnOk, OnErr, IfOk, IsTrue, length as list_length};
-ghost use Rattle.tc_feed.specs.Stream.{Reader, more, empty, first, found, after_first};
+ghost use Rattle.tc_feed.specs.Stream.{Reader, more, empty, longest_line, first, found, after_first};
 
 use crate::Request;
 use crate::reading::{Finding, look};
@@ -99,7 +99,7 @@ impl Feed {
         ensures found { IfOk result (λ request. request ≡ found limit self.old) }
         ensures after { OnOk result (self.new ≡ after_first limit self.old) }
         ensures bounded { IfOk result (λ request. request ≡ None
-            → list_length self.new.unread ≤ limit + 65538) }
+            → list_length self.new.unread ≤ limit + (longest_line + 2)) }
         ensures no_longer { list_length self.new.unread ≤ list_length self.old.unread }
         ensures unchanged_on_err { OnErr result (self.new ≡ self.old) }
     {
@@ -129,7 +129,7 @@ impl Feed {
     /// Whether the last look says that no whole request is there yet.
     fn is_lacking(&self, limit: u32) -> bool
         ensures none { IsTrue result → first limit self.now.unread ≡ None }
-        ensures bounded { IsTrue result → list_length self.now.unread ≤ limit + 65538 }
+        ensures bounded { IsTrue result → list_length self.now.unread ≤ limit + (longest_line + 2) }
     {
         self.limit == limit && self.kept() < self.needed
     }

@@ -1,7 +1,8 @@
 //! The first request of unread bytes: small functions, one a case.
 ghost use Rattle.std.specs.Prelude.{◌≡◌, ℕ, ◌+◌, ◌<◌, ◌≤◌, ◌^◌, length, take, drop, None, IfOk, IfSome};
 ghost use Rattle.tc_grammar.specs.Lines.{IsBounded};
-ghost use Rattle.tc_feed.specs.Stream.{line_length, line_room, trimmed, block_request, block_of, line_request, first_by, first};
+ghost use Rattle.tc_feed.specs.Stream.{line_length, longest_line, line_room, trimmed, block_request, block_of, line_request};
+ghost use Rattle.tc_feed.specs.Stream.{first_by, first};
 ghost use Rattle.tc_feed.specs.Scanned.{IsScanned, IsAwaited, IsRemembered};
 ghost use Rattle.tc_grammar.specs.Reading.{reading};
 ghost use Rattle.tc_feed.specs.Looking.{needed_of};
@@ -105,12 +106,12 @@ fn look_at_line(
     n: usize,
 ) -> Result<(Option<Taken>, usize), NoMemory>
     requires within { n < length unread.now }
-    requires short { n ≤ 65536 }
+    requires short { n ≤ longest_line }
     ensures taken { IfOk result (λ r. r.0 ≡ line_request (n + 1) (drop (n + 1) unread.now)
         (reading limit (trimmed (take n unread.now)))) }
     ensures needed { IfOk result (λ r. r.1 ≡ needed_of (n + 1)
         (reading limit (trimmed (take n unread.now)))) }
-    ensures bounded { IfOk result (λ r. r.1 ≤ limit + 65539) }
+    ensures bounded { IfOk result (λ r. r.1 ≤ limit + (longest_line + 3)) }
 {
     let said = parse_line(alloc, trim_line(&unread[..n]), limit)?;
     let needed = needed_by(&said, n + 1);
@@ -118,7 +119,7 @@ fn look_at_line(
     Ok((taken, needed))
 }
 
-/// What is found in bytes of which the first 65,537 hold no line feed.
+/// What is found in bytes whose room of a line holds no line feed.
 fn look_for_line(unread: &[u8]) -> Finding
     requires none { line_length (take line_room unread.now) ≡ None }
     ensures first { result.taken ≡ first_by 0 unread.now None }
@@ -152,11 +153,11 @@ fn look_for_line(unread: &[u8]) -> Finding
 /// Where the first line of unread bytes ends, of which the first `scanned` hold no line feed.
 fn find_end(unread: &[u8], scanned: usize) -> Option<usize>
     requires within { scanned ≤ length unread.now }
-    requires short { scanned ≤ 65537 }
+    requires short { scanned ≤ longest_line + 1 }
     requires none { line_length (take scanned unread.now) ≡ None }
     ensures value { result ≡ line_length (take line_room unread.now) }
     ensures within { IfSome result (λ n. n < length unread.now) }
-    ensures short { IfSome result (λ n. n ≤ 65536) }
+    ensures short { IfSome result (λ n. n ≤ longest_line) }
 {
     let seen = unread.len().min(LONGEST_LINE + 1);
     find_line(&unread[..seen], scanned)
@@ -170,14 +171,14 @@ pub(crate) fn look(
     scanned: usize,
 ) -> Result<Finding, NoMemory>
     requires within { scanned ≤ length unread.now }
-    requires short { scanned ≤ 65537 }
+    requires short { scanned ≤ longest_line + 1 }
     requires none { line_length (take scanned unread.now) ≡ None }
     ensures first { IfOk result (λ r. r.taken ≡ first limit unread.now) }
     ensures scanned { IfOk result (λ r. IsScanned 0 r.scanned 0 unread.now) }
     ensures remembered { IfOk result (λ r. r.taken ≡ None
         → IsRemembered r.needed r.scanned unread.now) }
     ensures awaited { IfOk result (λ r. IsAwaited limit r.needed unread.now) }
-    ensures short { IfOk result (λ r. r.taken ≡ None → length unread.now ≤ limit + 65538) }
+    ensures short { IfOk result (λ r. r.taken ≡ None → length unread.now ≤ limit + (longest_line + 2)) }
 {
     match find_end(unread, scanned) {
         None => Ok(look_for_line(unread)),

@@ -10,7 +10,7 @@ use Rattle.tc_grammar.specs.Ending.{quiet_of, without_zero}
 use Rattle.tc_grammar.specs.Keyed.{delete_of, touch_of}
 use Rattle.tc_grammar.specs.Lines.{unknown, bad_format}
 use Rattle.tc_grammar.specs.Names.{verb_of}
-use Rattle.tc_grammar.specs.Numbers.{number_of, exptime_of}
+use Rattle.tc_grammar.specs.Numbers.{longest_block, number_of, exptime_of}
 use Rattle.tc_grammar.specs.Reading.{said_by, said_of}
 use Rattle.tc_grammar.specs.Retrieval.{get_of, gat_of}
 use Rattle.tc_grammar.specs.Storage.{ending_of, head_of, storage_line}
@@ -152,9 +152,9 @@ block-row limit kind (key ∷ []) = inr refl
 block-row limit kind (key ∷ flags ∷ []) = inr refl
 block-row limit kind (key ∷ flags ∷ exptime ∷ []) = inr refl
 block-row limit kind (key ∷ flags ∷ exptime ∷ bytes ∷ rest) =
-    go (number_of (2 ^ 31 - 1) bytes) refl (head-cases kind key flags exptime rest)
+    go (number_of longest_block bytes) refl (head-cases kind key flags exptime rest)
   where
-    long : (n : ℕ) (head : Head) → number_of (2 ^ 31 - 1) bytes ≡ Some n → head_of kind key flags exptime rest ≡ Some head
+    long : (n : ℕ) (head : Head) → number_of longest_block bytes ≡ Some n → head_of kind key flags exptime rest ≡ Some head
         → IsHead kind key flags exptime rest head → (b : Bool) → nat_le n limit ≡ b
         → RowOrBad limit (name.Store kind) (key ∷ flags ∷ exptime ∷ bytes ∷ rest)
     long n head x h is true b =
@@ -162,7 +162,7 @@ block-row limit kind (key ∷ flags ∷ exptime ∷ bytes ∷ rest) =
     long n head x h is false b =
         inl (rw (x, h, b) (too_large kind key flags exptime bytes rest head n is x (grind (arith, nat_tests))))
 
-    go : (n : Option ℕ) → number_of (2 ^ 31 - 1) bytes ≡ n → HeadOrNone kind key flags exptime rest
+    go : (n : Option ℕ) → number_of longest_block bytes ≡ n → HeadOrNone kind key flags exptime rest
         → RowOrBad limit (name.Store kind) (key ∷ flags ∷ exptime ∷ bytes ∷ rest)
     go None x h = inr (rw x refl)
     go (Some n) x (inl none) = inr (rw (x, none) refl)

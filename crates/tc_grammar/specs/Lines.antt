@@ -1,8 +1,9 @@
 -- What a line can come to, and the bounds that each keeps. Source: memcached's
 -- doc/protocol.txt, 'Error strings'; skipping is this project's own.
-use Rattle.std.specs.Prelude.{◌≡◌, ℕ, ◌+◌, ◌^◌, ◌≤◌, true, false, Option, Some, None, option_and_then}
+use Rattle.std.specs.Prelude.{◌≡◌, ℕ, ◌+◌, ◌≤◌, true, false, Option, Some, None, option_and_then}
 use Rattle.tc_grammar.specs.declared.command.Command.{Command}
 use Rattle.tc_grammar.specs.declared.fault.Fault.TheVariants.{UnknownCommand, BadFormat, TooLarge}
+use Rattle.tc_grammar.specs.Numbers.{longest_block}
 use Rattle.tc_grammar.specs.declared.line.Line.{Line}
 use Rattle.tc_grammar.specs.declared.line.Line.TheVariants.{Ready, NeedsBlock, Refused}
 
@@ -24,11 +25,11 @@ abbrev pub ready : Option Command → Line
 ready None = bad_format 0
 ready (Some command) = Ready command
 
--- a block is within the limit, and a skip is at most that of the greatest length, 2^31 - 1, and its line end
+-- a block is within the limit, and a skip is at most that of the longest block and its line end
 abbrev pub IsBounded : ℕ → Line → Type 0
 IsBounded limit (Ready command) = Unit {0}
 IsBounded limit (NeedsBlock head n) = n ≤ limit
-IsBounded limit (Refused fault quiet skip) = skip ≤ 2 ^ 31 + 1
+IsBounded limit (Refused fault quiet skip) = skip ≤ longest_block + 2
 
 -- a line is answered where it is refused, but for a block over the limit, which `noreply` keeps quiet
 abbrev pub IsAnswered : Line → Type 0

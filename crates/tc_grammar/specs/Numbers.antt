@@ -4,15 +4,24 @@ use Rattle.std.specs.Prelude.{ℕ, ◌+◌, ◌*◌, ◌-◌, ◌^◌, Bool, ◌
 use Rattle.std.specs.Prelude.{Option, Some, None, option_map, ℤ, pos, neg_ℤ}
 use Rattle.std.specs.Str.{all_ascii_digits}
 
+-- the most digits of a number
+abbrev pub longest_number : ℕ
+longest_number = 20
+
+-- the most bytes that a block may be announced with
+abbrev pub longest_block : ℕ
+longest_block = 2 ^ 31 - 1
+
 -- the number that the digits of n and then these digits spell, in base ten
 abbrev pub value_after : ℕ → List ℕ → ℕ
 value_after n [] = n
 value_after n (digit ∷ digits) = value_after (10 * n + (digit - 48)) digits
 
--- whether a token is 1 to 20 digits that spell at most the greatest number allowed
+-- whether a token is digits, not too many, that spell at most the greatest number allowed
 abbrev pub is_number : ℕ → List ℕ → Bool
 is_number greatest token =
-    nat_lt 0 (length token) && nat_le (length token) 20 && all_ascii_digits token && nat_le (value_after 0 token) greatest
+    nat_lt 0 (length token) && nat_le (length token) longest_number && all_ascii_digits token
+    && nat_le (value_after 0 token) greatest
 
 -- the number that a token spells, where it is one; leading zeros are allowed
 unfoldable pub number_of : ℕ → List ℕ → Option ℕ

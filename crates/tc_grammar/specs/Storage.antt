@@ -3,7 +3,7 @@ use Rattle.std.specs.Prelude.{ℕ, ◌+◌, ◌-◌, ◌^◌, Bool, nat_le, if�
 use Rattle.tc_item.specs.KeyRule.{is_key}
 use Rattle.tc_grammar.specs.Ending.{quiet_of}
 use Rattle.tc_grammar.specs.Lines.{◌>>=◌, bad_format}
-use Rattle.tc_grammar.specs.Numbers.{number_of, exptime_of}
+use Rattle.tc_grammar.specs.Numbers.{longest_block, number_of, exptime_of}
 use Rattle.tc_grammar.specs.declared.command.StoreKind.{StoreKind}
 use Rattle.tc_grammar.specs.declared.command.StoreKind.TheVariants.{Cas}
 use Rattle.tc_grammar.specs.declared.command.Head.{Head}
@@ -44,5 +44,5 @@ announced limit (Some n) (Some head) = if nat_le n limit then NeedsBlock head n 
 -- a storage line: `<key> <flags> <exptime> <bytes>`, and what follows; the length is the fifth token, however many follow
 unfoldable pub storage_line : ℕ → StoreKind → List (List ℕ) → Line
 storage_line limit kind (key ∷ flags ∷ exptime ∷ bytes ∷ rest) =
-    announced limit (number_of (2 ^ 31 - 1) bytes) (head_of kind key flags exptime rest)
+    announced limit (number_of longest_block bytes) (head_of kind key flags exptime rest)
 storage_line limit kind _ = bad_format 0

@@ -7,7 +7,7 @@ use Rattle.tc_item.specs.KeyRule.{is_key}
 use Rattle.tc_grammar.specs.Ending.{quiet_of, without_zero}
 use Rattle.tc_grammar.specs.Lines.{unknown, bad_format}
 use Rattle.tc_grammar.specs.Names.{verb_of}
-use Rattle.tc_grammar.specs.Numbers.{number_of, exptime_of}
+use Rattle.tc_grammar.specs.Numbers.{longest_block, number_of, exptime_of}
 use Rattle.tc_grammar.specs.Reading.{reading}
 use Rattle.tc_grammar.specs.Storage.{ending_of}
 use Rattle.tc_grammar.specs.Tokens.{tokens}
@@ -34,10 +34,10 @@ pub record IsHead (kind : StoreKind) (key flags exptime : List ℕ) (rest : List
 -- a row of the table: the tokens behind a name, and what they spell
 pub data IsRow (limit : ℕ) : Verb → List (List ℕ) → Line → Type 0 where
   block : (kind : StoreKind) (key flags exptime bytes : List ℕ) (rest : List (List ℕ)) (head : Head) (n : ℕ) →
-      IsHead kind key flags exptime rest head → number_of (2 ^ 31 - 1) bytes ≡ Some n → n ≤ limit →
+      IsHead kind key flags exptime rest head → number_of longest_block bytes ≡ Some n → n ≤ limit →
       IsRow limit (name.Store kind) (key ∷ flags ∷ exptime ∷ bytes ∷ rest) (NeedsBlock head n)
   too_large : (kind : StoreKind) (key flags exptime bytes : List ℕ) (rest : List (List ℕ)) (head : Head) (n : ℕ) →
-      IsHead kind key flags exptime rest head → number_of (2 ^ 31 - 1) bytes ≡ Some n → limit < n →
+      IsHead kind key flags exptime rest head → number_of longest_block bytes ≡ Some n → limit < n →
       IsRow limit (name.Store kind) (key ∷ flags ∷ exptime ∷ bytes ∷ rest) (Refused TooLarge head.quiet (n + 2))
   get : (form : Form) (key : List ℕ) (keys : List (List ℕ)) →
       list_all is_key (key ∷ keys) ≡ true →
@@ -72,7 +72,7 @@ pub data IsRow (limit : ℕ) : Verb → List (List ℕ) → Line → Type 0 wher
 
 -- what a line of no row skips: after a storage name, the block that the fourth token behind it announces, and two bytes more
 abbrev pub skip_of : Verb → List (List ℕ) → ℕ
-skip_of (name.Store kind) (key ∷ flags ∷ exptime ∷ bytes ∷ rest) = option_map_or (λ n. n + 2) (number_of (2 ^ 31 - 1) bytes) 0
+skip_of (name.Store kind) (key ∷ flags ∷ exptime ∷ bytes ∷ rest) = option_map_or (λ n. n + 2) (number_of longest_block bytes) 0
 skip_of _ _ = 0
 
 -- what tokens spell: no command's name is unknown; a known name spells its row, and a bad format where it has none

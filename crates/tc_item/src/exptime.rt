@@ -2,10 +2,7 @@
 ghost use Rattle.std.specs.Prelude.{◌≡◌};
 ghost use Rattle.tc_item.specs.Expiry.{due_of};
 
-use crate::{Due, Moment};
-
-/// The longest exptime that counts from now: thirty days, in seconds.
-pub const LONGEST_OFFSET: i64 = 2_592_000;
+use crate::{Due, LONGEST_OFFSET, Moment};
 
 /// The due of an exptime: 0 is never, a negative one is now, up to thirty days is so long from
 /// the moment handed in, and above is that second since 1970.

@@ -3,7 +3,7 @@ ghost use Rattle.std.specs.Prelude.{◌≡◌};
 ghost use Rattle.tc_item.specs.Expiry.{is_before};
 ghost use Rattle.tc_item.specs.Weight.{weight_of};
 
-use crate::{Blob, Due, Key, Moment};
+use crate::{Blob, Due, Key, Moment, RECORD_WEIGHT};
 
 /// What is kept under a key.
 #[derive(Debug, PartialEq, Eq, Drop)]
@@ -29,5 +29,5 @@ pub fn alive(item: &Item, now: Moment) -> bool
 pub fn weight(key: &Key, data_len: u32) -> u64
     ensures { result ≡ weight_of key.now data_len }
 {
-    key.as_bytes().len() as u64 + u64::from(data_len) + 64
+    key.as_bytes().len() as u64 + u64::from(data_len) + RECORD_WEIGHT
 }

@@ -4,20 +4,18 @@ ghost use Rattle.std.specs.List.{list_all};
 ghost use Rattle.std.specs.Str.{bytes_eq};
 ghost use Rattle.std.specs.Cmp.Rules.{comparing, hashing};
 ghost use Rattle.std.proofs.Common.{rules};
+ghost use Rattle.tc_item.specs.Bounds.{longest_key};
 ghost use Rattle.tc_item.specs.KeyRule.{is_key, is_key_byte};
 ghost use Rattle.tc_item.specs.KeyFaults.{key_fault};
 ghost use Rattle.tc_item.specs.declared.key.KeyFault.TheVariants.{NoMemory as OutOfMemory};
 
-use crate::{Few, NoMemory, TryCopy};
+use crate::{Few, LONGEST_KEY, NoMemory, TryCopy};
 use smallvec::SmallVec;
 use std::alloc::Global;
 use std::error::Error;
 use std::fmt;
 use std::hash::{Hash, Hasher};
 use std::marker::Model;
-
-/// The most bytes of a key.
-pub const LONGEST_KEY: usize = 250;
 
 /// Why bytes are no key, in the order in which the reasons are looked for; or memory was refused.
 #[derive(Clone, Copy, Debug, PartialEq, Eq)]
@@ -32,7 +30,7 @@ impl fmt::Display for KeyFault {
     fn fmt<W: fmt::Write>(&self, f: &mut fmt::Formatter<W>) -> fmt::Result {
         match self {
             KeyFault::Empty => write!(f, "the key is empty"),
-            KeyFault::TooLong => write!(f, "the key has more than 250 bytes"),
+            KeyFault::TooLong => write!(f, "the key has more than {LONGEST_KEY} bytes"),
             KeyFault::BadByte => write!(f, "the key has a control byte or a space"),
             KeyFault::NoMemory => write!(f, "out of memory"),
         }
@@ -118,7 +116,7 @@ impl Key {
         ensures bytes { result.now ≡ self.now }
         ensures good { IsTrue (is_key self.now) }
         ensures not_empty { 0 < length self.now }
-        ensures short { length self.now ≤ 250 }
+        ensures short { length self.now ≤ longest_key }
     {
         self.bytes.as_slice()
     }

@@ -9,6 +9,7 @@
 #![tactic(auto)]
 
 mod blob;
+mod bounds;
 pub mod exptime;
 mod few;
 mod item;
@@ -18,9 +19,13 @@ mod no_memory;
 mod slot;
 
 pub use blob::Blob;
+pub use bounds::{
+    LARGEST_BUDGET, LARGEST_ITEM, LONGEST_KEY, LONGEST_OFFSET, MOMENT_LIMIT, RECORD_WEIGHT,
+    SMALLEST_BUDGET,
+};
 pub use few::{Few, TryCopy};
 pub use item::{Item, alive, weight};
-pub use key::{Key, KeyFault, Keys, LONGEST_KEY, is_key};
+pub use key::{Key, KeyFault, Keys, is_key};
 pub use moment::{Due, Moment};
 pub use no_memory::NoMemory;
 pub use slot::Slot;

@@ -1,7 +1,9 @@
 //! Moments, and until when an item is alive.
-ghost use Rattle.std.specs.Prelude.{◌≡◌, ◌<◌, ◌≤◌, ◌^◌, max, MatchOption};
+ghost use Rattle.std.specs.Prelude.{◌≡◌, ◌<◌, ◌≤◌, max, MatchOption};
+ghost use Rattle.tc_item.specs.Bounds.{moment_limit};
 ghost use Rattle.tc_item.specs.Expiry.{is_before};
 
+use crate::MOMENT_LIMIT;
 use std::marker::Model;
 
 /// A moment: whole seconds since 1970 (Unix time), below 2^40.
@@ -11,13 +13,14 @@ pub struct Moment {
 }
 
 impl Model for Moment {
-    ghost use Rattle.std.specs.Prelude.{ℕ, ◌<◌, ◌^◌};
+    ghost use Rattle.std.specs.Prelude.{ℕ, ◌<◌};
+    ghost use Rattle.tc_item.specs.Bounds.{moment_limit};
 
     ghost Value = { ℕ };
 
     ghost view = { λ m. m.seconds };
 
-    ghost invariant = { λ m. m.seconds < 2 ^ 40 };
+    ghost invariant = { λ m. m.seconds < moment_limit };
 
     ghost inverse = { λ n. record { seconds = n } };
 }
@@ -28,12 +31,12 @@ impl Moment {
 
     /// The greatest moment, 2^40 - 1.
     pub const LAST: Moment = Moment {
-        seconds: (1 << 40) - 1,
+        seconds: MOMENT_LIMIT - 1,
     };
 
     /// The moment of so many seconds.
     pub fn new(seconds: u64) -> Moment
-        requires { seconds < 2 ^ 40 }
+        requires { seconds < moment_limit }
         ensures { result ≡ seconds }
     {
         Moment { seconds }
@@ -41,9 +44,9 @@ impl Moment {
 
     /// The moment of so many seconds, where they are below 2^40.
     pub fn try_new(seconds: u64) -> Option<Moment>
-        ensures { MatchOption result (2 ^ 40 ≤ seconds) (λ m. m ≡ seconds) }
+        ensures { MatchOption result (moment_limit ≤ seconds) (λ m. m ≡ seconds) }
     {
-        if seconds < 1 << 40 {
+        if seconds < MOMENT_LIMIT {
             Some(Moment::new(seconds))
         } else {
             None
@@ -53,7 +56,7 @@ impl Moment {
     /// The seconds since 1970.
     pub fn seconds(self) -> u64
         ensures seconds { result ≡ self }
-        ensures bounded { result < 2 ^ 40 }
+        ensures bounded { result < moment_limit }
     {
         self.seconds
     }

@@ -1,5 +1,6 @@
 //! A cache that can begin empty.
-ghost use Rattle.std.specs.Prelude.{◌≡◌, ◌≤◌, ◌^◌, IfOk};
+ghost use Rattle.std.specs.Prelude.{◌≡◌, ◌≤◌, IfOk};
+ghost use Rattle.tc_item.specs.Bounds.{smallest_budget, largest_budget, largest_item};
 ghost use Rattle.tc_plain.specs.UserCache.{fresh};
 
 use std::alloc::Global;
@@ -18,10 +19,10 @@ pub trait Kind: Cache {
         largest: u64,
         hasher: RandomState,
     ) -> Result<Self, NoMemory>
-        requires least_budget { 65536 ≤ budget }
-        requires most_budget { budget ≤ 2 ^ 30 }
+        requires least_budget { smallest_budget ≤ budget }
+        requires most_budget { budget ≤ largest_budget }
         requires least_largest { 1 ≤ largest }
-        requires most_largest { largest ≤ 1048576 }
+        requires most_largest { largest ≤ largest_item }
         ensures begun { IfOk result (λ cache. Self.settled cache ≡ fresh budget largest) };
 }
 

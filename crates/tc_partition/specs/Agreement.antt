@@ -1,8 +1,9 @@
 -- How index, entries, lists and wheel agree, each seen as a function: a slot by key,
 -- an entry by slot, a due by slot. Source: this project's own.
-use Rattle.std.specs.Prelude.{◌≡◌, ℕ, ◌^◌, ◌==◌, nat_lt, cond, List, [], Option, Some, None, option_map}
+use Rattle.std.specs.Prelude.{◌≡◌, ℕ, ◌==◌, nat_lt, cond, List, [], Option, Some, None, option_map}
 use Rattle.std.specs.Str.{bytes_eq}
 use Rattle.tc_model.specs.Areas.{Areas, total}
+use Rattle.tc_item.specs.Bounds.{moment_limit}
 use Rattle.tc_item.specs.declared.moment.Due.{Due}
 use Rattle.tc_item.specs.declared.moment.Due.TheVariants.{Never, At}
 use Rattle.tc_item.specs.declared.slot.Slot.{Slot}
@@ -36,7 +37,7 @@ entry_or (Some e) = e
 -- a due as the wheel keeps it: none for one that no moment reaches
 abbrev pub due_by : Due → Option ℕ
 due_by Never = None
-due_by (At second) = cond (nat_lt second (2 ^ 40)) (Some second) None
+due_by (At second) = cond (nat_lt second moment_limit) (Some second) None
 
 -- when the wheel gives what a slot holds
 abbrev pub wheel_due : Option Entry → Option ℕ

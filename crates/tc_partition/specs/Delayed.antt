@@ -2,6 +2,7 @@
 use Rattle.std.specs.Prelude.{ℕ, zero, suc, ◌+◌, nat_lt, cond, List, length, map}
 use Rattle.tc_grammar.specs.declared.command.Command.{Command}
 use Rattle.tc_grammar.specs.declared.command.Command.TheVariants.{Get}
+use Rattle.tc_readbuf.specs.Places.{places}
 use Rattle.tc_plain.specs.UserCache.{UserCache}
 use Rattle.tc_plain.specs.Doing.{with_live}
 use Rattle.tc_partition.specs.Deferred.{Waiting, Lazy, IsLazy, settled, hit, deferred}
@@ -31,9 +32,9 @@ noted_in d key = record d { waiting = (deferred (lazy_in d) key).waiting }
 abbrev pub hit_in : List ℕ → UserCache → UserCache
 hit_in key k = with_live k (hit key k.live)
 
--- how many wait once one more was noted: where 128 wait it alone is left
+-- how many wait once one more was noted: where no place is free it alone is left
 abbrev pub waits_next : ℕ → ℕ
-waits_next n = cond (nat_lt n 128) (n + 1) 1
+waits_next n = cond (nat_lt n places) (n + 1) 1
 
 -- how many wait once so many more were noted
 abbrev pub waits_after : ℕ → ℕ → ℕ

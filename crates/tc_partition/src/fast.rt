@@ -18,7 +18,8 @@
 //! only a settle asks about, and a command that settles drains first. A pending flush that is due
 //! is done by the next command that drains, behind the look-ups before it; until then a look-up
 //! finds nothing under any key.
-ghost use Rattle.std.specs.Prelude.{◌≡◌, ◌≤◌, ◌^◌, [], length, drop, IfOk, OnOk, OnErr};
+ghost use Rattle.std.specs.Prelude.{◌≡◌, ◌≤◌, [], length, drop, IfOk, OnOk, OnErr};
+ghost use Rattle.tc_item.specs.Bounds.{smallest_budget, largest_budget, largest_item};
 ghost use Rattle.tc_stats.specs.UserCounters.{noted as counted_noted};
 ghost use Rattle.tc_plain.specs.Soundness.{HasShortKey};
 ghost use Rattle.tc_plain.specs.UserCache.{fresh, advance};
@@ -90,10 +91,10 @@ impl Fast {
         largest: u64,
         hasher: RandomState,
     ) -> Result<Fast, NoMemory>
-        requires least_budget { 65536 ≤ budget }
-        requires most_budget { budget ≤ 2 ^ 30 }
+        requires least_budget { smallest_budget ≤ budget }
+        requires most_budget { budget ≤ largest_budget }
         requires least_largest { 1 ≤ largest }
-        requires most_largest { largest ≤ 1048576 }
+        requires most_largest { largest ≤ largest_item }
         ensures fresh { IfOk result (λ fast. settled_in fast ≡ fresh budget largest) }
         ensures waiting { IfOk result (λ fast. fast.waiting ≡ []) }
     {

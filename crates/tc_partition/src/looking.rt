@@ -5,6 +5,7 @@ ghost use Rattle.tc_plain.specs.AreaLists.{change_of, found_in};
 ghost use Rattle.tc_plain.specs.Soundness.{AreSound};
 ghost use Rattle.tc_plain.specs.UserCache.{advance};
 ghost use Rattle.tc_plain.specs.Doing.{with_live, all_looked_up};
+ghost use Rattle.tc_readbuf.specs.Places.{places};
 ghost use Rattle.tc_partition.specs.LiveSlots.{live_of};
 ghost use Rattle.tc_partition.specs.WaitingSlots.{AreSought, placed_in};
 ghost use Rattle.tc_partition.specs.Delayed.{settled_in, noted_in, hit_in, waits_next, waits_after};
@@ -121,7 +122,7 @@ pub(crate) fn look_all(
 
 /// Notes behind what waits, where there is room.
 fn push(waiting: &mut ReadBuf, noted: Noted, moment: Moment)
-    requires { length waiting.old < 128 }
+    requires { length waiting.old < places }
     ensures { waiting.new ≡ waiting.old ++ (noted, moment) ∷ [] }
 {
     let _room = waiting.note(noted, moment);
@@ -142,7 +143,7 @@ impl Fast {
 
     /// Notes a look-up of a key, which was found at this place, or holds nothing.
     fn note(&mut self, key: &Key, place: Option<Slot>)
-        requires room { length self.old.waiting < 128 }
+        requires room { length self.old.waiting < places }
         requires missed { place ≡ None → held key.now (settled_in self.old).live.areas ≡ None }
         ensures state { self.new ≡ noted_in self.old key.now }
         ensures settled { settled_in self.new ≡ hit_in key.now (settled_in self.old) }
@@ -163,7 +164,7 @@ impl Fast {
 
     /// Whether one more look-up may wait.
     fn has_room(&self) -> bool
-        ensures { result ≡ nat_lt (length self.now.waiting) 128 }
+        ensures { result ≡ nat_lt (length self.now.waiting) places }
     {
         self.waiting.len() < PLACES
     }

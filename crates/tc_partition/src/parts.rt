@@ -16,7 +16,7 @@ use slab::Slab;
 use std::alloc::Global;
 use std::hash::RandomState;
 use std::sync::atomic::{AtomicU64, Ordering};
-use tc_item::{Due, Key, Moment, NoMemory, Slot};
+use tc_item::{Due, Key, MOMENT_LIMIT, Moment, NoMemory, Slot};
 use tc_plain::Entry;
 use tc_sketch::{Sketch, hash};
 use tc_slru::Lists;
@@ -79,7 +79,7 @@ pub fn reached(due: Due) -> Option<Moment>
     match due {
         Due::Never => None,
         Due::At(second) => {
-            if second < 1 << 40 {
+            if second < MOMENT_LIMIT {
                 Some(Moment::new(second))
             } else {
                 None

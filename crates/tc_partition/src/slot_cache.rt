@@ -11,6 +11,7 @@ ghost use Rattle.tc_plain.specs.UserCache.{fresh, advance};
 ghost use Rattle.tc_plain.specs.Storing.{stored};
 ghost use Rattle.tc_plain.specs.Doing.{counted_under, numbers_of};
 ghost use Rattle.tc_plain.specs.Plans.{outcome_of, planned, IsLightPlan};
+ghost use Rattle.tc_item.specs.Bounds.{smallest_budget, largest_budget, largest_item};
 ghost use Rattle.tc_plain.specs.AreaLists.{HasRoom, live_of as lists_live};
 ghost use Rattle.tc_partition.specs.LiveSlots.{live_of, plan_of, IsKeyed, IsFree};
 ghost use Rattle.tc_partition.specs.SlotCaches.{cache_of, IsSlotCache};
@@ -47,10 +48,10 @@ impl SlotCache {
         largest: u64,
         hasher: RandomState,
     ) -> Result<SlotCache, NoMemory>
-        requires least_budget { 65536 ≤ budget }
-        requires most_budget { budget ≤ 2 ^ 30 }
+        requires least_budget { smallest_budget ≤ budget }
+        requires most_budget { budget ≤ largest_budget }
         requires least_largest { 1 ≤ largest }
-        requires most_largest { largest ≤ 1048576 }
+        requires most_largest { largest ≤ largest_item }
         ensures fresh { IfOk result (λ fast. cache_of fast ≡ fresh budget largest) }
         ensures sound { IfOk result IsSlotCache }
     {

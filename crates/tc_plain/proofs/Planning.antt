@@ -1,7 +1,8 @@
 -- What a plan comes to is what its command comes to.
-use Rattle.std.specs.Prelude.{max, option_map, MatchOption, ◌^◌}
+use Rattle.std.specs.Prelude.{max, option_map, MatchOption}
 use Rattle.std.proofs.Common.{◌≡◌, ◌≤◌, ℕ, ◌+◌, Bool, true, false, cond, List, Option, Some, None, refl, sym, ◌∙◌, ap, arith, Bor}
 use Rattle.tc_model.specs.Areas.{Limits, total}
+use Rattle.tc_item.specs.Bounds.{largest_budget}
 use Rattle.tc_item.specs.declared.moment.Due.{Due}
 use Rattle.tc_grammar.specs.declared.command.Head.{Head}
 use Rattle.tc_stats.specs.declared.outcome.Outcome.{Outcome}
@@ -61,7 +62,7 @@ sound_planned k (Changes end key draft) l h = go (is_worn k) refl
     go false w = sound_changed (record { key = key; item = numbered (k.last + 1) draft }) k w l h
 
 -- a sound cache weighs no more than its budget
-pub weighs_little : (k : UserCache) → IsSound k → total weight k.live.areas ≤ 2 ^ 30
+pub weighs_little : (k : UserCache) → IsSound k → total weight k.live.areas ≤ largest_budget
 weighs_little k h =
     let window : k.live.limits.window ≡ (limits_of k.budget).window = ap (λ (t : Limits). t.window) h.limits in
     let main : k.live.limits.main ≡ (limits_of k.budget).main = ap (λ (t : Limits). t.main) h.limits in

@@ -8,6 +8,7 @@ use Rattle.std.proofs.Common.{None, refl, sym, ◌∙◌, ap, subst, arith}
 use Rattle.std.proofs.lemmas.Bool.{ltb-true, ltb-false, eqb-false, or_parts, and_parts}
 use Rattle.std.proofs.lemmas.Fmt.{length-decimal-le}
 use Rattle.tc_model.specs.Areas.{Limits}
+use Rattle.tc_item.specs.Bounds.{smallest_budget, longest_key}
 use Rattle.tc_item.specs.declared.moment.Due.{Due}
 use Rattle.tc_item.specs.declared.item.Item.{Item}
 use Rattle.tc_item.specs.Expiry.{due_of}
@@ -133,14 +134,14 @@ pub counted-lt : (way : Way) (n by : ℕ) → n < 2 ^ 64 → counted way n by < 
 counted-lt Incr n by h = omega arith
 counted-lt Decr n by h = omega arith
 
-pub light_number : (limits : Limits) (budget : ℕ) (key : List ℕ) (n : ℕ) → limits ≡ limits_of budget → 65536 ≤ budget
-    → length key ≤ 250 → n < 2 ^ 64 → weight_of key (length (text_of n)) ≤ limits.main
+pub light_number : (limits : Limits) (budget : ℕ) (key : List ℕ) (n : ℕ) → limits ≡ limits_of budget → smallest_budget ≤ budget
+    → length key ≤ longest_key → n < 2 ^ 64 → weight_of key (length (text_of n)) ≤ limits.main
 light_number limits budget key n same big short small =
     let l = length-decimal-le 20 n (omega arith) (omega arith) small in
     let main : limits.main ≡ (limits_of budget).main = ap (λ (t : Limits). t.main) same in
     omega (arith, l, main)
 
-sound_counted : (way : Way) (key : List ℕ) (by : ℕ) (k : UserCache) → length key ≤ 250 → IsSound k
+sound_counted : (way : Way) (key : List ℕ) (by : ℕ) (k : UserCache) → length key ≤ longest_key → IsSound k
     → IsSound (counted_under way by (held key k.live.areas) k).1
 sound_counted way key by k short h = go (held key k.live.areas) refl
   where
@@ -150,7 +151,7 @@ sound_counted way key by k short h = go (held key k.live.areas) refl
     up e n f s true w = h
     up e n f s false w =
         let same : e.key ≡ key = (held_light k.live.limits key k.live.areas e f h.areas).0 in
-        let le : length e.key ≤ 250 = subst (λ q. length q ≤ 250) (sym same) short in
+        let le : length e.key ≤ longest_key = subst (λ q. length q ≤ longest_key) (sym same) short in
         sound_changed (with_item e (with_data (k.last + 1) (text_of n) e.item)) k w
         (light_number k.live.limits k.budget e.key n h.limits h.least_budget le s) h
 

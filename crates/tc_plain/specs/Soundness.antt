@@ -2,6 +2,7 @@
 use Rattle.std.specs.Prelude.{◌≡◌, ℕ, ◌-◌, ◌^◌, ◌≤◌, cond, List, [], length, Some, All, ⊤}
 use Rattle.tc_model.specs.Areas.{Areas, Limits, total, settle}
 use Rattle.tc_model.specs.Within.{IsWithin}
+use Rattle.tc_item.specs.Bounds.{smallest_budget, largest_budget, largest_item, longest_key}
 use Rattle.tc_item.specs.declared.item.Item.{Item}
 use Rattle.tc_grammar.specs.declared.command.Command.{Command}
 use Rattle.tc_grammar.specs.declared.command.Command.TheVariants.{Count}
@@ -28,19 +29,19 @@ pub record AreSound (limits : Limits) (a : Areas Entry) : Type 0 where
 -- a cache
 pub record IsSound (k : UserCache) : Type 0 where
   -- the budget and the largest item are in their ranges
-  pub least_budget : 65536 ≤ k.budget
-  pub most_budget : k.budget ≤ 2 ^ 30
+  pub least_budget : smallest_budget ≤ k.budget
+  pub most_budget : k.budget ≤ largest_budget
   pub least_largest : 1 ≤ k.largest
-  pub most_largest : k.largest ≤ 1048576
+  pub most_largest : k.largest ≤ largest_item
   -- the limits are those of the budget
   pub limits : k.live.limits ≡ limits_of k.budget
   pub areas : AreSound k.live.limits k.live.areas
   -- the last cas number is one of 64 bits
   pub last : k.last ≤ 2 ^ 64 - 1
 
--- a key that is counted up or down has at most 250 bytes
+-- a key that is counted up or down is no longer than keys are
 abbrev pub HasShortKey : Command → Type 0
-HasShortKey (Count way key value quiet) = length key ≤ 250
+HasShortKey (Count way key value quiet) = length key ≤ longest_key
 HasShortKey command = ⊤
 
 -- a sound cache stays sound, whatever is asked of it

@@ -1,10 +1,11 @@
 //! Items under their keys.
 ghost use Rattle.std.specs.Prelude.{◌≡◌, ◌+◌, ◌^◌, ◌<◌, IfOk};
+ghost use Rattle.tc_item.specs.Bounds.{longest_key, record_weight};
 ghost use Rattle.tc_plain.specs.Entries.{weight, with_item};
 ghost use Rattle.tc_plain.specs.AreaLists.{change_of};
 
 use std::alloc::Global;
-use tc_item::{Due, Item, Key, NoMemory};
+use tc_item::{Due, Item, Key, NoMemory, RECORD_WEIGHT};
 use tc_stats::Hit;
 
 /// An item under its key.
@@ -18,9 +19,9 @@ impl Entry {
     /// What the entry weighs, in bytes.
     pub fn weight(&self) -> u64
         ensures value { result ≡ weight self.now }
-        ensures within { result < 2 ^ 63 + 314 }
+        ensures within { result < 2 ^ 63 + (longest_key + record_weight) }
     {
-        self.key.as_bytes().len() as u64 + self.item.blob.as_slice().len() as u64 + 64
+        self.key.as_bytes().len() as u64 + self.item.blob.as_slice().len() as u64 + RECORD_WEIGHT
     }
 
     /// What a look-up shows of the entry.

@@ -1,5 +1,6 @@
 //! What each area may weigh.
-ghost use Rattle.std.specs.Prelude.{◌≡◌, ◌≤◌, ◌^◌};
+ghost use Rattle.std.specs.Prelude.{◌≡◌, ◌≤◌};
+ghost use Rattle.tc_item.specs.Bounds.{largest_budget};
 ghost use Rattle.tc_plain.specs.EvictionState.{limits_of};
 
 use std::marker::Model;
@@ -23,10 +24,10 @@ impl Model for Limits {
 }
 
 impl Limits {
-    /// The limits of a budget, 65,536 to 2^30 bytes: a hundredth for the window, the rest for main, and
-    /// four fifths of main for protected.
+    /// The limits of a budget: a hundredth for the window, the rest for main, and four fifths of main for
+    /// protected.
     pub fn of(budget: u64) -> Limits
-        requires { budget ≤ 2 ^ 30 }
+        requires { budget ≤ largest_budget }
         ensures { result ≡ limits_of budget }
     {
         let window = budget / 100;

@@ -1,5 +1,6 @@
 //! The plain cache: three lists, with nothing deferred.
-ghost use Rattle.std.specs.Prelude.{◌≡◌, ◌≤◌, ◌^◌, ⊤, IfOk, OnOk, OnErr};
+ghost use Rattle.std.specs.Prelude.{◌≡◌, ◌≤◌, ⊤, IfOk, OnOk, OnErr};
+ghost use Rattle.tc_item.specs.Bounds.{smallest_budget, largest_budget, largest_item};
 ghost use Rattle.tc_plain.specs.EvictionState.{held};
 ghost use Rattle.tc_plain.specs.UserCache.{fresh, advance};
 ghost use Rattle.tc_plain.specs.Storing.{stored};
@@ -23,9 +24,9 @@ use tc_stats::{Counters, Hits, Outcome, Statistics};
 /// one.
 #[derive(Drop)]
 pub struct Plain {
-    /// The most that all items may weigh together, 65,536 to 2^30 bytes.
+    /// The most bytes that all items may weigh together, within the range of budgets.
     pub budget: u64,
-    /// The most data bytes of one item, 1 to 1,048,576.
+    /// The most data bytes of one item, 1 to those of the largest there is.
     pub largest: u64,
     /// What look-ups touch: the entries, how often keys were seen, the pending flush and the moment.
     pub live: EvictionState,
@@ -62,10 +63,10 @@ impl Model for Plain {
 impl Plain {
     /// An empty cache of this budget, whose items have at most `largest` bytes of data.
     pub fn new(alloc: Global, budget: u64, largest: u64) -> Result<Plain, NoMemory>
-        requires least_budget { 65536 ≤ budget }
-        requires most_budget { budget ≤ 2 ^ 30 }
+        requires least_budget { smallest_budget ≤ budget }
+        requires most_budget { budget ≤ largest_budget }
         requires least_largest { 1 ≤ largest }
-        requires most_largest { largest ≤ 1048576 }
+        requires most_largest { largest ≤ largest_item }
         ensures { IfOk result (λ plain. plain ≡ fresh budget largest) }
     {
         let live = EvictionState {

@@ -1,6 +1,7 @@
 //! The ring of records that wait.
 ghost use Rattle.std.specs.Prelude.{◌≡◌, ◌↔◌, ◌≤◌, ◌∷◌, ◌++◌, [], length, IfOk, IsErr, OnErr, OnOk, IsTrue, MatchOption};
 ghost use Rattle.std.specs.Prelude.{slice_get};
+ghost use Rattle.tc_readbuf.specs.Places.{places};
 
 use crate::noted::Noted;
 use circular_buffer::HeapCircularBuffer;
@@ -33,6 +34,7 @@ pub struct ReadBuf {
 
 impl Model for ReadBuf {
     ghost use Rattle.std.specs.Prelude.{◌≡◌, ◌≤◌, ℕ, List, length};
+    ghost use Rattle.tc_readbuf.specs.Places.{places};
     ghost use Rattle.tc_readbuf.specs.declared.noted.Noted.{Noted};
 
     ghost Value = { List (Noted × ℕ) };
@@ -40,8 +42,8 @@ impl Model for ReadBuf {
     ghost view = { λ b. b.ring.items };
 
     ghost invariant = { λ b. record {
-      places : b.ring.capacity ≡ 128;
-      within : length b.ring.items ≤ 128;
+      room : b.ring.capacity ≡ places;
+      within : length b.ring.items ≤ places;
     } };
 }
 
@@ -58,7 +60,7 @@ impl ReadBuf {
     /// and nothing changes.
     pub fn note(&mut self, noted: Noted, moment: Moment) -> Result<(), Full>
         ensures noted { OnOk result (self.new ≡ self.old ++ (noted, moment) ∷ []) }
-        ensures full { IsErr result ↔ (length self.old ≡ 128) }
+        ensures full { IsErr result ↔ (length self.old ≡ places) }
         ensures unchanged_on_err { OnErr result (self.new ≡ self.old) }
     {
         match self.ring.try_push_back((noted, moment)) {
@@ -84,7 +86,7 @@ impl ReadBuf {
 
     /// Whether as many records wait as there are places.
     pub fn is_full(&self) -> bool
-        ensures { IsTrue result ↔ (length self.now ≡ 128) }
+        ensures { IsTrue result ↔ (length self.now ≡ places) }
     {
         self.ring.is_full()
     }
@@ -92,7 +94,7 @@ impl ReadBuf {
     /// How many records wait.
     pub fn len(&self) -> usize
         ensures count { result ≡ length self.now }
-        ensures at_most { result ≤ 128 }
+        ensures at_most { result ≤ places }
     {
         self.ring.len()
     }

@@ -1,12 +1,21 @@
 -- What a line of a script says. Source: docs/PROTOCOL.md, 'Scripts'.
 use Rattle.std.specs.Prelude.{ℕ, ◌-◌, ◌^◌, Bool, true, ◌==◌, bytes_eq, codes, if◌then◌else◌, List, [], ◌∷◌, Option, Some, None}
 use Rattle.std.specs.Prelude.{option_map}
+use Rattle.tc_item.specs.Bounds.{largest_item, moment_limit}
 use Rattle.tc_users.specs.declared.users.UserSpec.{UserSpec}
 use Rattle.tc_script.specs.declared.action.Action.{Action}
 use Rattle.tc_script.specs.declared.action.Action.TheVariants.{Open, Piece, Fill, Act, Shut, Tick, Keep}
 use Rattle.tc_script.specs.declared.line.Line.{Line}
 use Rattle.tc_script.specs.declared.line.Line.TheVariants.{Blank, User, Second, Largest, Step}
 use Rattle.tc_script.specs.Texts.{bind, first_field, short_number, word_number, count_of, hex_byte, some_bytes}
+
+-- the most bytes of a fill
+abbrev pub longest_fill : ℕ
+longest_fill = 2097152
+
+-- the most acts of one line
+abbrev pub most_acts : ℕ
+most_acts = 1000000
 
 -- a line with nothing to do: it is empty, or begins with a number sign, byte 35
 abbrev pub is_blank : List ℕ → Bool
@@ -15,7 +24,7 @@ is_blank (b ∷ line) = b == 35
 
 -- a user's row as a user line gives it
 abbrev pub row_of : List ℕ → List ℕ → ℕ → UserSpec
-row_of name token budget = record { name = name; token = token; second = None; budget = budget; largest = 1048576 }
+row_of name token budget = record { name = name; token = token; second = None; budget = budget; largest = largest_item }
 
 -- user <name> <token> <budget>
 abbrev pub user_line : List ℕ → Option Line
@@ -52,7 +61,7 @@ fill_line rest =
     bind (first_field rest) (λ a.
     bind (first_field a.1) (λ b.
     bind (word_number a.0) (λ c.
-    bind (count_of 2097152 b.0) (λ count.
+    bind (count_of longest_fill b.0) (λ count.
     option_map (λ byte. Fill c count byte) (hex_byte b.1)))))
 
 -- act <c>
@@ -61,7 +70,7 @@ act_once rest = option_map (λ c. Act c 1) (word_number rest)
 
 -- act <c> <n>
 abbrev pub act_often : List ℕ × List ℕ → Option Action
-act_often a = bind (word_number a.0) (λ c. option_map (λ count. Act c count) (count_of 1000000 a.1))
+act_often a = bind (word_number a.0) (λ c. option_map (λ count. Act c count) (count_of most_acts a.1))
 
 -- either of the two
 abbrev pub act_by : List ℕ → Option (List ℕ × List ℕ) → Option Action
@@ -78,7 +87,7 @@ shut_line rest = option_map Shut (word_number rest)
 
 -- tick <m>
 abbrev pub tick_line : List ℕ → Option Action
-tick_line rest = option_map Tick (short_number (2 ^ 40 - 1) rest)
+tick_line rest = option_map Tick (short_number (moment_limit - 1) rest)
 
 -- keep <u> <limit>
 abbrev pub keep_line : List ℕ → Option Action

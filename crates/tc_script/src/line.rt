@@ -6,11 +6,8 @@ use crate::action::Action;
 use crate::fields::{first_field, short_number, word_number};
 use crate::step_line::read_action;
 use std::alloc::Global;
-use tc_item::NoMemory;
+use tc_item::{LARGEST_ITEM, NoMemory};
 use tc_users::{Text, UserSpec};
-
-/// The most data bytes of an item, where no line says less.
-const LARGEST_ITEM: u64 = 1_048_576;
 
 /// What a line says.
 #[derive(Debug, Drop)]
@@ -54,7 +51,7 @@ fn read_user(alloc: Global, rest: &[u8]) -> Result<Option<Line>, NoMemory>
         token: Text::copy(alloc, token)?,
         second: None,
         budget,
-        largest: LARGEST_ITEM,
+        largest: LARGEST_ITEM as u64,
     })))
 }
 

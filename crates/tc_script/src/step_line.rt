@@ -7,7 +7,7 @@ use crate::action::Action;
 use crate::fields::{count, first_field, hex_byte, short_number, word_number};
 use crate::unescape::some_bytes;
 use std::alloc::Global;
-use tc_item::{Moment, NoMemory};
+use tc_item::{MOMENT_LIMIT, Moment, NoMemory};
 
 /// The most bytes of a `fill`.
 const LONGEST_FILL: u32 = 2_097_152;
@@ -73,7 +73,7 @@ fn read_shut(rest: &[u8]) -> Option<Action>
 fn read_tick(rest: &[u8]) -> Option<Action>
     ensures { result ≡ tick_line rest.now }
 {
-    let seconds = short_number(rest, (1 << 40) - 1)?;
+    let seconds = short_number(rest, MOMENT_LIMIT - 1)?;
     Some(Action::Tick(Moment::new(seconds)))
 }
 

@@ -3,6 +3,7 @@ use Rattle.std.proofs.Common.{◌≡◌, ◌≢◌, ℕ, List, Option, Some, Non
 use Rattle.tc_model.specs.Connection.{Phase, Unbound, Bound, Closed, Endpoint, Asks, Idle, Tell, Login, Leave}
 use Rattle.tc_model.specs.Connection.{Wants, Rest, Reply, Run}
 use Rattle.tc_model.specs.Connection.{Quit as Parting, Call, login, login_turn, unbound_turn, bound_turn, turn_at, turn}
+use Rattle.tc_item.specs.Bounds.{largest_item}
 use Rattle.tc_grammar.specs.declared.command.Command.{Command}
 use Rattle.tc_grammar.specs.declared.command.Command.TheVariants.{Store, Get, Gat, Delete, Count, Touch, Flush, Stats, Version}
 use Rattle.tc_grammar.specs.declared.command.Command.TheVariants.{Verbosity, Quit}
@@ -12,7 +13,7 @@ use Rattle.tc_feed.specs.declared.request.Request.{Request}
 use Rattle.tc_feed.specs.declared.request.Request.TheVariants.{Ask, Refused}
 use Rattle.tc_feed.specs.Stream.{Reader, found, after_first}
 use Rattle.tc_users.specs.declared.users.UserSpec.{UserSpec}
-use Rattle.tc_session.specs.TextProtocol.{text_protocol, bound_command, bound_fault, bound_wants, bound_limit, unbound_limit}
+use Rattle.tc_session.specs.TextProtocol.{text_protocol, bound_command, bound_fault, bound_wants, unbound_limit}
 use Rattle.tc_session.specs.TextProtocol.{unbound_asks, fault_said}
 
 bound_command-run : (asked command : Command) → bound_command asked ≡ Run command → command ≢ Quit
@@ -67,5 +68,5 @@ turn-call rows e number command h = go e.phase h
         absurd (unbound_turn-call rows (after_first unbound_limit e.reader) (unbound_asks (found unbound_limit e.reader)) number
         command f)
     go (Bound user) f q =
-        bound_turn-call user (after_first bound_limit e.reader) (bound_wants (found bound_limit e.reader))
-        (bound_wants-run (found bound_limit e.reader)) number command f q
+        bound_turn-call user (after_first largest_item e.reader) (bound_wants (found largest_item e.reader))
+        (bound_wants-run (found largest_item e.reader)) number command f q

@@ -1,6 +1,8 @@
 -- A connection as contracts see it. Source: this project's own.
-use Rattle.std.specs.Prelude.{ℕ, ◌+◌, ◌≤◌, List}
+use Rattle.std.specs.Prelude.{ℕ, ◌+◌, ◌*◌, ◌≤◌, List}
 use Rattle.tc_model.specs.Connection.{Phase, Unbound, Bound, Closed, Endpoint, Want, Nothing, Said, Call, Close}
+use Rattle.tc_item.specs.Bounds.{largest_item}
+use Rattle.tc_feed.specs.Stream.{longest_line}
 use Rattle.tc_grammar.specs.declared.command.Command.{Command}
 use Rattle.tc_session.specs.declared.session.Stage.{Stage}
 use Rattle.tc_session.specs.declared.session.Stage.TheVariants.{Unbound as IsUnbound, Bound as IsBound, Closed as IsClosed}
@@ -9,13 +11,21 @@ use Rattle.tc_session.specs.declared.want.Want.TheVariants.{Nothing as IsNothing
 use Rattle.tc_session.specs.declared.want.Want.TheVariants.{Close as IsClose}
 use Rattle.tc_grammar.specs.declared.fault.Fault.{Fault}
 use Rattle.tc_grammar.specs.declared.fault.Fault.TheVariants.{LineTooLong}
-use Rattle.tc_session.specs.TextProtocol.{text_protocol, unbound_limit, bound_limit}
+use Rattle.tc_session.specs.TextProtocol.{text_protocol, unbound_limit}
 
 -- the phase of a stage
 abbrev pub phase_of : Stage → Phase
 phase_of IsUnbound = Unbound
 phase_of (IsBound user) = Bound user
 phase_of IsClosed = Closed
+
+-- the room that a reply is said in, but that to a look-up or to `stats`, and that a refusal is
+abbrev pub reply_room : ℕ
+reply_room = 64
+
+-- the room that a request is read with: for what is said at once, and for a reply or its refusal
+abbrev pub needed_room : ℕ
+needed_room = 2 * reply_room
 
 -- a connection: its endpoint, the bytes that wait to be sent, and for how many more there is room
 pub record SessionView : Type 0 where
@@ -43,10 +53,10 @@ fault_want fault = Said
 -- where no whole request is there, a longest line and all but a byte of its block and its
 -- line end are unread at most; a closed connection reads no more
 abbrev pub KeepsAtMost : Phase → ℕ → Type 0
-KeepsAtMost Unbound unread = unread ≤ unbound_limit + 65538
-KeepsAtMost (Bound user) unread = unread ≤ bound_limit + 65538
+KeepsAtMost Unbound unread = unread ≤ unbound_limit + (longest_line + 2)
+KeepsAtMost (Bound user) unread = unread ≤ largest_item + (longest_line + 2)
 KeepsAtMost Closed unread = Unit {0}
 
 -- the most bytes that are unread of an open connection with no whole request: what KeepsAtMost says of either limit
 abbrev pub most_resting : ℕ
-most_resting = 1114114
+most_resting = largest_item + (longest_line + 2)

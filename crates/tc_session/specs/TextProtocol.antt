@@ -2,6 +2,7 @@
 -- Source: memcached's doc/protocol.txt, "Authentication".
 use Rattle.std.specs.Prelude.{ℕ, Bool, List, [], codes, Option, None, Some}
 use Rattle.tc_model.specs.Connection.{Protocol, Asks, Idle, Tell, Login, Leave, Wants, Rest, Reply, Run, Quit as Parting}
+use Rattle.tc_item.specs.Bounds.{largest_item}
 use Rattle.tc_grammar.specs.declared.command.StoreKind.{StoreKind}
 use Rattle.tc_grammar.specs.declared.command.StoreKind.TheVariants.{Set}
 use Rattle.tc_grammar.specs.declared.command.Head.{Head}
@@ -18,13 +19,9 @@ use Rattle.tc_users.specs.Login.{opens}
 use Rattle.tc_session.specs.Texts.{fault_line, unless_quiet}
 use Rattle.tc_session.specs.Replies.{is_quiet, render}
 
--- the most bytes of a block before and after a connection is bound
+-- the most bytes of a block before a connection is bound; after it they are those of the largest item
 abbrev pub unbound_limit : ℕ
 unbound_limit = 256
-
--- the most bytes of a block after a connection is bound
-abbrev pub bound_limit : ℕ
-bound_limit = 1048576
 
 -- a fault's line, unless it is quiet
 abbrev pub fault_said : Fault → Bool → List ℕ
@@ -77,7 +74,7 @@ text_protocol = record {
   start = empty;
   more = more;
   unbound = λ r. (unbound_asks (found unbound_limit r), after_first unbound_limit r);
-  bound = λ r. (bound_wants (found bound_limit r), after_first bound_limit r);
+  bound = λ r. (bound_wants (found largest_item r), after_first largest_item r);
   opens = opens;
   render = render;
 }

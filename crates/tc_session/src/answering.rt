@@ -1,6 +1,7 @@
 //! Which outcomes a command can come to, and how its reply is written.
 ghost use Rattle.std.specs.Prelude.{◌≡◌, ◌≤◌, ◌++◌, true, false, take, length, IsOk, OnOk, OnErr};
 ghost use Rattle.tc_grammar.specs.declared.fault.Fault.TheVariants.{NoMemory as OutOfMemory};
+ghost use Rattle.tc_session.specs.SessionView.{reply_room};
 ghost use Rattle.tc_session.specs.Unsent.{KeepsSpace};
 ghost use Rattle.tc_session.specs.Texts.{fault_line, unless_quiet};
 ghost use Rattle.tc_session.specs.Replies.{is_quiet, is_refusal, is_store_end, can_end, form_of, reply_of, render, is_long};
@@ -70,7 +71,7 @@ fn form_of(command: &Command) -> Form
 
 /// Writes the reply to an outcome. Where memory is refused, what waited before is still in front.
 fn write_outcome(out: &mut Output, form: Form, outcome: &Outcome) -> Result<(), NoMemory>
-    requires { 64 ≤ out.old.room }
+    requires { reply_room ≤ out.old.room }
     ensures bytes { OnOk result (out.new.bytes ≡ out.old.bytes ++ reply_of form outcome.now) }
     ensures front_on_err { OnErr result (take (length out.old.bytes) out.new.bytes
         ≡ out.old.bytes) }
@@ -102,7 +103,7 @@ fn write_outcome(out: &mut Output, form: Form, outcome: &Outcome) -> Result<(), 
 
 /// Says that memory was refused, unless the line has `noreply`.
 pub(crate) fn write_refusal(out: &mut Output, command: &Command)
-    requires { 64 ≤ out.old.room }
+    requires { reply_room ≤ out.old.room }
     ensures { out.new.bytes
         ≡ out.old.bytes ++ unless_quiet (is_quiet command.now) (fault_line OutOfMemory) }
 {
@@ -117,7 +118,7 @@ pub(crate) fn write_reply(
     command: &Command,
     outcome: &Outcome,
 ) -> Result<(), NoMemory>
-    requires room { 64 ≤ out.old.room }
+    requires room { reply_room ≤ out.old.room }
     requires can_end { can_end command.now outcome.now ≡ true }
     ensures bytes { OnOk result (out.new.bytes ≡ out.old.bytes ++ render command.now outcome.now) }
     ensures refused { OnErr result (out.new.bytes

@@ -1,6 +1,7 @@
 //! The reply texts.
 ghost use Rattle.std.specs.Prelude.{◌≡◌, ◌+◌, ◌≤◌, ◌++◌, ◌||◌, not, take, length, codes, OnOk, OnErr};
 ghost use Rattle.std.specs.List.{flat_map};
+ghost use Rattle.tc_session.specs.SessionView.{reply_room};
 ghost use Rattle.tc_session.specs.Unsent.{KeepsSpace};
 ghost use Rattle.tc_session.specs.Texts.{fault_line, line_end};
 ghost use Rattle.tc_session.specs.Replies.{is_quiet, can_end, form_of, cas_text, value_line, value_text, values_text, stats_text};
@@ -41,9 +42,9 @@ pub(crate) fn is_quiet(command: &Command) -> bool
 
 /// Says a fault's line.
 pub(crate) fn write_fault(out: &mut Output, fault: Fault)
-    requires { 64 ≤ out.old.room }
+    requires { reply_room ≤ out.old.room }
     ensures bytes { out.new.bytes ≡ out.old.bytes ++ fault_line fault }
-    ensures room { out.old.room ≤ out.new.room + 64 }
+    ensures room { out.old.room ≤ out.new.room + reply_room }
     ensures space { KeepsSpace out.old out.new }
 {
     out.write(fault.text().as_bytes());
@@ -134,7 +135,7 @@ pub(crate) fn write_stats(out: &mut Output, counters: &Counters) -> Result<(), N
 
 /// Writes the server's version.
 pub(crate) fn write_version(out: &mut Output)
-    requires { 64 ≤ out.old.room }
+    requires { reply_room ≤ out.old.room }
     ensures bytes { out.new.bytes
         ≡ out.old.bytes ++ (codes "VERSION " ++ (version_text ++ line_end)) }
     ensures space { KeepsSpace out.old out.new }

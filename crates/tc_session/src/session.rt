@@ -9,6 +9,7 @@ ghost use Rattle.tc_session.specs.Replies.{is_quiet, can_end, render, is_long};
 ghost use Rattle.tc_session.specs.TextProtocol.{text_protocol, fault_said, unbound_asks, unbound_command, unbound_store};
 ghost use Rattle.tc_session.specs.TextProtocol.{bound_wants, bound_command};
 ghost use Rattle.tc_session.specs.SessionView.{SessionView, want_of, fault_want, fault_phase, KeepsAtMost, most_resting};
+ghost use Rattle.tc_session.specs.SessionView.{reply_room, needed_room};
 
 use crate::Want;
 use crate::answering::{write_refusal, write_reply};
@@ -18,24 +19,25 @@ use std::alloc::Global;
 use std::marker::Model;
 use tc_feed::{Feed, Request};
 use tc_grammar::{Command, Fault, Head, StoreKind};
-use tc_item::NoMemory;
+use tc_item::{LARGEST_ITEM, NoMemory};
 use tc_stats::Outcome;
 use tc_users::{UserNo, Users};
 
-/// The most bytes of a block before a connection is bound, and after.
+/// The most bytes of a block before a connection is bound; after it they are those of the largest item.
 const UNBOUND_LIMIT: u32 = 256;
 
-const BOUND_LIMIT: u32 = 1_048_576;
+/// Room that a reply is said in, but that to a look-up or to `stats`, and that a refusal is.
+const REPLY_ROOM: usize = 64;
 
 /// Room that a request is read with: for what is said at once, and for a reply or its refusal.
-const NEEDED_ROOM: usize = 128;
+const NEEDED_ROOM: usize = 2 * REPLY_ROOM;
 
 /// Whose a connection is.
 #[derive(Clone, Copy, Debug, PartialEq, Eq)]
 enum Stage {
     Unbound,
-    /// To the user of this number.
-    Bound(u32),
+    /// To this user.
+    Bound(UserNo),
     Closed,
 }
 
@@ -104,7 +106,7 @@ impl Session {
             ≡ (turn text_protocol users.now self.old.endpoint).endpoint) }
         ensures said { OnOk result (self.new.out
             ≡ self.old.out ++ (turn text_protocol users.now self.old.endpoint).said) }
-        ensures room { OnOk result (64 ≤ self.new.room) }
+        ensures room { OnOk result (reply_room ≤ self.new.room) }
         ensures bounded { IfOk result (λ want. want_of want ≡ Nothing
             → KeepsAtMost self.old.endpoint.phase (length self.new.endpoint.reader.unread)) }
         ensures open_bounded { IfOk result (λ want. want_of want ≡ Nothing
@@ -116,22 +118,23 @@ impl Session {
         ensures out_on_err { OnErr result (self.new.out ≡ self.old.out) }
     {
         self.out.reserve(NEEDED_ROOM)?;
-        match self.stage {
+        let stage = self.stage;
+        match stage {
             Stage::Closed => Ok(Want::Nothing),
             Stage::Unbound => {
                 let request = self.feed.next(alloc, UNBOUND_LIMIT)?;
                 Ok(self.greet(users, request))
             }
-            Stage::Bound(number) => {
-                let request = self.feed.next(alloc, BOUND_LIMIT)?;
-                Ok(self.serve(UserNo::new(number), request))
+            Stage::Bound(user) => {
+                let request = self.feed.next(alloc, LARGEST_ITEM)?;
+                Ok(self.serve(user, request))
             }
         }
     }
 
     /// What a request means before the connection is bound.
     fn greet(&mut self, users: &Users, request: Option<Request>) -> Want
-        requires room { 128 ≤ self.old.room }
+        requires room { needed_room ≤ self.old.room }
         requires unbound { self.old.endpoint.phase ≡ Unbound }
         ensures want { want_of result ≡ (unbound_turn text_protocol users.now
             self.old.endpoint.reader (unbound_asks request)).want }
@@ -142,7 +145,7 @@ impl Session {
             ++ (unbound_turn text_protocol users.now self.old.endpoint.reader
             (unbound_asks request)).said }
         ensures reader { self.new.endpoint.reader ≡ self.old.endpoint.reader }
-        ensures room { 64 ≤ self.new.room }
+        ensures room { reply_room ≤ self.new.room }
     {
         match request {
             None => Want::Nothing,
@@ -153,7 +156,7 @@ impl Session {
 
     /// What a command means before the connection is bound.
     fn greet_command(&mut self, users: &Users, command: &Command) -> Want
-        requires room { 128 ≤ self.old.room }
+        requires room { needed_room ≤ self.old.room }
         requires unbound { self.old.endpoint.phase ≡ Unbound }
         ensures want { want_of result ≡ (unbound_turn text_protocol users.now
             self.old.endpoint.reader (unbound_command command.now)).want }
@@ -164,7 +167,7 @@ impl Session {
             ++ (unbound_turn text_protocol users.now self.old.endpoint.reader
             (unbound_command command.now)).said }
         ensures reader { self.new.endpoint.reader ≡ self.old.endpoint.reader }
-        ensures room { 64 ≤ self.new.room }
+        ensures room { reply_room ≤ self.new.room }
     {
         match command {
             Command::Store(head, blob) => self.greet_store(users, head, blob.as_slice()),
@@ -178,7 +181,7 @@ impl Session {
 
     /// What a storage command means before the connection is bound: a `set` is a login.
     fn greet_store(&mut self, users: &Users, head: &Head, blob: &[u8]) -> Want
-        requires room { 128 ≤ self.old.room }
+        requires room { needed_room ≤ self.old.room }
         requires unbound { self.old.endpoint.phase ≡ Unbound }
         ensures want { want_of result ≡ (unbound_turn text_protocol users.now
             self.old.endpoint.reader (unbound_store head.now.kind head.now blob.now)).want }
@@ -189,7 +192,7 @@ impl Session {
             ++ (unbound_turn text_protocol users.now self.old.endpoint.reader
             (unbound_store head.now.kind head.now blob.now)).said }
         ensures reader { self.new.endpoint.reader ≡ self.old.endpoint.reader }
-        ensures room { 64 ≤ self.new.room }
+        ensures room { reply_room ≤ self.new.room }
     {
         match head.kind {
             StoreKind::Set => self.log_in(users, head.quiet, blob),
@@ -200,7 +203,7 @@ impl Session {
 
     /// Binds the connection to the user whom the data logs in, or denies the login.
     fn log_in(&mut self, users: &Users, quiet: bool, text: &[u8])
-        requires room { 128 ≤ self.old.room }
+        requires room { needed_room ≤ self.old.room }
         requires unbound { self.old.endpoint.phase ≡ Unbound }
         ensures endpoint { self.new.endpoint ≡ (login_turn text_protocol self.old.endpoint.reader
             (unless_quiet quiet (codes "STORED\r\n")) (fault_said AuthenticationFailure quiet)
@@ -210,12 +213,12 @@ impl Session {
             (unless_quiet quiet (codes "STORED\r\n")) (fault_said AuthenticationFailure quiet)
             (login text_protocol users.now text.now)).said }
         ensures reader { self.new.endpoint.reader ≡ self.old.endpoint.reader }
-        ensures room { 64 ≤ self.new.room }
+        ensures room { reply_room ≤ self.new.room }
     {
         match find_login(users, text) {
             None => self.say_fault(Fault::AuthenticationFailure, quiet),
             Some(user) => {
-                self.stage = Stage::Bound(user.number());
+                self.stage = Stage::Bound(user);
                 self.say_stored(quiet);
             }
         }
@@ -223,7 +226,7 @@ impl Session {
 
     /// What a request means once the connection is bound.
     fn serve(&mut self, user: UserNo, request: Option<Request>) -> Want
-        requires room { 128 ≤ self.old.room }
+        requires room { needed_room ≤ self.old.room }
         requires bound { self.old.endpoint.phase ≡ Bound user }
         ensures want { want_of result
             ≡ (bound_turn text_protocol user self.old.endpoint.reader (bound_wants request)).want }
@@ -233,7 +236,7 @@ impl Session {
         ensures said { self.new.out ≡ self.old.out
             ++ (bound_turn text_protocol user self.old.endpoint.reader (bound_wants request)).said }
         ensures reader { self.new.endpoint.reader ≡ self.old.endpoint.reader }
-        ensures room { 64 ≤ self.new.room }
+        ensures room { reply_room ≤ self.new.room }
     {
         match request {
             None => Want::Nothing,
@@ -244,7 +247,7 @@ impl Session {
 
     /// What a command means once the connection is bound.
     fn serve_command(&mut self, user: UserNo, command: Command) -> Want
-        requires room { 128 ≤ self.old.room }
+        requires room { needed_room ≤ self.old.room }
         requires bound { self.old.endpoint.phase ≡ Bound user }
         ensures want { want_of result ≡ (bound_turn text_protocol user self.old.endpoint.reader
             (bound_command command)).want }
@@ -255,7 +258,7 @@ impl Session {
             ++ (bound_turn text_protocol user self.old.endpoint.reader
             (bound_command command)).said }
         ensures reader { self.new.endpoint.reader ≡ self.old.endpoint.reader }
-        ensures room { 64 ≤ self.new.room }
+        ensures room { reply_room ≤ self.new.room }
     {
         match command {
             Command::Quit => self.close(),
@@ -265,13 +268,13 @@ impl Session {
 
     /// Says a fault, unless it is quiet; after a line that is too long the connection is closed.
     fn fail(&mut self, fault: Fault, quiet: bool) -> Want
-        requires { 128 ≤ self.old.room }
+        requires { needed_room ≤ self.old.room }
         ensures want { want_of result ≡ fault_want fault }
         ensures busy { want_of result ≢ Nothing }
         ensures phase { self.new.endpoint.phase ≡ fault_phase fault self.old.endpoint.phase }
         ensures reader { self.new.endpoint.reader ≡ self.old.endpoint.reader }
         ensures said { self.new.out ≡ self.old.out ++ fault_said fault quiet }
-        ensures room { 64 ≤ self.new.room }
+        ensures room { reply_room ≤ self.new.room }
     {
         self.say_fault(fault, quiet);
         match fault {
@@ -282,10 +285,10 @@ impl Session {
 
     /// Says a fault's line, unless it is quiet.
     fn say_fault(&mut self, fault: Fault, quiet: bool)
-        requires { 128 ≤ self.old.room }
+        requires { needed_room ≤ self.old.room }
         ensures endpoint { self.new.endpoint ≡ self.old.endpoint }
         ensures said { self.new.out ≡ self.old.out ++ fault_said fault quiet }
-        ensures room { 64 ≤ self.new.room }
+        ensures room { reply_room ≤ self.new.room }
     {
         if !quiet {
             write_fault(&mut self.out, fault);
@@ -294,10 +297,10 @@ impl Session {
 
     /// Says that a login was granted, unless it is quiet.
     fn say_stored(&mut self, quiet: bool)
-        requires { 128 ≤ self.old.room }
+        requires { needed_room ≤ self.old.room }
         ensures endpoint { self.new.endpoint ≡ self.old.endpoint }
         ensures said { self.new.out ≡ self.old.out ++ unless_quiet quiet (codes "STORED\r\n") }
-        ensures room { 64 ≤ self.new.room }
+        ensures room { reply_room ≤ self.new.room }
     {
         if !quiet {
             self.out.write(b"STORED\r\n");
@@ -307,7 +310,7 @@ impl Session {
     /// Appends the reply to a command, whose outcome is one that it can come to. Where memory is refused,
     /// which only the reply to a look-up or to `stats` may meet, that is said in the reply's place.
     pub fn answer(&mut self, command: &Command, outcome: &Outcome) -> Result<(), NoMemory>
-        requires room { 64 ≤ self.old.room }
+        requires room { reply_room ≤ self.old.room }
         requires can_end { can_end command.now outcome.now ≡ true }
         ensures endpoint { self.new.endpoint ≡ self.old.endpoint }
         ensures reply { OnOk result (self.new.out
@@ -321,7 +324,7 @@ impl Session {
 
     /// Appends that memory was refused to a command, unless its line has `noreply`.
     pub fn refuse(&mut self, command: &Command)
-        requires { 64 ≤ self.old.room }
+        requires { reply_room ≤ self.old.room }
         ensures endpoint { self.new.endpoint ≡ self.old.endpoint }
         ensures refused { self.new.out
             ≡ self.old.out ++ unless_quiet (is_quiet command.now) (fault_line OutOfMemory) }

@@ -6,6 +6,7 @@ use Rattle.std.proofs.Common.{◌≡◌, ℕ, zero, suc, ◌+◌, ◌<◌, ◌�
 use Rattle.std.proofs.Common.{slice_get, take, drop, Option, Some, None, IfSome, refl, ◌∙◌, ap, arith}
 use Rattle.std.proofs.lemmas.Bool.Decides.{nat_tests}
 use Rattle.std.proofs.lemmas.List.{take_more, drop_more}
+use Rattle.tc_item.specs.Bounds.{smallest_budget, largest_budget, largest_item}
 use Rattle.tc_users.specs.declared.users.UserSpec.{UserSpec}
 use Rattle.tc_users.specs.declared.settings_fault.SettingsFault.{SettingsFault}
 use Rattle.tc_users.specs.declared.settings_fault.SettingsFault.TheVariants.{TooManyUsers}
@@ -51,8 +52,8 @@ IsSoundRow-from_row_fault user row e =
     let f = option_or-none _ _ b.1 in
     let g = option_or-none _ _ f.1 in
     let h = option_or-none _ _ g.1 in
-    let budget = in_range 65536 1073741824 row.budget (cond-none _ _ f.0) in
-    let largest = in_range 1 1048576 row.largest (cond-none _ _ h.0) in
+    let budget = in_range smallest_budget largest_budget row.budget (cond-none _ _ f.0) in
+    let largest = in_range 1 largest_item row.largest (cond-none _ _ h.0) in
     (budget.0, budget.1, largest.0, largest.1)
 
 -- rows without a fault

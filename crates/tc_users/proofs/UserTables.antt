@@ -10,6 +10,7 @@ use Rattle.toml.specs.Errors.{IsBlank}
 use Rattle.toml.specs.Parse.{parse_document, lines}
 use Rattle.toml.specs.View.{view, items_view}
 use Rattle.toml.specs.declared.value.Value.{Value}
+use Rattle.tc_item.specs.Bounds.{smallest_budget, largest_budget, largest_item}
 use Rattle.tc_users.specs.declared.settings_fault.SettingsFault.{SettingsFault}
 use Rattle.tc_users.specs.declared.settings_fault.Field.TheVariants.{Users, Name, Token, Budget, SecondToken, Largest}
 use Rattle.tc_users.specs.declared.settings_fault.Found.TheVariants.{Array}
@@ -47,7 +48,7 @@ largest_fault-none : (n : ℕ) (missing : Option SettingsFault) (largest : Optio
     → largest_fault n (pos (nat_abs (largest_in largest))) ≡ None
 largest_fault-none n missing None e = refl
 largest_fault-none n missing (Some d) e =
-    range_fault-nat_abs 1 1048576 (LargestRange n) (number_in (Some d)) (option_or-none _ _ e).1
+    range_fault-nat_abs 1 largest_item (LargestRange n) (number_in (Some d)) (option_or-none _ _ e).1
 
 -- where none of six is there, their first is not
 first_of_six-none : (a b c d e f : Option SettingsFault) → a ≡ None → b ≡ None → c ≡ None → d ≡ None → e ≡ None → f ≡ None
@@ -69,7 +70,7 @@ user_fault-row_in before user e =
     first_of_six-none _ _ _ _ _ _
     (option_or-none (missing_text_in (Name n) user) _ a.0).1
     (option_or-none (missing_text_in (Token n) user) _ b.0).1
-    (range_fault-nat_abs 65536 1073741824 (BudgetRange n) (number_in (field_in (Budget n) user)) budget.1)
+    (range_fault-nat_abs smallest_budget largest_budget (BudgetRange n) (number_in (field_in (Budget n) user)) budget.1)
     (second_fault-none n (row_in user).token (missing_text_in (SecondToken n) user) (field_in (SecondToken n) user) g.0)
     (largest_fault-none n (missing_number_in (Largest n) user) (field_in (Largest n) user) h.0)
     own.0

@@ -5,6 +5,8 @@ use Rattle.std.specs.Prelude.{[], ◌∷◌, ◌++◌, length, slice_index, posi
 use Rattle.std.specs.Option.{option_or}
 use Rattle.std.specs.Char.{is_ascii_alphanumeric}
 use Rattle.std.specs.Str.{bytes_eq}
+use Rattle.tc_item.specs.Bounds.{smallest_budget, largest_budget, largest_item}
+use Rattle.tc_users.specs.Bounds.{longest_name, longest_token}
 use Rattle.tc_users.specs.declared.settings_fault.Field.{Field}
 use Rattle.tc_users.specs.declared.settings_fault.Field.TheVariants.{Token, SecondToken}
 use Rattle.tc_users.specs.declared.settings_fault.TextFault.{TextFault}
@@ -51,21 +53,22 @@ text_fault most bad bytes =
     else if nat_lt most (length bytes) then Some (TooLong (length bytes))
     else option_map (λ place. BadByte place (slice_index bytes place)) bad
 
--- a name is 1 to 64 bytes of a name
+-- a name is bytes of a name, and not too many
 abbrev pub name_fault : ℕ → List ℕ → Option SettingsFault
-name_fault user name = option_map (BadName user) (text_fault 64 (position (λ b. not (is_name_byte b)) name) name)
+name_fault user name = option_map (BadName user) (text_fault longest_name (position (λ b. not (is_name_byte b)) name) name)
 
--- a token is 1 to 128 bytes of a token
+-- a token is bytes of a token, and not too many
 abbrev pub token_fault : Field → List ℕ → Option SettingsFault
-token_fault field token = option_map (BadToken field) (text_fault 128 (position (λ b. not (is_token_byte b)) token) token)
+token_fault field token =
+    option_map (BadToken field) (text_fault longest_token (position (λ b. not (is_token_byte b)) token) token)
 
 -- a whole number of this range
 abbrev pub range_fault : ℕ → ℕ → (ℤ → SettingsFault) → ℤ → Option SettingsFault
 range_fault low high fault found = if int_le (pos low) found && int_le found (pos high) then None else Some (fault found)
 
--- a budget is 65,536 to 2^30 bytes
+-- a budget is in its range
 abbrev pub budget_fault : ℕ → ℤ → Option SettingsFault
-budget_fault user found = range_fault 65536 1073741824 (BudgetRange user) found
+budget_fault user found = range_fault smallest_budget largest_budget (BudgetRange user) found
 
 -- a second token is another token
 abbrev pub other_token_fault : ℕ → List ℕ → List ℕ → Option SettingsFault
@@ -77,9 +80,9 @@ second_fault user token None = None
 second_fault user token (Some second) =
     first_of (token_fault (SecondToken user) second ∷ other_token_fault user token second ∷ [])
 
--- a largest item is 1 to 1,048,576 bytes
+-- a largest item is 1 byte or more, in its range
 abbrev pub largest_fault : ℕ → ℤ → Option SettingsFault
-largest_fault user found = range_fault 1 1048576 (LargestRange user) found
+largest_fault user found = range_fault 1 largest_item (LargestRange user) found
 
 -- no user before has the name
 abbrev pub same_name_fault : List UserSpec → List ℕ → Option SettingsFault
@@ -111,4 +114,5 @@ first_fault rows = if nat_le (2 ^ 32) (length rows) then Some (TooManyUsers (len
 
 -- what a caller may rely on of a good row
 abbrev pub IsSoundRow : UserSpec → Type 0
-IsSoundRow row = (65536 ≤ row.budget) × (row.budget ≤ 1073741824) × (1 ≤ row.largest) × (row.largest ≤ 1048576)
+IsSoundRow row =
+    (smallest_budget ≤ row.budget) × (row.budget ≤ largest_budget) × (1 ≤ row.largest) × (row.largest ≤ largest_item)

@@ -5,6 +5,8 @@ use Rattle.std.specs.Prelude.{◌∷◌, ◌++◌, length, map, Option, Some, No
 use Rattle.std.specs.List.{list_all}
 use Rattle.std.specs.Option.{option_or}
 use Rattle.toml.specs.Data.{Data, array, table, as_table, Members}
+use Rattle.tc_item.specs.Bounds.{largest_item}
+use Rattle.tc_users.specs.Bounds.{most_workers, smallest_page, largest_page}
 use Rattle.tc_users.specs.declared.settings.Settings.{Settings}
 use Rattle.tc_users.specs.declared.settings_fault.Field.TheVariants.{Listen, Workers, Journal, Users, Name, Token, Budget}
 use Rattle.tc_users.specs.declared.settings_fault.Field.TheVariants.{SecondToken, Largest}
@@ -22,9 +24,9 @@ abbrev pub second_in : Option Data → Option (List ℕ)
 second_in None = None
 second_in (Some d) = Some (text_in (Some d))
 
--- the most data bytes of an item; 1,048,576 where nothing is said
+-- the most data bytes of an item; the largest there is where nothing is said
 abbrev pub largest_in : Option Data → ℤ
-largest_in None = pos 1048576
+largest_in None = pos largest_item
 largest_in (Some d) = number_in (Some d)
 
 -- the row that a user's table holds
@@ -111,11 +113,12 @@ tables_fault_in d = user_field_fault (field_in Users d)
 
 -- the number of workers is there, and then in its range
 abbrev pub workers_fault_in : Data → Option SettingsFault
-workers_fault_in d = option_or (missing_number_in Workers d) (range_fault 1 64 WorkersRange (number_in (field_in Workers d)))
+workers_fault_in d = option_or (missing_number_in Workers d) (range_fault 1 most_workers WorkersRange (number_in (field_in Workers d)))
 
 -- the entries of a journal's page are there, and then in their range
 abbrev pub journal_fault_in : Data → Option SettingsFault
-journal_fault_in d = option_or (missing_number_in Journal d) (range_fault 16 65536 JournalRange (number_in (field_in Journal d)))
+journal_fault_in d =
+    option_or (missing_number_in Journal d) (range_fault smallest_page largest_page JournalRange (number_in (field_in Journal d)))
 
 -- the first fault of the table's own fields
 abbrev pub fields_fault : Data → Option SettingsFault
@@ -163,4 +166,6 @@ IsAnswer (Some fields) (Err fault) = IsFirstOrRefused (settings_fault (table fie
 
 -- what a caller may rely on of the numbers
 abbrev pub AreSoundNumbers : Settings → Type 0
-AreSoundNumbers settings = (1 ≤ settings.workers) × (settings.workers ≤ 64) × (16 ≤ settings.journal) × (settings.journal ≤ 65536)
+AreSoundNumbers settings =
+    (1 ≤ settings.workers) × (settings.workers ≤ most_workers)
+    × (smallest_page ≤ settings.journal) × (settings.journal ≤ largest_page)

@@ -7,13 +7,8 @@ ghost use Rattle.tc_users.specs.Faults.{other_token_fault, second_fault, largest
 ghost use Rattle.tc_users.specs.Faults.{fault_after};
 
 use crate::users::UserSpec;
-use crate::{Field, SettingsFault, Text, TextFault};
-
-/// The most bytes of a name.
-const LONGEST_NAME: usize = 64;
-
-/// The most bytes of a token.
-const LONGEST_TOKEN: usize = 128;
+use crate::{Field, LONGEST_NAME, LONGEST_TOKEN, SettingsFault, Text, TextFault};
+use tc_item::{LARGEST_BUDGET, LARGEST_ITEM, SMALLEST_BUDGET};
 
 fn is_name_byte(byte: u8) -> bool
     ensures { result ≡ is_name_byte byte }
@@ -84,7 +79,7 @@ pub fn check_token(field: Field, token: &[u8]) -> Result<(), SettingsFault>
 pub fn check_budget(user: u32, found: i128) -> Result<(), SettingsFault>
     ensures { result_err result ≡ budget_fault user found }
 {
-    if found >= 65_536 && found <= 1_073_741_824 {
+    if found >= SMALLEST_BUDGET as i128 && found <= LARGEST_BUDGET as i128 {
         return Ok(());
     }
     Err(SettingsFault::BudgetRange { user, found })
@@ -115,7 +110,7 @@ fn check_second(user: u32, token: &[u8], second: &Option<Text>) -> Result<(), Se
 pub fn check_largest(user: u32, found: i128) -> Result<(), SettingsFault>
     ensures { result_err result ≡ largest_fault user found }
 {
-    if found >= 1 && found <= 1_048_576 {
+    if found >= 1 && found <= LARGEST_ITEM as i128 {
         return Ok(());
     }
     Err(SettingsFault::LargestRange { user, found })

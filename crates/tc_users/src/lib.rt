@@ -9,6 +9,7 @@
 //! comments, that memory suffices.
 #![tactic(auto)]
 
+mod bounds;
 mod checks;
 mod fields;
 mod settings;
@@ -18,6 +19,7 @@ mod user_no;
 mod user_table;
 mod users;
 
+pub use bounds::{LARGEST_PAGE, LONGEST_NAME, LONGEST_TOKEN, MOST_WORKERS, SMALLEST_PAGE};
 pub use settings::{Address, Settings};
 pub use settings_fault::{Field, Found, SettingsFault, TextFault};
 pub use text::Text;

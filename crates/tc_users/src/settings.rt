@@ -12,7 +12,9 @@ ghost use Rattle.tc_users.specs.SettingsTable.{AreSoundNumbers};
 
 use crate::fields::{find_field, found_of, read_number, read_text};
 use crate::user_table::read_rows;
-use crate::{Field, Found, SettingsFault, Users};
+use crate::{
+    Field, Found, LARGEST_PAGE, MOST_WORKERS, SMALLEST_PAGE, SettingsFault, Users,
+};
 use std::alloc::Global;
 use std::marker::Model;
 use tc_item::NoMemory;
@@ -68,7 +70,7 @@ fn read_workers(table: &Value) -> Result<usize, SettingsFault>
     ensures workers { IfOk result (λ workers. workers ≡ (settings_in (view table.now)).workers) }
 {
     let found = read_number(Field::Workers, table)?;
-    if found >= 1 && found <= 64 {
+    if found >= 1 && found <= MOST_WORKERS as i64 {
         return Ok(found as usize);
     }
     Err(SettingsFault::WorkersRange { found })
@@ -79,7 +81,7 @@ fn read_journal(table: &Value) -> Result<usize, SettingsFault>
     ensures journal { IfOk result (λ journal. journal ≡ (settings_in (view table.now)).journal) }
 {
     let found = read_number(Field::Journal, table)?;
-    if found >= 16 && found <= 65_536 {
+    if found >= SMALLEST_PAGE as i64 && found <= LARGEST_PAGE as i64 {
         return Ok(found as usize);
     }
     Err(SettingsFault::JournalRange { found })

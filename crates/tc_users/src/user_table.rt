@@ -13,11 +13,8 @@ use crate::fields::{find_field, read_number, read_text};
 use crate::users::UserSpec;
 use crate::{Field, SettingsFault, Text};
 use std::alloc::Global;
-use tc_item::NoMemory;
+use tc_item::{LARGEST_ITEM, NoMemory};
 use toml::Value;
-
-/// The most data bytes of an item, where a user's table says nothing.
-const LARGEST_ITEM: u64 = 1_048_576;
 
 fn read_name(user: u32, table: &Value) -> Result<&str, SettingsFault>
     ensures fault { result_err result ≡ name_fault_in user (view table.now) }
@@ -70,7 +67,7 @@ fn read_largest(user: u32, table: &Value) -> Result<u64, SettingsFault>
 {
     let field = Field::Largest(user);
     if find_field(field, table).is_none() {
-        return Ok(LARGEST_ITEM);
+        return Ok(LARGEST_ITEM as u64);
     }
     let largest = read_number(field, table)?;
     check_largest(user, i128::from(largest))?;

@@ -12,15 +12,16 @@ pub struct SlotDue {
 }
 
 impl Model for SlotDue {
-    ghost use Rattle.std.specs.Prelude.{ℕ, Option, ◌≤◌, ◌^◌};
+    ghost use Rattle.std.specs.Prelude.{ℕ, Option, ◌≤◌};
 
     ghost Value = { Option ℕ };
 
+    ghost use Rattle.tc_item.specs.Bounds.{moment_limit};
     ghost use Rattle.tc_wheel.specs.SlotDues.{due_of, end_of, end_of-due_of};
 
     ghost view = { λ d. due_of d.end };
 
-    ghost invariant = { λ d. d.end ≤ 2 ^ 40 };
+    ghost invariant = { λ d. d.end ≤ moment_limit };
 
     ghost inverse = { λ due. record { end = end_of due } };
 

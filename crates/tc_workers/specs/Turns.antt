@@ -1,10 +1,15 @@
 -- What a worker and a keeper keep to. Source: this project's own.
 use Rattle.std.specs.Prelude.{◌≡◌, ℕ, ◌+◌, ◌≤◌, length, cond, nat_lt}
 use Rattle.tc_locked.specs.KeptBooks.{SeatState}
+use Rattle.tc_session.specs.SessionView.{most_resting}
 
--- the most bytes of a connection that are unread: those of one with no whole request (1,114,114), and one read (16,384)
+-- the most bytes of one read
+abbrev pub longest_piece : ℕ
+longest_piece = 16384
+
+-- the most bytes of a connection that are unread: those of one with no whole request, and one read
 abbrev pub most_kept : ℕ
-most_kept = 1130498
+most_kept = most_resting + longest_piece
 
 -- the seat's number stays, and so many notes were added at most
 abbrev pub WritesAtMost : ℕ → SeatState → SeatState → Type 0

@@ -2,8 +2,8 @@
 ghost use Rattle.std.specs.Prelude.{◌≡◌, ◌≢◌, ◌≤◌, true, false, length};
 ghost use Rattle.tc_model.specs.Connection.{is_closed};
 ghost use Rattle.tc_grammar.specs.declared.command.Command.TheVariants.{Quit};
-ghost use Rattle.tc_session.specs.SessionView.{most_resting};
-ghost use Rattle.tc_workers.specs.Turns.{most_kept, WritesAtMost};
+ghost use Rattle.tc_session.specs.SessionView.{most_resting, reply_room};
+ghost use Rattle.tc_workers.specs.Turns.{longest_piece, most_kept, WritesAtMost};
 
 use crate::gate::{Gate, Place};
 use crate::pace::{Onward, Pace};
@@ -19,7 +19,7 @@ use tc_session::{Session, Want};
 use tc_users::UserNo;
 
 /// The most bytes of a read.
-pub(crate) const PIECE: usize = 16_384;
+pub(crate) const LONGEST_PIECE: usize = 16_384;
 
 /// How many requests are done in a turn at most.
 const REQUESTS: u32 = 16;
@@ -145,7 +145,7 @@ impl<W: Wire + Drop> Link<W> {
         if !self.rests || self.session.is_closed() || self.is_full() {
             return Some(Pace::Rests);
         }
-        let room = buffer.len().min(PIECE);
+        let room = buffer.len().min(LONGEST_PIECE);
         let into = &mut buffer[..room];
         match self.wire.read(into) {
             Got::Bytes(0) => Some(Pace::Tries),
@@ -162,7 +162,7 @@ impl<W: Wire + Drop> Link<W> {
 
     /// Takes what came; `None` where memory is refused.
     fn take(&mut self, piece: &[u8]) -> Option<Pace>
-        requires piece { length piece.now ≤ 16384 }
+        requires piece { length piece.now ≤ longest_piece }
         requires rests { self.old.rests ≡ true }
     {
         self.session.push(piece).ok()?;
@@ -224,7 +224,7 @@ impl<W: Wire + Drop> Link<W> {
         user: UserNo,
         command: &Command,
     )
-        requires room { 64 ≤ self.old.session.room }
+        requires room { reply_room ≤ self.old.session.room }
         requires runs { command.now ≢ Quit }
         ensures wrote { WritesAtMost 1 seat.old seat.new }
     {

@@ -3,7 +3,7 @@ ghost use Rattle.std.specs.Prelude.{◌≡◌, ◌*◌, ◌≤◌, IfOk, IfErr, 
 ghost use Rattle.tc_workers.specs.Turns.{most_kept, WritesAtMost};
 
 use crate::gate::Gate;
-use crate::link::{Link, PIECE};
+use crate::link::{Link, LONGEST_PIECE};
 use crate::pace::{Onward, Pace};
 use crate::service::Service;
 use crate::wire::{Inlet, Patience, Wire};
@@ -50,7 +50,7 @@ impl<W: Wire + Drop, N: Naming> Worker<W, N> {
         ensures ok { IfOk result (λ worker. worker ≡ record { seat = seat; due = 0 }) }
         ensures err { IfErr result (λ back. back.0 ≡ seat) }
     {
-        let Ok(buffer) = Vec::from_elem(alloc, 0u8, PIECE) else {
+        let Ok(buffer) = Vec::from_elem(alloc, 0u8, LONGEST_PIECE) else {
             return Err((seat, NoMemory));
         };
         Ok(Worker {

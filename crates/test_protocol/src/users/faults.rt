@@ -7,7 +7,11 @@ use crate::users::table::TOP;
 use std::alloc::{AllocError, Global};
 use std::process::Abort;
 use std::test::Fail;
-use tc_users::SettingsFault;
+use tc_item::{LARGEST_BUDGET, LARGEST_ITEM, SMALLEST_BUDGET};
+use tc_users::{
+    Field, LARGEST_PAGE, LONGEST_NAME, LONGEST_TOKEN, MOST_WORKERS, SMALLEST_PAGE, SettingsFault,
+    TextFault,
+};
 
 /// A fault's words.
 fn words(alloc: Global, fault: Option<SettingsFault>) -> Result<String, AllocError> {
@@ -198,6 +202,44 @@ const NO_GOOD: [Worded; 12] = [
 #[test]
 fn a_field_that_is_no_good_is_shown(rt: HostRuntime) -> Result<(), Fail> {
     expect_words(&rt, &NO_GOOD)
+}
+
+/// Whether a fault's words hold these.
+fn expect_within(
+    rt: &(impl AllocGlobal + Abort),
+    fault: SettingsFault,
+    want: &str,
+) -> Result<(), Fail> {
+    let words = words(rt.alloc(), Some(fault))?;
+    assert!(rt; words.as_str().contains(want), "{words}");
+    Ok(())
+}
+
+#[test]
+fn the_words_of_a_range_spell_the_numbers_that_are_checked(rt: HostRuntime) -> Result<(), Fail> {
+    let alloc = rt.alloc();
+    let found = 0;
+    let want = format!(in alloc; "wanted: a whole number, 1 to {MOST_WORKERS}")?;
+    expect_within(&rt, SettingsFault::WorkersRange { found }, want.as_str())?;
+    let want = format!(in alloc; "wanted: a whole number, {SMALLEST_PAGE} to {LARGEST_PAGE}")?;
+    expect_within(&rt, SettingsFault::JournalRange { found }, want.as_str())?;
+    let (user, found) = (1, 0);
+    let want = format!(in alloc; "number of bytes, {SMALLEST_BUDGET} to {LARGEST_BUDGET}")?;
+    expect_within(&rt, SettingsFault::BudgetRange { user, found }, want.as_str())?;
+    let want = format!(in alloc; "number of bytes, 1 to {LARGEST_ITEM}")?;
+    expect_within(&rt, SettingsFault::LargestRange { user, found }, want.as_str())
+}
+
+#[test]
+fn the_words_of_a_text_spell_the_lengths_that_are_checked(rt: HostRuntime) -> Result<(), Fail> {
+    let alloc = rt.alloc();
+    let fault = TextFault::Empty;
+    let user = 1;
+    let want = format!(in alloc; "wanted: 1 to {LONGEST_NAME} letters")?;
+    expect_within(&rt, SettingsFault::BadName { user, fault }, want.as_str())?;
+    let field = Field::Token(user);
+    let want = format!(in alloc; "wanted: 1 to {LONGEST_TOKEN} printable ASCII characters")?;
+    expect_within(&rt, SettingsFault::BadToken { field, fault }, want.as_str())
 }
 
 /// A fault, its number and its words.

@@ -1,0 +1,22 @@
+-- The numbers of the settings. Source: docs/OPERATING.md, 'Settings'.
+use Rattle.std.specs.Prelude.{ℕ}
+
+-- the most bytes of a name
+abbrev pub longest_name : ℕ
+longest_name = 64
+
+-- the most bytes of a token
+abbrev pub longest_token : ℕ
+longest_token = 128
+
+-- the most threads that serve connections
+abbrev pub most_workers : ℕ
+most_workers = 64
+
+-- the fewest entries of a journal's page
+abbrev pub smallest_page : ℕ
+smallest_page = 16
+
+-- the most entries of a journal's page
+abbrev pub largest_page : ℕ
+largest_page = 65536

@@ -1,0 +1,16 @@
+//! The numbers of the settings. `specs/Bounds.antt` has them for contracts.
+
+/// The most bytes of a name.
+pub const LONGEST_NAME: usize = 64;
+
+/// The most bytes of a token.
+pub const LONGEST_TOKEN: usize = 128;
+
+/// The most threads that serve connections.
+pub const MOST_WORKERS: usize = 64;
+
+/// The fewest entries of a journal's page.
+pub const SMALLEST_PAGE: usize = 16;
+
+/// The most entries of a journal's page.
+pub const LARGEST_PAGE: usize = 65_536;
