@@ -10,7 +10,7 @@ use crate::end::End;
 use std::alloc::Global;
 use tc_grammar::{Head, StoreKind};
 use tc_item::exptime::due;
-use tc_item::{Blob, Due, Item, Key, Moment, NoMemory};
+use tc_item::{Blob, Due, Item, Key, Moment, NoMemory, RECORD_WEIGHT};
 
 /// An item that is to be stored and has no cas number yet.
 #[derive(Debug, Drop)]
@@ -40,7 +40,7 @@ impl Draft {
     pub(crate) fn weight_under(&self, key: &Key) -> u64
         ensures { result ≡ weight_of key.now (length self.now.blob) }
     {
-        key.as_bytes().len() as u64 + self.blob.as_slice().len() as u64 + 64
+        key.as_bytes().len() as u64 + self.blob.as_slice().len() as u64 + RECORD_WEIGHT
     }
 }
 
