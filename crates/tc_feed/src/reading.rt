@@ -178,7 +178,8 @@ pub(crate) fn look(
     ensures remembered { IfOk result (λ r. r.taken ≡ None
         → IsRemembered r.needed r.scanned unread.now) }
     ensures awaited { IfOk result (λ r. IsAwaited limit r.needed unread.now) }
-    ensures short { IfOk result (λ r. r.taken ≡ None → length unread.now ≤ limit + (longest_line + 2)) }
+    ensures short { IfOk result (λ r. r.taken ≡ None
+        → length unread.now ≤ limit + (longest_line + 2)) }
 {
     match find_end(unread, scanned) {
         None => Ok(look_for_line(unread)),

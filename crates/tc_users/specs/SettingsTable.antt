@@ -113,7 +113,8 @@ tables_fault_in d = user_field_fault (field_in Users d)
 
 -- the number of workers is there, and then in its range
 abbrev pub workers_fault_in : Data → Option SettingsFault
-workers_fault_in d = option_or (missing_number_in Workers d) (range_fault 1 most_workers WorkersRange (number_in (field_in Workers d)))
+workers_fault_in d =
+    option_or (missing_number_in Workers d) (range_fault 1 most_workers WorkersRange (number_in (field_in Workers d)))
 
 -- the entries of a journal's page are there, and then in their range
 abbrev pub journal_fault_in : Data → Option SettingsFault

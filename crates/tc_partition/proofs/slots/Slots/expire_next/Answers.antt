@@ -16,7 +16,8 @@ use Rattle.tc_partition.proofs.slots.Slots.expire_next.Goals as goal
 pub remove-requires : goal.remove-requires
 remove-requires c =
     let i = c.self.inside in
-    let early : c.args.moment < moment_limit = omega (arith, c.seconds-seconds.ensures.seconds, c.seconds-seconds.ensures.bounded) in
+    let early : c.args.moment < moment_limit =
+    omega (arith, c.seconds-seconds.ensures.seconds, c.seconds-seconds.ensures.bounded) in
     let one = due_one i.index i.entries i.lists i.wheel c.self.invariant.agree c.args.moment early c.in-Some.due.0
     c.in-Some.ensures.0 in
     holds_entry i.index i.entries i.lists i.wheel c.self.invariant.agree one.0 c.in-Some.due c.vacate.new.index
@@ -25,7 +26,8 @@ remove-requires c =
 pub invariant_of-self : goal.invariant_of-self
 invariant_of-self c =
     let i = c.self.inside in
-    let early : c.args.moment < moment_limit = omega (arith, c.seconds-seconds.ensures.seconds, c.seconds-seconds.ensures.bounded) in
+    let early : c.args.moment < moment_limit =
+    omega (arith, c.seconds-seconds.ensures.seconds, c.seconds-seconds.ensures.bounded) in
     let one = due_one i.index i.entries i.lists i.wheel c.self.invariant.agree c.args.moment early c.in-Some.due.0
     c.in-Some.ensures.0 in
     let gone = c.vacate.ensures one.0 one.1 in
@@ -44,7 +46,8 @@ invariant_of-self c =
 pub returns-in-Some-clause-kept : goal.returns-in-Some-clause-kept
 returns-in-Some-clause-kept c =
     let i = c.self.inside in
-    let early : c.args.moment < moment_limit = omega (arith, c.seconds-seconds.ensures.seconds, c.seconds-seconds.ensures.bounded) in
+    let early : c.args.moment < moment_limit =
+    omega (arith, c.seconds-seconds.ensures.seconds, c.seconds-seconds.ensures.bounded) in
     let one = due_one i.index i.entries i.lists i.wheel c.self.invariant.agree c.args.moment early c.in-Some.due.0
     c.in-Some.ensures.0 in
     slots_expired_areas i.index i.entries i.lists i.wheel c.self.invariant.agree c.args.moment early one.0 c.in-Some.due one.1
@@ -54,13 +57,15 @@ returns-in-Some-clause-kept c =
 pub returns-in-None-clause-none : goal.returns-in-None-clause-none
 returns-in-None-clause-none c = λ _.
     let i = c.self.inside in
-    let early : c.args.moment < moment_limit = omega (arith, c.seconds-seconds.ensures.seconds, c.seconds-seconds.ensures.bounded) in
+    let early : c.args.moment < moment_limit =
+    omega (arith, c.seconds-seconds.ensures.seconds, c.seconds-seconds.ensures.bounded) in
     none_due i.index i.entries i.lists i.wheel c.self.invariant.agree c.args.moment early c.in-None.ensures.0
 
 pub returns-in-Some-clause-alive : goal.returns-in-Some-clause-alive
 returns-in-Some-clause-alive c = λ n e h alive.
     let i = c.self.inside in
-    let early : c.args.moment < moment_limit = omega (arith, c.seconds-seconds.ensures.seconds, c.seconds-seconds.ensures.bounded) in
+    let early : c.args.moment < moment_limit =
+    omega (arith, c.seconds-seconds.ensures.seconds, c.seconds-seconds.ensures.bounded) in
     let one = due_one i.index i.entries i.lists i.wheel c.self.invariant.agree c.args.moment early c.in-Some.due.0
     c.in-Some.ensures.0 in
     alive_stays c.args.moment c.in-Some.due.0 one.0 i.entries.slots c.vacate.new.entries.slots one.1 one.2
@@ -69,7 +74,8 @@ returns-in-Some-clause-alive c = λ n e h alive.
 pub returns-in-Some-clause-sound : goal.returns-in-Some-clause-sound
 returns-in-Some-clause-sound c = λ limits h.
     let i = c.self.inside in
-    let early : c.args.moment < moment_limit = omega (arith, c.seconds-seconds.ensures.seconds, c.seconds-seconds.ensures.bounded) in
+    let early : c.args.moment < moment_limit =
+    omega (arith, c.seconds-seconds.ensures.seconds, c.seconds-seconds.ensures.bounded) in
     let one = due_one i.index i.entries i.lists i.wheel c.self.invariant.agree c.args.moment early c.in-Some.due.0
     c.in-Some.ensures.0 in
     let left = slots_emptied_areas i.index i.entries i.lists i.wheel c.self.invariant.agree one.0 c.in-Some.due c.vacate.new.index
