@@ -106,7 +106,12 @@ impl Size {
 
 /// An empty cache of this budget.
 fn empty<C: Kind>(alloc: Global, budget: u64, hasher: RandomState) -> Result<C, NoMemory> {
-    C::begin(alloc, budget.max(SMALLEST_BUDGET).min(LARGEST_BUDGET), 1_024, hasher)
+    C::begin(
+        alloc,
+        budget.max(SMALLEST_BUDGET).min(LARGEST_BUDGET),
+        1_024,
+        hasher,
+    )
 }
 
 /// Items that are made and set, one after another.

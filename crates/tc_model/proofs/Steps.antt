@@ -18,7 +18,6 @@ and_parts true b h = (refl, h)
 and_parts false b h = absurd (cc)
 
 module _ {A : Type 0} where
-
   pub beyond_none : (w : A → ℕ) (room : ℕ) (xs : List A) → sum_by w xs ≤ room → beyond w room xs ≡ []
   beyond_none w room [] h = refl
   beyond_none w room (x ∷ xs) h =

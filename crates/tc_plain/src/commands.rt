@@ -112,11 +112,7 @@ pub trait Commands {
         ensures { result ≡ due_of exptime (advance (cache self.now) now).live.moment };
 
     /// The user's counters, twice.
-    fn stats(
-        &mut self,
-        alloc: Global,
-        now: Moment,
-    ) -> Result<(Statistics, Statistics), NoMemory>
+    fn stats(&mut self, alloc: Global, now: Moment) -> Result<(Statistics, Statistics), NoMemory>
         requires { is_sound self.old }
         ensures first { IfOk result (λ r. r.0 ≡ numbers_of (advance (cache self.old) now)) }
         ensures second { IfOk result (λ r. r.1 ≡ numbers_of (advance (cache self.old) now)) }

@@ -251,11 +251,7 @@ impl Commands for Plain {
         due(exptime, self.live.moment.later(now))
     }
 
-    fn stats(
-        &mut self,
-        alloc: Global,
-        now: Moment,
-    ) -> Result<(Statistics, Statistics), NoMemory> {
+    fn stats(&mut self, alloc: Global, now: Moment) -> Result<(Statistics, Statistics), NoMemory> {
         let mut first = Statistics::new(alloc, self.counters)?;
         let mut second = Statistics::new(alloc, self.counters)?;
         self.advance(now);

@@ -12,9 +12,7 @@ ghost use Rattle.tc_users.specs.SettingsTable.{AreSoundNumbers};
 
 use crate::fields::{find_field, found_of, read_number, read_text};
 use crate::user_table::read_rows;
-use crate::{
-    Field, Found, LARGEST_PAGE, MOST_WORKERS, SMALLEST_PAGE, SettingsFault, Users,
-};
+use crate::{Field, Found, LARGEST_PAGE, MOST_WORKERS, SMALLEST_PAGE, SettingsFault, Users};
 use std::alloc::Global;
 use std::marker::Model;
 use tc_item::NoMemory;

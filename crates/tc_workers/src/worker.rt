@@ -3,7 +3,7 @@ ghost use Rattle.std.specs.Prelude.{◌≡◌, ◌*◌, ◌≤◌, IfOk, IfErr, 
 ghost use Rattle.tc_workers.specs.Turns.{most_kept, WritesAtMost};
 
 use crate::gate::Gate;
-use crate::link::{Link, LONGEST_PIECE};
+use crate::link::{LONGEST_PIECE, Link};
 use crate::pace::{Onward, Pace};
 use crate::service::Service;
 use crate::wire::{Inlet, Patience, Wire};

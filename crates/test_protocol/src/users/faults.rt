@@ -225,9 +225,17 @@ fn the_words_of_a_range_spell_the_numbers_that_are_checked(rt: HostRuntime) -> R
     expect_within(&rt, SettingsFault::JournalRange { found }, want.as_str())?;
     let (user, found) = (1, 0);
     let want = format!(in alloc; "number of bytes, {SMALLEST_BUDGET} to {LARGEST_BUDGET}")?;
-    expect_within(&rt, SettingsFault::BudgetRange { user, found }, want.as_str())?;
+    expect_within(
+        &rt,
+        SettingsFault::BudgetRange { user, found },
+        want.as_str(),
+    )?;
     let want = format!(in alloc; "number of bytes, 1 to {LARGEST_ITEM}")?;
-    expect_within(&rt, SettingsFault::LargestRange { user, found }, want.as_str())
+    expect_within(
+        &rt,
+        SettingsFault::LargestRange { user, found },
+        want.as_str(),
+    )
 }
 
 #[test]
