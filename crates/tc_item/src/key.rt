@@ -6,16 +6,17 @@ ghost use Rattle.std.specs.Cmp.Rules.{comparing, hashing};
 ghost use Rattle.std.proofs.Common.{rules};
 ghost use Rattle.tc_item.specs.Bounds.{longest_key};
 ghost use Rattle.tc_item.specs.KeyRule.{is_key, is_key_byte};
+ghost use Rattle.tc_item.specs.KeyBytes.{bytes_held, IsInPlace};
 ghost use Rattle.tc_item.specs.KeyFaults.{key_fault};
 ghost use Rattle.tc_item.specs.declared.key.KeyFault.TheVariants.{NoMemory as OutOfMemory};
 
 use crate::{Few, LONGEST_KEY, NoMemory, TryCopy};
-use smallvec::SmallVec;
 use std::alloc::Global;
 use std::error::Error;
 use std::fmt;
 use std::hash::{Hash, Hasher};
 use std::marker::Model;
+use std::mem::size_of;
 
 /// Why bytes are no key, in the order in which the reasons are looked for; or memory was refused.
 #[derive(Clone, Copy, Debug, PartialEq, Eq)]
@@ -47,21 +48,34 @@ impl From<NoMemory> for KeyFault {
     }
 }
 
-/// What an item is stored under. Most keys are short, so up to 32 bytes are kept in place.
+/// The most bytes of a key that are kept in place.
+const IN_PLACE: usize = 32;
+
+/// What an item is stored under. Most keys are short, so up to 32 bytes are kept in place, and copied
+/// all at once.
 #[derive(Drop)]
 pub struct Key {
-    bytes: SmallVec<u8, 32>,
+    bytes: KeyBytes,
 }
 
+/// A key's bytes: the first so many of some in place, or those in memory of their own.
+#[derive(Drop)]
+enum KeyBytes {
+    Short([u8; IN_PLACE], u8),
+    Long(Vec<u8>),
+}
+
+const _: () = prove!(size_of::<Key>() == 40);
+
 impl Model for Key {
-    ghost use Rattle.std.specs.Prelude.{ℕ, List, IsTrue};
-    ghost use Rattle.tc_item.specs.KeyRule.{is_key};
+    ghost use Rattle.std.specs.Prelude.{ℕ, List};
+    ghost use Rattle.tc_item.specs.KeyBytes.{bytes_held, IsKept};
 
     ghost Value = { List ℕ };
 
-    ghost view = { λ k. k.bytes.items };
+    ghost view = { λ k. bytes_held k.bytes };
 
-    ghost invariant = { λ k. IsTrue (is_key k.bytes.items) };
+    ghost invariant = { λ k. IsKept k.bytes };
 }
 
 fn is_key_byte(byte: u8) -> bool
@@ -81,6 +95,19 @@ pub fn is_key(bytes: &[u8]) -> bool
     ensures { result ≡ is_key bytes.now }
 {
     !bytes.is_empty() && bytes.len() <= LONGEST_KEY && are_key_bytes(bytes)
+}
+
+impl KeyBytes {
+    /// These bytes, in place.
+    fn short(bytes: &[u8]) -> KeyBytes
+        requires { length bytes.now ≤ 32 }
+        ensures held { bytes_held result ≡ bytes.now }
+        ensures fits { IsInPlace result }
+    {
+        let mut place = [0; IN_PLACE];
+        place[..bytes.len()].copy_from_slice(bytes);
+        KeyBytes::Short(place, bytes.len() as u8)
+    }
 }
 
 impl Key {
@@ -107,7 +134,11 @@ impl Key {
         requires { IsTrue (is_key bytes.now) }
         ensures { IfOk result (λ k. k ≡ bytes.now) }
     {
-        let bytes = SmallVec::from_slice(alloc, bytes)?;
+        let bytes = if bytes.len() <= IN_PLACE {
+            KeyBytes::short(bytes)
+        } else {
+            KeyBytes::Long(Vec::from_slice(alloc, bytes)?)
+        };
         Ok(Key { bytes })
     }
 
@@ -118,14 +149,21 @@ impl Key {
         ensures not_empty { 0 < length self.now }
         ensures short { length self.now ≤ longest_key }
     {
-        self.bytes.as_slice()
+        match &self.bytes {
+            KeyBytes::Short(place, length) => &place[..usize::from(*length)],
+            KeyBytes::Long(bytes) => bytes.as_slice(),
+        }
     }
 
     /// An equal key.
     pub fn copy(&self, alloc: Global) -> Result<Key, NoMemory>
         ensures { IfOk result (λ k. k ≡ self.now) }
     {
-        Key::from_key_bytes(alloc, self.as_bytes())
+        let bytes = match &self.bytes {
+            KeyBytes::Short(place, length) => KeyBytes::Short(*place, *length),
+            KeyBytes::Long(bytes) => KeyBytes::Long(Vec::from_slice(alloc, bytes.as_slice())?),
+        };
+        Ok(Key { bytes })
     }
 }
 

@@ -1,0 +1,20 @@
+-- Which bytes of a key are kept in place, and which are not. Source: this project's own.
+use Rattle.std.specs.Prelude.{◌≤◌, ⊤, List, ℕ, take, IsTrue}
+use Rattle.tc_item.specs.declared.key.KeyBytes.{KeyBytes}
+use Rattle.tc_item.specs.declared.key.KeyBytes.TheVariants.{Short, Long}
+use Rattle.tc_item.specs.KeyRule.{is_key}
+
+-- the bytes: the first so many of those in place, or all of the others
+abbrev pub bytes_held : KeyBytes → List ℕ
+bytes_held (Short place length) = take length place
+bytes_held (Long bytes) = bytes.items
+
+-- no more are counted than there are places
+abbrev pub IsInPlace : KeyBytes → Type 0
+IsInPlace (Short place length) = length ≤ 32
+IsInPlace (Long bytes) = ⊤
+
+-- a key's bytes
+pub record IsKept (k : KeyBytes) : Type 0 where
+  pub in_place : IsInPlace k
+  pub good : IsTrue (is_key (bytes_held k))
