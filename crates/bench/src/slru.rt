@@ -113,7 +113,7 @@ fn filled(alloc: Global, slots: u64) -> Result<Lists, NoMemory> {
     let all = slots.saturating_sub(1).saturating_mul(WEIGHT).min(MOST);
     let window = all / 100;
     let main = all - window;
-    let mut lists = Lists::new(alloc, window, main, main / 5 * 4);
+    let mut lists = Lists::new(alloc, window, main, main / 5 * 4)?;
     lists.reserve(slots as usize)?;
     for place in 1..slots {
         push(&mut lists, Slot(place as usize));

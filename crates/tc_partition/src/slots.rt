@@ -73,11 +73,12 @@ impl Slots {
         ensures limits { IfOk result (λ s. s.limits ≡ limits) }
         ensures areas { IfOk result (λ s. s.areas ≡ no_entries) }
     {
+        let lists = Lists::new(alloc, limits.window, limits.main, limits.protected)?;
         let wheel = Wheel::new(alloc)?;
         Ok(Slots {
             index: IndexMap::with_hasher(alloc, hasher),
             entries: Slab::new(alloc),
-            lists: Lists::new(alloc, limits.window, limits.main, limits.protected),
+            lists,
             wheel,
         })
     }

@@ -3,6 +3,7 @@ pub mod Gone
 pub mod Holding
 pub mod Lasts
 pub mod Members
+pub mod Notes
 pub mod Outranked
 pub mod Put
 pub mod Read
@@ -10,4 +11,3 @@ pub mod Reserved
 pub mod Standing
 pub mod Taken
 pub mod Walked
-pub mod Writes

@@ -1,12 +1,15 @@
 -- More room changes no list; and no lists, with the room that there was.
 use Rattle.std.specs.Prelude.{Option, None, replicate, map, max, sum_by, if◌then◌else◌}
-use Rattle.std.proofs.Common.{◌≡◌, ℕ, zero, suc, ◌+◌, ◌-◌, ◌<◌, ◌≤◌, Bool, true, false, List, [], ◌∷◌, ◌++◌, length, refl, sym}
+use Rattle.std.proofs.Common.{◌≡◌, ℕ, ◌+◌, ◌-◌, ◌<◌, Bool, true, false, List, [], ◌∷◌, ◌++◌, length, refl, sym}
 use Rattle.std.proofs.Common.{◌∙◌, ap, subst, arith, length-append}
-use Rattle.std.proofs.lemmas.List.{get_or_append_left, length-replicate}
+use Rattle.std.proofs.lemmas.List.{get_or_append_left, length-map, length-replicate}
 use Rattle.tc_model.specs.Areas.{Areas}
 use Rattle.tc_model.specs.Ring.{AreBelow}
 use Rattle.tc_model.proofs.Chained.{ring_grown, index-grown}
-use Rattle.tc_slru.specs.Links.{Links, area_at, marks_alone, grown}
+use Rattle.tc_ring.specs.Links as ring
+use Rattle.tc_ring.specs.Links.{AreMarks}
+use Rattle.tc_ring.proofs.Alone.{chained_alone}
+use Rattle.tc_slru.specs.Links.{Links, links_of, area_at, grown}
 use Rattle.tc_slru.specs.Slots.{Placed, Shown, weigh}
 use Rattle.tc_slru.specs.InAreas.{list_in, no_areas}
 use Rattle.tc_slru.specs.Kept.{placed_of, placed_areas, nodes_by, shown_by, AreAt, AreKept, AreNodes}
@@ -14,7 +17,9 @@ use Rattle.tc_slru.specs.declared.area.Area.{Area}
 use Rattle.tc_slru.specs.declared.area.Area.TheVariants.{Window, Probation, Protected}
 use Rattle.tc_slru.specs.declared.area.Size.{Size}
 use Rattle.tc_slru.specs.declared.area.Sizes.{Sizes}
+use Rattle.tc_slru.specs.declared.nodes.SlotNote.{SlotNote}
 use Rattle.tc_slru.proofs.Members.{free_grown}
+use Rattle.tc_slru.proofs.Notes.{field_at, nothing, links-grown}
 use Rattle.tc_slru.proofs.Put.{same_areas, same_shown, nodes_again}
 use Rattle.tc_slru.proofs.Standing.{standing}
 
@@ -96,14 +101,17 @@ reserved_by slots l s m e k =
 abbrev pub roomier : Bool → ℕ → Shown → Shown
 roomier b slots v = if b then (record v { slots = max v.slots slots }) else v
 
-pub reserved_if : (b : Bool) (slots : ℕ) (l : Links) (s : Sizes) (v : Shown) (m : Links)
-    → m ≡ (if b then (grown (slots + 3) l) else l) → shown_by l s ≡ v → AreNodes l s (nodes_by l.next s)
-    → AreNodes m s (nodes_by m.next s) × (shown_by m s ≡ roomier b slots v)
-reserved_if true slots l s v m e w k =
-    let r : IsReserved slots l s m = reserved_by slots l s m e k in
-    (r.nodes, r.shows ∙ ap (λ (z : Shown). record z { slots = max z.slots slots }) w)
-reserved_if false slots l s v m e w k =
-    (subst (λ (x : Links). AreNodes x s (nodes_by x.next s)) (sym e) k, ap (λ (x : Links). shown_by x s) e ∙ w)
+pub reserved_if : (b : Bool) (slots : ℕ) (r : ring.Links SlotNote) (s : Sizes) (v : Shown) (q : ring.Links SlotNote)
+    → q ≡ (if b then (ring.grown (slots + 3) nothing r) else r) → shown_by (links_of r) s ≡ v
+    → AreNodes (links_of r) s (nodes_by r.next s)
+    → AreNodes (links_of q) s (nodes_by q.next s) × (shown_by (links_of q) s ≡ roomier b slots v)
+reserved_if true slots r s v q e w k =
+    let done : IsReserved slots (links_of r) s (links_of q) =
+    reserved_by slots (links_of r) s (links_of q) (links-grown (slots + 3) r q e) k in
+    (done.nodes, done.shows ∙ ap (λ (z : Shown). record z { slots = max z.slots slots }) w)
+reserved_if false slots r s v q e w k =
+    (subst (λ (x : ring.Links SlotNote). AreNodes (links_of x) s (nodes_by x.next s)) (sym e) k,
+    ap (λ (x : ring.Links SlotNote). shown_by (links_of x) s) e ∙ w)
 
 -- the sizes of empty lists
 abbrev none : Size
@@ -112,35 +120,20 @@ none = record { count = 0; weight = 0 }
 abbrev pub no_sizes : Sizes
 no_sizes = record { window = none; probation = none; protected = none }
 
-alone_free : (n : ℕ) → 2 < n → area_at marks_alone.areas n ≡ None
-alone_free zero h = refl
-alone_free (suc zero) h = refl
-alone_free (suc (suc zero)) h = refl
-alone_free (suc (suc (suc n))) h = refl
-
--- the marks alone are no lists
-nodes_alone : AreNodes marks_alone no_sizes (nodes_by marks_alone.next no_sizes)
-nodes_alone = record {
-  ring = record {
-    linked = (refl, refl, (refl, refl, (refl, refl)));
-    distinct = ((omega arith, (omega arith, tt)), ((omega arith, tt), (tt, tt)));
-    below = (omega arith, (omega arith, (omega arith, tt)));
-    long = refl;
-  };
-  window = record { count = refl; weight = refl; members = tt };
-  probation = record { count = refl; weight = refl; members = tt };
-  protected = record { count = refl; weight = refl; members = tt };
-  free = λ n big h. alone_free n big;
-  weights_long = refl;
-  areas_long = refl;
-}
-
--- no lists are left, and the room
-pub cleared_by : (all : ℕ) (m : Links) → 3 ≤ all → m ≡ grown all marks_alone
-    → AreNodes m no_sizes (nodes_by m.next no_sizes) × (shown_by m no_sizes ≡ record { slots = all - 3; areas = no_areas })
-cleared_by all m h e =
-    let same : all ≡ all - 3 + 3 = omega arith in
-    let r : IsReserved (all - 3) marks_alone no_sizes m =
-    reserved_by (all - 3) marks_alone no_sizes m (e ∙ ap (λ n. grown n marks_alone) same) nodes_alone in
-    let room : max (3 - 3) (all - 3) ≡ all - 3 = omega arith in
-    (r.nodes, r.shows ∙ same_shown _ _ _ _ room refl)
+-- the marks alone are no lists, and leave the room
+pub alone_by : (all : ℕ) (r : ring.Links SlotNote) → AreMarks 3 all nothing r
+    → AreNodes (links_of r) no_sizes (nodes_by r.next no_sizes)
+    × (shown_by (links_of r) no_sizes ≡ record { slots = all - 3; areas = no_areas })
+alone_by all r h =
+    let long : length r.notes ≡ length r.next = h.notes_long ∙ sym h.next_long in (
+      record {
+        ring = chained_alone 2 all nothing r h;
+        window = record { count = refl; weight = refl; members = tt };
+        probation = record { count = refl; weight = refl; members = tt };
+        protected = record { count = refl; weight = refl; members = tt };
+        free = λ n big out. field_at (λ (x : SlotNote). x.area) r.notes n ∙ ap (λ (x : SlotNote). x.area) (h.notes n);
+        weights_long = length-map r.notes (λ (x : SlotNote). x.weight) ∙ long;
+        areas_long = length-map r.notes (λ (x : SlotNote). x.area) ∙ long;
+      },
+      same_shown _ _ _ _ (ap (λ n. n - 3) h.next_long) refl,
+    )

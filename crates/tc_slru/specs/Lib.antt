@@ -4,7 +4,6 @@ pub mod InAreas
 pub mod Kept
 pub mod Linked
 pub mod Links
-pub mod Nodes
 pub mod Sizes
 pub mod SlotLists
 pub mod Slots

@@ -14,18 +14,17 @@
 ghost use Rattle.std.specs.Prelude.{◌≡◌, ℕ, reverse, ◌+◌, ◌-◌, ◌<◌, ◌≤◌, ◌^◌, true, false, length, max, slice_index, is_ok, IfOk};
 ghost use Rattle.std.specs.Prelude.{map, OnErr, sum_by, if◌then◌else◌};
 ghost use Rattle.tc_model.specs.Areas.{total};
-ghost use Rattle.tc_model.specs.Ring.{HasPlace};
-ghost use Rattle.tc_slru.specs.Links.{unlinked, linked_behind};
 ghost use Rattle.tc_slru.specs.Slots.{placed, weigh, holds, without_slot, taken_out, with_room};
 ghost use Rattle.tc_slru.specs.Slots.{slot_of};
 ghost use Rattle.tc_slru.specs.InAreas.{list_in, put_in, area_of, IsLast, IsSize, no_areas, mark_of, end_of};
 ghost use Rattle.tc_slru.specs.Victims.{Counts, left_over};
 
 use crate::area::{Area, Sizes};
-use crate::nodes::{MARKS, Nodes};
+use crate::nodes::{MARKS, Nodes, SlotNote};
 use std::alloc::Global;
 use std::marker::Model;
 use tc_item::{NoMemory, Slot};
+use tc_ring::Ring;
 
 /// A slot of a list, and what it weighs.
 #[derive(Clone, Copy)]
@@ -56,31 +55,6 @@ fn end_of(area: Area) -> usize
     }
 }
 
-/// Takes a node out of the ring.
-fn unlink(nodes: &mut Nodes, at: usize)
-    requires { HasPlace nodes.old.next nodes.old.prev at }
-    ensures { nodes.new ≡ unlinked at nodes.old }
-{
-    let node = nodes.node(at);
-    let (before, after) = (node.prev as usize, node.next as usize);
-    nodes.set_next(before, after);
-    nodes.set_prev(after, before);
-}
-
-/// Puts a node into the ring, behind another.
-fn link_behind(nodes: &mut Nodes, before: usize, at: usize)
-    requires before { before < length nodes.old.next }
-    requires within { at < length nodes.old.next }
-    requires after { slice_index nodes.old.next before < length nodes.old.next }
-    ensures { nodes.new ≡ linked_behind before at nodes.old }
-{
-    let after = nodes.node(before).next as usize;
-    nodes.set_next(before, at);
-    nodes.set_prev(at, before);
-    nodes.set_next(at, after);
-    nodes.set_prev(after, at);
-}
-
 /// Window, probation and protected. What each holds and weighs is kept, not added up.
 #[derive(Drop)]
 pub struct LinkedAreas {
@@ -102,13 +76,14 @@ impl Model for LinkedAreas {
 
 impl LinkedAreas {
     /// Empty lists, with room for no slot.
-    pub fn new(alloc: Global) -> LinkedAreas
-        ensures { result ≡ record { slots = 0; areas = no_areas } }
+    pub fn new(alloc: Global) -> Result<LinkedAreas, NoMemory>
+        ensures { IfOk result (λ l. l ≡ record { slots = 0; areas = no_areas }) }
     {
-        LinkedAreas {
-            nodes: Nodes::new(alloc),
+        let nodes = Ring::new(alloc, SlotNote::NONE)?;
+        Ok(LinkedAreas {
+            nodes,
             sizes: Sizes::NONE,
-        }
+        })
     }
 
     /// Room for all slots below this. A refusal changes nothing.
@@ -117,14 +92,14 @@ impl LinkedAreas {
             ≡ (if is_ok result then with_room slots self.old else self.old) }
         ensures refused { OnErr result (self.old.slots < slots) }
     {
-        self.nodes.reserve(slots)
+        self.nodes.reserve(slots, SlotNote::NONE)
     }
 
     /// Takes all slots out of their lists. The room stays.
     pub fn clear(&mut self)
         ensures { self.new ≡ record self.old { areas = no_areas } }
     {
-        self.nodes.clear();
+        self.nodes.clear(SlotNote::NONE);
         self.sizes = Sizes::NONE;
     }
 
@@ -143,7 +118,7 @@ impl LinkedAreas {
             return false;
         }
         let at = self.nodes.place(slot);
-        self.nodes.node(at).area.is_some()
+        self.nodes.node(at).note.area.is_some()
     }
 
     /// How many each list holds and what they weigh.
@@ -163,8 +138,12 @@ impl LinkedAreas {
         ensures { self.new ≡ put_in area (placed slot.0 weight) self.old }
     {
         let at = self.nodes.place(slot);
-        self.nodes.note(at, weight, area);
-        link_behind(&mut self.nodes, mark_of(area), at);
+        let note = SlotNote {
+            weight,
+            area: Some(area),
+        };
+        self.nodes.note(at, note);
+        self.nodes.link_behind(mark_of(area), at);
         self.sizes.enter(area, weight as u64);
     }
 
@@ -176,11 +155,15 @@ impl LinkedAreas {
         ensures reserved { slot.0 < self.old.slots }
     {
         let at = self.nodes.place(slot);
-        let node = self.nodes.node(at);
-        let area = node.area.unwrap();
-        unlink(&mut self.nodes, at);
-        self.nodes.free(at);
-        self.sizes.leave(area, node.weight as u64);
+        let note = self.nodes.node(at).note;
+        let area = note.area.unwrap();
+        let gone = SlotNote {
+            weight: note.weight,
+            area: None,
+        };
+        self.nodes.unlink(at);
+        self.nodes.note(at, gone);
+        self.sizes.leave(area, note.weight as u64);
         area
     }
 
@@ -205,7 +188,7 @@ impl LinkedAreas {
         let node = self.nodes.node(at);
         Held {
             slot: Slot(at - MARKS),
-            weight: node.weight,
+            weight: node.note.weight,
         }
     }
 
@@ -228,7 +211,7 @@ impl LinkedAreas {
             if freq(Slot(at - MARKS)) >= level {
                 return None;
             }
-            need = need.saturating_sub(node.weight as u64);
+            need = need.saturating_sub(node.note.weight as u64);
         }
         Some(need)
     }

@@ -42,19 +42,20 @@ impl Model for Lists {
 
 impl Lists {
     /// Empty lists with room for no slot: the window may weigh `window`, probation and protected
-    /// together `main`, and protected alone `protected`. Takes no memory.
-    pub fn new(alloc: Global, window: u64, main: u64, protected: u64) -> Lists
+    /// together `main`, and protected alone `protected`. Takes memory for its marks.
+    pub fn new(alloc: Global, window: u64, main: u64, protected: u64) -> Result<Lists, NoMemory>
         requires { main < 2 ^ 32 }
-        ensures { result ≡ fresh window main protected }
+        ensures { IfOk result (λ l. l ≡ fresh window main protected) }
     {
-        Lists {
+        let areas = LinkedAreas::new(alloc)?;
+        Ok(Lists {
             limits: Limits {
                 window,
                 main,
                 protected,
             },
-            areas: LinkedAreas::new(alloc),
-        }
+            areas,
+        })
     }
 
     /// Room for all slots below `slots`; never less than there was. A refusal changes nothing.

@@ -11,7 +11,8 @@ use Rattle.tc_model.specs.Chains.{fronted, without_node, is_among}
 use Rattle.tc_model.proofs.Rings.{length-slice_set}
 use Rattle.tc_model.proofs.Chained.{chained_put}
 use Rattle.tc_wheel.specs.Dues.{due_at, is_due}
-use Rattle.tc_wheel.specs.Links.{Links, linked_behind, unlinked, noted, freed}
+use Rattle.tc_ring.specs.Links.{linked_behind, unlinked}
+use Rattle.tc_wheel.specs.Links.{Links, noted, freed}
 use Rattle.tc_wheel.specs.Kept.{list_at, in_bucket, stands_in, Awaits, AreKept}
 use Rattle.tc_wheel.proofs.Listed.{fronted_here, fronted_there, length-fronted, list_at-without, length-without_all, among_own}
 use Rattle.tc_wheel.proofs.Listed.{among_other, away_marked, cut_at, place_at}
@@ -61,7 +62,7 @@ stands_none k i true = refl
 stands_none k i false = refl
 
 pub not_late : (k moment left : ℕ) (l : Links) (lists : List (List ℕ)) (n : ℕ) → AreKept k moment left l lists
-    → is_due moment (due_at l.dues n) ≡ false → is_among n (list_at k lists) ≡ false
+    → is_due moment (due_at l.notes n) ≡ false → is_among n (list_at k lists) ≡ false
 not_late k moment left l lists n a e = go (is_among n (list_at k lists)) refl
   where
     go : (b : Bool) → is_among n (list_at k lists) ≡ b → b ≡ false
@@ -70,7 +71,7 @@ not_late k moment left l lists n a e = go (is_among n (list_at k lists)) refl
 
 -- a node without a due stands in no list
 pub free_at : (k moment left : ℕ) (l : Links) (lists : List (List ℕ)) (n i : ℕ) → AreKept k moment left l lists
-    → due_at l.dues n ≡ None → i < suc k → is_among n (list_at i lists) ≡ false
+    → due_at l.notes n ≡ None → i < suc k → is_among n (list_at i lists) ≡ false
 free_at k moment left l lists n i a e h = go (cases_lt i k)
   where
     go : (i < k) ⊎ (k ≤ i) → is_among n (list_at i lists) ≡ false
@@ -88,7 +89,7 @@ pub record Home (k n : ℕ) (lists : List (List ℕ)) : Type 0 where
   pub stands : is_among n (list_at list lists) ≡ true
 
 pub home_of : (k moment left : ℕ) (l : Links) (lists : List (List ℕ)) (n due : ℕ) → 0 < k → AreKept k moment left l lists
-    → due_at l.dues n ≡ Some due → Home k n lists
+    → due_at l.notes n ≡ Some due → Home k n lists
 home_of k moment left l lists n due some a e = go (is_among n (list_at k lists)) refl
   where
     go : (b : Bool) → is_among n (list_at k lists) ≡ b → Home k n lists
@@ -99,13 +100,13 @@ home_of k moment left l lists n due some a e = go (is_among n (list_at k lists))
           list = due % k;
           within = omega arith;
           stands =
-              a.kept (due % k) n small ∙ ap (λ b. stands_in k (due % k) b (due_at l.dues n)) h
+              a.kept (due % k) n small ∙ ap (λ b. stands_in k (due % k) b (due_at l.notes n)) h
               ∙ ap (λ o. in_bucket k (due % k) o) e ∙ eq-eqb (due % k) (due % k) refl;
         }
 
 -- marks are not held
 pub behind_marks : (k moment left : ℕ) (l : Links) (lists : List (List ℕ)) (n due : ℕ) → AreKept k moment left l lists
-    → due_at l.dues n ≡ Some due → k < n
+    → due_at l.notes n ≡ Some due → k < n
 behind_marks k moment left l lists n due a e = go (cases_lt k n)
   where
     go : (k < n) ⊎ (n ≤ k) → k < n
@@ -113,13 +114,13 @@ behind_marks k moment left l lists n due a e = go (cases_lt k n)
     go (inr h) = absurd (let f : None ≡ Some due = sym (a.marks n h) ∙ e in cc)
 
 pub held_place : (k moment left : ℕ) (l : Links) (lists : List (List ℕ)) (n due : ℕ) → 0 < k → AreKept k moment left l lists
-    → due_at l.dues n ≡ Some due → HasPlace l.next l.prev n
+    → due_at l.notes n ≡ Some due → HasPlace l.next l.prev n
 held_place k moment left l lists n due some a e =
     let h : Home k n lists = home_of k moment left l lists n due some a e in
     place_at l.next l.prev n h.list lists (omega (arith, a.count, behind_marks k moment left l lists n due a e)) h.stands a.ring
 
 -- a slot is held no longer
-pub kept_removed : (k moment left : ℕ) (l : Links) (lists : List (List ℕ)) (at due : ℕ) → 0 < k → due_at l.dues at ≡ Some due
+pub kept_removed : (k moment left : ℕ) (l : Links) (lists : List (List ℕ)) (at due : ℕ) → 0 < k → due_at l.notes at ≡ Some due
     → AreKept k moment left l lists
     → AreKept k moment left (freed at (unlinked at l)) (map (without_node at) lists)
 kept_removed k moment left l lists at due some e a =
@@ -128,15 +129,15 @@ kept_removed k moment left l lists at due some e a =
     record {
       count = length-without_all at lists ∙ a.count;
       ring = cut_at l.next l.prev at h.list lists (omega (arith, a.count)) h.stands a.ring;
-      dues_long = length-set l.dues at None ∙ a.dues_long ∙ sym (length-cut l.next l.prev at);
-      marks = λ n small. due_other l.dues at n None (omega arith) ∙ a.marks n small;
+      dues_long = length-set l.notes at None ∙ a.dues_long ∙ sym (length-cut l.next l.prev at);
+      marks = λ n small. due_other l.notes at n None (omega arith) ∙ a.marks n small;
       kept = λ i n small. kept_one i n small (eqb_tells n at);
       late = λ n among. late_one n among (eqb_tells n at);
       rest = λ n d out noted_is early. rest_one n d out noted_is early (eqb_tells n at);
     }
   where
     D : List (Option ℕ)
-    D = slice_set l.dues at None
+    D = slice_set l.notes at None
 
     M : List (List ℕ)
     M = map (without_node at) lists
@@ -152,28 +153,28 @@ kept_removed k moment left l lists at due some e a =
     kept_one i n small (inl p) =
         subst (λ z. is_among z (list_at i M) ≡ stands_in k i (is_among z (list_at k M)) (due_at D z)) (sym p.1)
         (own i
-        ∙ sym (ap (λ o. stands_in k i (is_among at (list_at k M)) o) (due_freed l.dues at)
+        ∙ sym (ap (λ o. stands_in k i (is_among at (list_at k M)) o) (due_freed l.notes at)
         ∙ stands_none k i (is_among at (list_at k M))))
     kept_one i n small (inr p) =
         other i n p.1 ∙ a.kept i n small
         ∙ sym (ap (λ b. stands_in k i b (due_at D n)) (other k n p.1)
-        ∙ ap (λ o. stands_in k i (is_among n (list_at k lists)) o) (due_other l.dues at n None p.1))
+        ∙ ap (λ o. stands_in k i (is_among n (list_at k lists)) o) (due_other l.notes at n None p.1))
 
     late_one : (n : ℕ) → is_among n (list_at k M) ≡ true → Compared n at → is_due moment (due_at D n) ≡ true
     late_one n among (inl p) =
         absurd (let f : false ≡ true = sym (own k) ∙ sym (ap (λ z. is_among z (list_at k M)) p.1) ∙ among in cc)
-    late_one n among (inr p) = ap (λ o. is_due moment o) (due_other l.dues at n None p.1) ∙ a.late n (sym (other k n p.1) ∙ among)
+    late_one n among (inr p) = ap (λ o. is_due moment o) (due_other l.notes at n None p.1) ∙ a.late n (sym (other k n p.1) ∙ among)
 
     rest_one : (n d : ℕ) → is_among n (list_at k M) ≡ false → due_at D n ≡ Some d → d ≤ moment → Compared n at
         → Awaits k moment left d
     rest_one n d out noted_is early (inl p) =
-        absurd (let f : None ≡ Some d = sym (due_freed l.dues at) ∙ sym (ap (λ z. due_at D z) p.1) ∙ noted_is in cc)
+        absurd (let f : None ≡ Some d = sym (due_freed l.notes at) ∙ sym (ap (λ z. due_at D z) p.1) ∙ noted_is in cc)
     rest_one n d out noted_is early (inr p) =
-        a.rest n d (sym (other k n p.1) ∙ out) (sym (due_other l.dues at n None p.1) ∙ noted_is) early
+        a.rest n d (sym (other k n p.1) ∙ out) (sym (due_other l.notes at n None p.1) ∙ noted_is) early
 
 -- a slot whose due has come is held
 pub kept_come : (k moment left : ℕ) (l : Links) (lists : List (List ℕ)) (at due : ℕ) → k < at → at < length l.next
-    → due_at l.dues at ≡ None → due ≤ moment → AreKept k moment left l lists
+    → due_at l.notes at ≡ None → due ≤ moment → AreKept k moment left l lists
     → AreKept k moment left (linked_behind k at (noted at due l)) (fronted k at lists)
 kept_come k moment left l lists at due big within none early a = record {
   count = length-fronted k at lists ∙ a.count;
@@ -181,15 +182,15 @@ kept_come k moment left l lists at due big within none early a = record {
       chained_put l.next l.prev k at lists (omega (arith, a.count)) within
       (away_marked at 0 lists (omega (arith, a.count))
       (λ i h. free_at k moment left l lists at i a none (omega (arith, a.count)))) a.ring;
-  dues_long = length-set l.dues at (Some due) ∙ a.dues_long ∙ sym (length-put l.next k at);
-  marks = λ n small. due_other l.dues at n (Some due) (omega arith) ∙ a.marks n small;
+  dues_long = length-set l.notes at (Some due) ∙ a.dues_long ∙ sym (length-put l.next k at);
+  marks = λ n small. due_other l.notes at n (Some due) (omega arith) ∙ a.marks n small;
   kept = λ i n small. kept_one i n small (eqb_tells n at);
   late = λ n among. late_one n among (eqb_tells n at);
   rest = λ n d out noted_is early. rest_one n d out noted_is early (eqb_tells n at);
 }
   where
     D : List (Option ℕ)
-    D = slice_set l.dues at (Some due)
+    D = slice_set l.notes at (Some due)
 
     F : List (List ℕ)
     F = fronted k at lists
@@ -215,25 +216,25 @@ kept_come k moment left l lists at due big within none early a = record {
     kept_one i n small (inr p) =
         ap (λ xs. is_among n xs) (there i small) ∙ a.kept i n small
         ∙ sym (ap (λ b. stands_in k i b (due_at D n)) (other n p.1)
-        ∙ ap (λ o. stands_in k i (is_among n (list_at k lists)) o) (due_other l.dues at n (Some due) p.1))
+        ∙ ap (λ o. stands_in k i (is_among n (list_at k lists)) o) (due_other l.notes at n (Some due) p.1))
 
     late_one : (n : ℕ) → is_among n (list_at k F) ≡ true → Compared n at → is_due moment (due_at D n) ≡ true
     late_one n among (inl p) =
         subst (λ z. is_due moment (due_at D z) ≡ true) (sym p.1)
-        (ap (λ o. is_due moment o) (due_own l.dues at (Some due) (omega (arith, a.dues_long))) ∙ le-leb due moment early)
+        (ap (λ o. is_due moment o) (due_own l.notes at (Some due) (omega (arith, a.dues_long))) ∙ le-leb due moment early)
     late_one n among (inr p) =
-        ap (λ o. is_due moment o) (due_other l.dues at n (Some due) p.1) ∙ a.late n (sym (other n p.1) ∙ among)
+        ap (λ o. is_due moment o) (due_other l.notes at n (Some due) p.1) ∙ a.late n (sym (other n p.1) ∙ among)
 
     rest_one : (n d : ℕ) → is_among n (list_at k F) ≡ false → due_at D n ≡ Some d → d ≤ moment → Compared n at
         → Awaits k moment left d
     rest_one n d out noted_is early (inl p) =
         absurd (let f : true ≡ false = sym own ∙ sym (ap (λ z. is_among z (list_at k F)) p.1) ∙ out in cc)
     rest_one n d out noted_is early (inr p) =
-        a.rest n d (sym (other n p.1) ∙ out) (sym (due_other l.dues at n (Some due) p.1) ∙ noted_is) early
+        a.rest n d (sym (other n p.1) ∙ out) (sym (due_other l.notes at n (Some due) p.1) ∙ noted_is) early
 
 -- a slot that is due later is held
 pub kept_later : (k moment left : ℕ) (l : Links) (lists : List (List ℕ)) (at due : ℕ) → 0 < k → k < at → at < length l.next
-    → due_at l.dues at ≡ None → moment < due → AreKept k moment left l lists
+    → due_at l.notes at ≡ None → moment < due → AreKept k moment left l lists
     → AreKept k moment left (linked_behind (due % k) at (noted at due l)) (fronted (due % k) at lists)
 kept_later k moment left l lists at due some big within none later a = record {
   count = length-fronted (due % k) at lists ∙ a.count;
@@ -241,8 +242,8 @@ kept_later k moment left l lists at due some big within none later a = record {
       chained_put l.next l.prev (due % k) at lists (omega (arith, a.count)) within
       (away_marked at 0 lists (omega (arith, a.count))
       (λ i h. free_at k moment left l lists at i a none (omega (arith, a.count)))) a.ring;
-  dues_long = length-set l.dues at (Some due) ∙ a.dues_long ∙ sym (length-put l.next (due % k) at);
-  marks = λ n small. due_other l.dues at n (Some due) (omega arith) ∙ a.marks n small;
+  dues_long = length-set l.notes at (Some due) ∙ a.dues_long ∙ sym (length-put l.next (due % k) at);
+  marks = λ n small. due_other l.notes at n (Some due) (omega arith) ∙ a.marks n small;
   kept = λ i n small. kept_one i n small (eqb_tells n at);
   late = λ n among. late_one n among (eqb_tells n at);
   rest = λ n d out noted_is early. rest_one n d out noted_is early (eqb_tells n at);
@@ -252,7 +253,7 @@ kept_later k moment left l lists at due some big within none later a = record {
     low = omega arith
 
     D : List (Option ℕ)
-    D = slice_set l.dues at (Some due)
+    D = slice_set l.notes at (Some due)
 
     F : List (List ℕ)
     F = fronted (due % k) at lists
@@ -267,7 +268,7 @@ kept_later k moment left l lists at due some big within none later a = record {
     last = there k (omega (arith, low))
 
     new_due : due_at D at ≡ Some due
-    new_due = due_own l.dues at (Some due) (omega (arith, a.dues_long))
+    new_due = due_own l.notes at (Some due) (omega (arith, a.dues_long))
 
     out_of_last : is_among at (list_at k F) ≡ false
     out_of_last = ap (λ xs. is_among at xs) last ∙ free_at k moment left l lists at k a none (omega arith)
@@ -295,13 +296,13 @@ kept_later k moment left l lists at due some big within none later a = record {
     kept_one i n small (inr p) =
         other i n p.1 (eqb_tells i (due % k)) ∙ a.kept i n small
         ∙ sym (ap (λ b. stands_in k i b (due_at D n)) (ap (λ xs. is_among n xs) last)
-        ∙ ap (λ o. stands_in k i (is_among n (list_at k lists)) o) (due_other l.dues at n (Some due) p.1))
+        ∙ ap (λ o. stands_in k i (is_among n (list_at k lists)) o) (due_other l.notes at n (Some due) p.1))
 
     late_one : (n : ℕ) → is_among n (list_at k F) ≡ true → Compared n at → is_due moment (due_at D n) ≡ true
     late_one n among (inl p) =
         absurd (let f : false ≡ true = sym out_of_last ∙ sym (ap (λ z. is_among z (list_at k F)) p.1) ∙ among in cc)
     late_one n among (inr p) =
-        ap (λ o. is_due moment o) (due_other l.dues at n (Some due) p.1) ∙ a.late n (sym (ap (λ xs. is_among n xs) last) ∙ among)
+        ap (λ o. is_due moment o) (due_other l.notes at n (Some due) p.1) ∙ a.late n (sym (ap (λ xs. is_among n xs) last) ∙ among)
 
     rest_one : (n d : ℕ) → is_among n (list_at k F) ≡ false → due_at D n ≡ Some d → d ≤ moment → Compared n at
         → Awaits k moment left d
@@ -309,23 +310,23 @@ kept_later k moment left l lists at due some big within none later a = record {
         absurd (let f : Some due ≡ Some d = sym new_due ∙ sym (ap (λ z. due_at D z) p.1) ∙ noted_is in
         let same : due ≡ d = cc in omega arith)
     rest_one n d out noted_is early (inr p) =
-        a.rest n d (sym (ap (λ xs. is_among n xs) last) ∙ out) (sym (due_other l.dues at n (Some due) p.1) ∙ noted_is) early
+        a.rest n d (sym (ap (λ xs. is_among n xs) last) ∙ out) (sym (due_other l.notes at n (Some due) p.1) ∙ noted_is) early
 
 -- a node whose due has come moves to the list of what is due
-pub kept_moved : (k moment left : ℕ) (l : Links) (lists : List (List ℕ)) (at due : ℕ) → 0 < k → due_at l.dues at ≡ Some due
+pub kept_moved : (k moment left : ℕ) (l : Links) (lists : List (List ℕ)) (at due : ℕ) → 0 < k → due_at l.notes at ≡ Some due
     → due ≤ moment → AreKept k moment left l lists
     → AreKept k moment left (linked_behind k at (unlinked at l)) (fronted k at (map (without_node at) lists))
 kept_moved k moment left l lists at due some e early a =
     let own : HasPlace l.next l.prev at = held_place k moment left l lists at due some a e in
     let cut : AreKept k moment left (freed at (unlinked at l)) (map (without_node at) lists) =
     kept_removed k moment left l lists at due some e a in
-    let again : slice_set (slice_set l.dues at None) at (Some due) ≡ l.dues =
-    due_again l.dues at (Some due) (omega (arith, a.dues_long, own.own)) e in
+    let again : slice_set (slice_set l.notes at None) at (Some due) ≡ l.notes =
+    due_again l.notes at (Some due) (omega (arith, a.dues_long, own.own)) e in
     let put : AreKept k moment left (linked_behind k at (noted at due (freed at (unlinked at l))))
     (fronted k at (map (without_node at) lists))
     = kept_come k moment left (freed at (unlinked at l)) (map (without_node at) lists) at due
     (behind_marks k moment left l lists at due a e) (omega (arith, own.own, length-cut l.next l.prev at))
-    (due_freed l.dues at) early cut in
+    (due_freed l.notes at) early cut in
     subst (λ ds. AreKept k moment left
-    (record { next = (linked_behind k at (unlinked at l)).next; prev = (linked_behind k at (unlinked at l)).prev; dues = ds })
+    (record { next = (linked_behind k at (unlinked at l)).next; prev = (linked_behind k at (unlinked at l)).prev; notes = ds })
     (fronted k at (map (without_node at) lists))) again put

@@ -54,7 +54,7 @@ swept_passed k since moment left l some order s =
         dues_long = a.dues_long;
         marks = a.marks;
         kept = a.kept;
-        late = λ n among. due_still since moment (due_at l.dues n) order (a.late n among);
+        late = λ n among. due_still since moment (due_at l.notes n) order (a.late n among);
         rest = λ n due out noted_is early. awaits_passed k since moment left due some early (a.rest n due out noted_is) order;
       };
     }

@@ -8,7 +8,8 @@ use Rattle.tc_model.specs.Chains.{fronted, without_node, is_among}
 use Rattle.tc_model.proofs.Rings.{linked_split, IsSplit, split}
 use Rattle.tc_model.proofs.Chained.{among-append, without-found, append_nil, mark_place}
 use Rattle.tc_wheel.specs.Dues.{due_at, is_due}
-use Rattle.tc_wheel.specs.Links.{Links, linked_behind, unlinked, freed}
+use Rattle.tc_ring.specs.Links.{linked_behind, unlinked}
+use Rattle.tc_wheel.specs.Links.{Links, freed}
 use Rattle.tc_wheel.specs.Kept.{list_at, in_bucket, stands_in, Awaits, AreKept, IsSwept, IsListed, IsNext}
 use Rattle.tc_wheel.proofs.Listed.{fronted_there, list_at-without, list_short, list_distinct, bucket_linked, last_linked}
 use Rattle.tc_wheel.proofs.Listed.{place_at}
@@ -26,7 +27,7 @@ pub record Along (k moment left by bucket end slots step : ℕ) (l : Links) (at 
   pub passed : List ℕ
   pub ahead : List ℕ
   pub is : list_at bucket lists ≡ passed ++ ahead
-  pub stale : (n : ℕ) → is_among n passed ≡ true → is_due by (due_at l.dues n) ≡ false
+  pub stale : (n : ℕ) → is_among n passed ≡ true → is_due by (due_at l.notes n) ≡ false
   pub at_is : at ≡ first_or end ahead
   pub linked : Linked l.next l.prev bucket (list_at bucket lists) end
   pub short : length ahead + step ≤ slots
@@ -90,10 +91,10 @@ member xs us vs x e =
 
 -- what is held at a member of a list
 held_member : (k moment left : ℕ) (l : Links) (lists : List (List ℕ)) (i n : ℕ) → i < suc k → is_among n (list_at i lists) ≡ true
-    → AreKept k moment left l lists → (due : ℕ) × (due_at l.dues n ≡ Some due)
-held_member k moment left l lists i n small h a = go (due_at l.dues n) refl
+    → AreKept k moment left l lists → (due : ℕ) × (due_at l.notes n ≡ Some due)
+held_member k moment left l lists i n small h a = go (due_at l.notes n) refl
   where
-    go : (o : Option ℕ) → due_at l.dues n ≡ o → (due : ℕ) × (due_at l.dues n ≡ Some due)
+    go : (o : Option ℕ) → due_at l.notes n ≡ o → (due : ℕ) × (due_at l.notes n ≡ Some due)
     go None e = absurd (let f : true ≡ false = sym h ∙ free_at k moment left l lists n i a e small in cc)
     go (Some due) e = (due, e)
 
@@ -147,7 +148,7 @@ stale_more by dues passed at late h n e = go (is_among n passed) (at == n) refl 
         absurd (let g : false ≡ true = sym (ap (λ b. b || ((at == n) || false)) p ∙ ap (λ b. b || false) q) ∙ f in cc)
 
 along_over : (k moment left by bucket end slots step next : ℕ) (l : Links) (at : ℕ) → next ≡ slice_index l.next at
-    → is_due by (due_at l.dues at) ≡ false → Ahead k moment left by bucket end slots step l at
+    → is_due by (due_at l.notes at) ≡ false → Ahead k moment left by bucket end slots step l at
     → Along k moment left by bucket end slots (step + 1) l next
 along_over k moment left by bucket end slots step next l at e late h = record {
   lists = h.along.lists;
@@ -155,7 +156,7 @@ along_over k moment left by bucket end slots step next l at e late h = record {
   passed = h.along.passed ++ at ∷ [];
   ahead = h.rest;
   is = h.along.is ∙ ap (λ xs. h.along.passed ++ xs) h.is ∙ sym (append_assoc h.along.passed (at ∷ []) h.rest);
-  stale = stale_more by l.dues h.along.passed at late h.along.stale;
+  stale = stale_more by l.notes h.along.passed at late h.along.stale;
   at_is = e ∙ next_ahead k moment left by bucket end slots step l at h;
   linked = h.along.linked;
   short = omega (arith, h.along.short, ap (λ xs. length xs) h.is);
@@ -168,10 +169,10 @@ due_of by None e = absurd (cc)
 due_of by (Some due) e = (due, refl, leb-true due by e)
 
 along_moves : (k moment left bucket slots step next : ℕ) (l : Links) (at : ℕ) → 0 < k → bucket < k → next ≡ slice_index l.next at
-    → is_due moment (due_at l.dues at) ≡ true → Ahead k moment left moment bucket (suc bucket) slots step l at
+    → is_due moment (due_at l.notes at) ≡ true → Ahead k moment left moment bucket (suc bucket) slots step l at
     → Along k moment left moment bucket (suc bucket) slots (step + 1) (linked_behind k at (unlinked at l)) next
 along_moves k moment left bucket slots step next l at some low e early h =
-    let d = due_of moment (due_at l.dues at) early in
+    let d = due_of moment (due_at l.notes at) early in
     let lists : List (List ℕ) = h.along.lists in
     let listed : list_at bucket h.along.lists ≡ h.along.passed ++ at ∷ h.rest =
     h.along.is ∙ ap (λ xs. h.along.passed ++ xs) h.is in
@@ -219,7 +220,7 @@ bucket_done k moment back left bucket slots step l at a none e low eb = record {
   };
 }
   where
-    rest_one : (n due : ℕ) → is_among n (list_at k a.lists) ≡ false → due_at l.dues n ≡ Some due → due ≤ moment
+    rest_one : (n due : ℕ) → is_among n (list_at k a.lists) ≡ false → due_at l.notes n ≡ Some due → due ≤ moment
         → Awaits k moment left due → Awaits k moment back due
     rest_one n due out noted_is early w = go (cases_lt w.back back)
       where
@@ -229,19 +230,19 @@ bucket_done k moment back left bucket slots step l at a none e low eb = record {
             let last : w.back ≡ back = omega (arith, w.within) in
             let here : due % k ≡ bucket = w.same ∙ ap (λ b. (moment - b) % k) last ∙ sym eb in
             let among : is_among n (list_at bucket a.lists) ≡ true
-            = a.kept.kept bucket n low ∙ ap (λ b. stands_in k bucket b (due_at l.dues n)) out
+            = a.kept.kept bucket n low ∙ ap (λ b. stands_in k bucket b (due_at l.notes n)) out
             ∙ ap (λ o. in_bucket k bucket o) noted_is ∙ eq-eqb (due % k) bucket here in
-            let stale : is_due moment (due_at l.dues n) ≡ false =
+            let stale : is_due moment (due_at l.notes n) ≡ false =
             a.stale n (passed_all bucket a.lists a.passed a.ahead n a.is none among) in
             absurd (let f : false ≡ true = sym stale ∙ ap (λ o. is_due moment o) noted_is ∙ le-leb due moment early in cc)
 
 -- nothing is due where the list of what is due was walked to its end
 none_due : (k now by slots step : ℕ) (l : Links) (at : ℕ) (a : Along k now 0 by k 0 slots step l at) → a.ahead ≡ [] → by ≤ now
-    → (n : ℕ) → is_due by (due_at l.dues n) ≡ false
-none_due k now by slots step l at a none order n = go (due_at l.dues n) refl (is_among n (list_at k a.lists)) refl
+    → (n : ℕ) → is_due by (due_at l.notes n) ≡ false
+none_due k now by slots step l at a none order n = go (due_at l.notes n) refl (is_among n (list_at k a.lists)) refl
   where
-    go : (o : Option ℕ) → due_at l.dues n ≡ o → (b : Bool) → is_among n (list_at k a.lists) ≡ b
-        → is_due by (due_at l.dues n) ≡ false
+    go : (o : Option ℕ) → due_at l.notes n ≡ o → (b : Bool) → is_among n (list_at k a.lists) ≡ b
+        → is_due by (due_at l.notes n) ≡ false
     go None e b f = ap (λ o. is_due by o) e
     go (Some due) e true f = a.stale n (passed_all k a.lists a.passed a.ahead n a.is none f)
     go (Some due) e false f = ap (λ o. is_due by o) e ∙ later (cases_lt now due)
@@ -255,7 +256,7 @@ none_due k now by slots step l at a none order n = go (due_at l.dues n) refl (is
 
 pub record Walks (moment back slots step : ℕ) (was l : Links) (at : ℕ) : Type 0 where
   pub along : Along 4096 moment (back + 1) moment ((moment - back) % 4096) (suc ((moment - back) % 4096)) slots step l at
-  pub dues : l.dues ≡ was.dues
+  pub dues : l.notes ≡ was.notes
 
 pub walk_starts : (moment back second bucket at slots : ℕ) (l : Links) → second ≡ moment → bucket ≡ (second - back) % 4096
     → at ≡ slice_index l.next bucket → slots + 4097 ≡ length l.next → IsSwept 4096 moment (back + 1) l
@@ -288,11 +289,11 @@ walk_place moment back slots step was l at big w =
     (omega arith) (omega arith) (omega arith) (omega arith) w.along
 
 -- where a node that was taken out is put in again
-pub walk_put : (moment back slots step : ℕ) (was l m : Links) (at : ℕ) → 4097 ≤ at → is_due moment (due_at l.dues at) ≡ true
+pub walk_put : (moment back slots step : ℕ) (was l m : Links) (at : ℕ) → 4097 ≤ at → is_due moment (due_at l.notes at) ≡ true
     → m ≡ unlinked at l → Walks moment back slots step was l at → HasPlace m.next m.prev 4096 × (at < length m.next)
 walk_put moment back slots step was l m at big early e w =
     let h : Steps moment back slots step l at = steps_of moment back slots step was l at big w in
-    let d = due_of moment (due_at l.dues at) early in
+    let d = due_of moment (due_at l.notes at) early in
     let cut : AreKept 4096 moment (back + 1) (freed at (unlinked at l)) (map (without_node at) h.along.lists) =
     kept_removed 4096 moment (back + 1) l h.along.lists at d.0 (omega arith) d.1 h.along.kept in
     let place : HasPlace (unlinked at l).next (unlinked at l).prev 4096 =
@@ -303,7 +304,7 @@ walk_put moment back slots step was l m at big early e w =
     subst (λ (x : Links). HasPlace x.next x.prev 4096 × (at < length x.next)) (sym e) (place, within)
 
 pub walk_over : (moment back slots step next : ℕ) (was l : Links) (at : ℕ) → 4097 ≤ at → next ≡ slice_index l.next at
-    → is_due moment (due_at l.dues at) ≡ false → Walks moment back slots step was l at
+    → is_due moment (due_at l.notes at) ≡ false → Walks moment back slots step was l at
     → Walks moment back slots (step + 1) was l next
 walk_over moment back slots step next was l at big e late w = record {
   along =
@@ -313,7 +314,7 @@ walk_over moment back slots step next was l at big e late w = record {
 }
 
 pub walk_moves : (moment back slots step next : ℕ) (was l m n : Links) (at : ℕ) → 4097 ≤ at → next ≡ slice_index l.next at
-    → is_due moment (due_at l.dues at) ≡ true → m ≡ unlinked at l → n ≡ linked_behind 4096 at m
+    → is_due moment (due_at l.notes at) ≡ true → m ≡ unlinked at l → n ≡ linked_behind 4096 at m
     → Walks moment back slots step was l at
     → Walks moment back slots (step + 1) was n next
 walk_moves moment back slots step next was l m n at big e early em en w =
@@ -361,7 +362,7 @@ seek_place now left by slots step l at big s h =
     (h.along now left s)
 
 pub seek_over : (by slots step next : ℕ) (l : Links) (at : ℕ) → 4097 ≤ at → next ≡ slice_index l.next at
-    → is_due by (due_at l.dues at) ≡ false → Seeks by slots step l at → Seeks by slots (step + 1) l next
+    → is_due by (due_at l.notes at) ≡ false → Seeks by slots step l at → Seeks by slots (step + 1) l next
 seek_over by slots step next l at big e late h =
     record {
       along = λ now left s. along_over 4096 now left by 4096 0 slots step next l at e late

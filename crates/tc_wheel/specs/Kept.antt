@@ -35,11 +35,11 @@ pub record Awaits (k moment left due : ℕ) : Type 0 where
 pub record AreKept (k moment left : ℕ) (l : Links) (lists : List (List ℕ)) : Type 0 where
   pub count : length lists ≡ suc k
   pub ring : AreChained l.next l.prev lists
-  pub dues_long : length l.dues ≡ length l.next
-  pub marks : (n : ℕ) → n ≤ k → due_at l.dues n ≡ None
-  pub kept : (i n : ℕ) → i < k → is_among n (list_at i lists) ≡ stands_in k i (is_among n (list_at k lists)) (due_at l.dues n)
-  pub late : (n : ℕ) → is_among n (list_at k lists) ≡ true → is_due moment (due_at l.dues n) ≡ true
-  pub rest : (n due : ℕ) → is_among n (list_at k lists) ≡ false → due_at l.dues n ≡ Some due → due ≤ moment
+  pub dues_long : length l.notes ≡ length l.next
+  pub marks : (n : ℕ) → n ≤ k → due_at l.notes n ≡ None
+  pub kept : (i n : ℕ) → i < k → is_among n (list_at i lists) ≡ stands_in k i (is_among n (list_at k lists)) (due_at l.notes n)
+  pub late : (n : ℕ) → is_among n (list_at k lists) ≡ true → is_due moment (due_at l.notes n) ≡ true
+  pub rest : (n due : ℕ) → is_among n (list_at k lists) ≡ false → due_at l.notes n ≡ Some due → due ≤ moment
       → Awaits k moment left due
 
 -- lists of these links are kept so
@@ -49,10 +49,10 @@ pub record IsSwept (k moment left : ℕ) (l : Links) : Type 0 where
 
 -- a node that is due at a moment; or none, and none is due then once all seconds up to that moment are walked
 abbrev pub IsListed : Option ℕ → ℕ → Links → Type 0
-IsListed None moment l = (now : ℕ) → moment ≤ now → IsSwept 4096 now 0 l → (n : ℕ) → is_due moment (due_at l.dues n) ≡ false
-IsListed (Some n) moment l = is_due moment (due_at l.dues n) ≡ true
+IsListed None moment l = (now : ℕ) → moment ≤ now → IsSwept 4096 now 0 l → (n : ℕ) → is_due moment (due_at l.notes n) ≡ false
+IsListed (Some n) moment l = is_due moment (due_at l.notes n) ≡ true
 
 -- a node that is due at a moment, or none where none is
 abbrev pub IsNext : Option ℕ → ℕ → Links → Type 0
-IsNext None moment l = (n : ℕ) → is_due moment (due_at l.dues n) ≡ false
-IsNext (Some n) moment l = is_due moment (due_at l.dues n) ≡ true
+IsNext None moment l = (n : ℕ) → is_due moment (due_at l.notes n) ≡ false
+IsNext (Some n) moment l = is_due moment (due_at l.notes n) ≡ true

@@ -1,6 +1,5 @@
 pub mod Dues
 pub mod Kept
 pub mod Links
-pub mod Nodes
 pub mod SlotDues
 pub mod Turning

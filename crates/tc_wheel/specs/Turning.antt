@@ -11,7 +11,7 @@ slot_dues dues = drop 4097 dues
 
 -- what callers see
 abbrev pub dues_of : Inside → Dues
-dues_of w = record { moment = w.moment; dues = slot_dues w.nodes.dues }
+dues_of w = record { moment = w.moment; dues = slot_dues w.nodes.notes }
 
 -- the seconds that are left to walk have passed, and nothing else is due in a bucket
 pub record AreTurning (moment left : ℕ) (l : Links) : Type 0 where

@@ -1,7 +1,6 @@
 //! What is due moves from its bucket to the list of what is due.
-ghost use Rattle.std.specs.Prelude.{◌≡◌, ℕ, ◌+◌, ◌%◌, ◌<◌, ◌≤◌, length, slice_index};
-ghost use Rattle.tc_model.specs.Ring.{HasPlace};
-ghost use Rattle.tc_wheel.specs.Links.{unlinked, linked_behind};
+ghost use Rattle.std.specs.Prelude.{◌≡◌, ℕ, ◌+◌, ◌%◌, ◌<◌, ◌≤◌, length};
+ghost use Rattle.tc_wheel.specs.Dues.{due_at, is_due};
 ghost use Rattle.tc_wheel.specs.Kept.{list_of, IsSwept, IsListed, IsNext};
 
 use crate::nodes::{BUCKETS, DUE, MARKS, Nodes};
@@ -25,29 +24,15 @@ pub fn list_of(due: Moment, moment: Moment) -> usize
     }
 }
 
-/// Takes a node out of the ring.
-pub fn unlink(nodes: &mut Nodes, at: usize)
-    requires { HasPlace nodes.old.next nodes.old.prev at }
-    ensures { nodes.new ≡ unlinked at nodes.old }
+/// Whether what is held at a node is due at a moment.
+fn is_due(nodes: &Nodes, at: usize, moment: Moment) -> bool
+    requires { at < length nodes.now.next }
+    ensures { result ≡ is_due moment (due_at nodes.now.notes at) }
 {
-    let node = nodes.node(at);
-    let (before, after) = (node.prev as usize, node.next as usize);
-    nodes.set_next(before, after);
-    nodes.set_prev(after, before);
-}
-
-/// Puts a node into the ring, behind another.
-pub fn link_behind(nodes: &mut Nodes, before: usize, at: usize)
-    requires before { before < length nodes.old.next }
-    requires within { at < length nodes.old.next }
-    requires after { slice_index nodes.old.next before < length nodes.old.next }
-    ensures { nodes.new ≡ linked_behind before at nodes.old }
-{
-    let after = nodes.node(before).next as usize;
-    nodes.set_next(before, at);
-    nodes.set_prev(at, before);
-    nodes.set_next(at, after);
-    nodes.set_prev(after, at);
+    match nodes.node(at).note.moment() {
+        Some(due) => due <= moment,
+        None => false,
+    }
 }
 
 /// Walks the bucket of the second so many before a moment, and moves what is due at that moment.
@@ -55,7 +40,7 @@ fn walk_bucket(nodes: &mut Nodes, moment: Moment, back: u64)
     requires passed { back ≤ moment }
     requires swept { IsSwept 4096 moment (back + 1) nodes.old }
     ensures swept { IsSwept 4096 moment back nodes.new }
-    ensures dues { nodes.new.dues ≡ nodes.old.dues }
+    ensures dues { nodes.new.notes ≡ nodes.old.notes }
 {
     let mut at = nodes.node(bucket_of(moment.seconds() - back)).next as usize;
     for _step in 0..nodes.slots() {
@@ -63,9 +48,9 @@ fn walk_bucket(nodes: &mut Nodes, moment: Moment, back: u64)
             return;
         }
         let next = nodes.node(at).next as usize;
-        if nodes.is_due(at, moment) {
-            unlink(nodes, at);
-            link_behind(nodes, DUE, at);
+        if is_due(nodes, at, moment) {
+            nodes.unlink(at);
+            nodes.link_behind(DUE, at);
         }
         at = next;
     }
@@ -81,7 +66,7 @@ fn next_due(nodes: &Nodes, moment: Moment) -> Option<usize>
         if at < MARKS {
             return None;
         }
-        if nodes.is_due(at, moment) {
+        if is_due(nodes, at, moment) {
             return Some(at);
         }
         at = nodes.node(at).next as usize;
@@ -99,7 +84,7 @@ pub fn find_due(nodes: &mut Nodes, now: Moment, left: &mut u64, moment: Moment) 
     requires swept { IsSwept 4096 now left.old nodes.old }
     ensures fewer { left.new ≤ left.old }
     ensures swept { IsSwept 4096 now left.new nodes.new }
-    ensures dues { nodes.new.dues ≡ nodes.old.dues }
+    ensures dues { nodes.new.notes ≡ nodes.old.notes }
     ensures found { IsNext result moment nodes.new }
 {
     while *left > 0 {

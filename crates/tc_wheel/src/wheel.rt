@@ -16,10 +16,12 @@ ghost use Rattle.std.specs.Prelude.{◌≡◌, ◌<◌, length, false, is_ok, If
 ghost use Rattle.tc_wheel.specs.Dues.{no_dues, reserved, cleared, added, removed, holds, Gives};
 
 use crate::nodes::{BUCKETS, MARKS, Nodes};
-use crate::sweep::{find_due, link_behind, list_of, unlink};
+use crate::slot_due::SlotDue;
+use crate::sweep::{find_due, list_of};
 use std::alloc::Global;
 use std::marker::Model;
 use tc_item::{Moment, NoMemory, Slot};
+use tc_ring::Ring;
 
 /// Held slots, each with the moment at which it is due, and the latest moment that the wheel was advanced to.
 #[derive(Drop)]
@@ -47,7 +49,7 @@ impl Wheel {
     pub fn new(alloc: Global) -> Result<Wheel, NoMemory>
         ensures { IfOk result (λ w. w ≡ no_dues) }
     {
-        let nodes = Nodes::new(alloc)?;
+        let nodes = Ring::new(alloc, SlotDue::NONE)?;
         Ok(Wheel {
             nodes,
             moment: Moment::FIRST,
@@ -61,14 +63,14 @@ impl Wheel {
             ≡ (if is_ok result then reserved slots self.old else self.old) }
         ensures refused { OnErr result (length self.old.dues < slots) }
     {
-        self.nodes.reserve(slots)
+        self.nodes.reserve(slots, SlotDue::NONE)
     }
 
     /// Holds no slot any longer. The moment and the room stay.
     pub fn clear(&mut self)
         ensures { self.new ≡ cleared self.old }
     {
-        self.nodes.clear();
+        self.nodes.clear(SlotDue::NONE);
     }
 
     /// How many slots have room: all below this number.
@@ -86,7 +88,7 @@ impl Wheel {
             return false;
         }
         let at = self.nodes.place(slot);
-        self.nodes.node(at).due.moment().is_some()
+        self.nodes.node(at).note.moment().is_some()
     }
 
     /// Holds a slot until it is given or removed. Its due may have come already.
@@ -96,8 +98,8 @@ impl Wheel {
         ensures { self.new ≡ added slot.0 due self.old }
     {
         let at = self.nodes.place(slot);
-        self.nodes.note(at, due);
-        link_behind(&mut self.nodes, list_of(due, self.moment), at);
+        self.nodes.note(at, SlotDue::at(due));
+        self.nodes.link_behind(list_of(due, self.moment), at);
     }
 
     /// Holds the slot no longer. Nothing changes where it is not held.
@@ -106,8 +108,8 @@ impl Wheel {
     {
         if self.holds(slot) {
             let at = self.nodes.place(slot);
-            unlink(&mut self.nodes, at);
-            self.nodes.free(at);
+            self.nodes.unlink(at);
+            self.nodes.note(at, SlotDue::NONE);
         }
     }
 
@@ -122,8 +124,8 @@ impl Wheel {
         self.moment = now;
         match find_due(&mut self.nodes, now, &mut self.left, moment) {
             Some(at) => {
-                unlink(&mut self.nodes, at);
-                self.nodes.free(at);
+                self.nodes.unlink(at);
+                self.nodes.note(at, SlotDue::NONE);
                 Some(Slot(at - MARKS))
             }
             None => None,

@@ -126,7 +126,7 @@ fn play(
     protected: u64,
     moves: &[Move],
 ) -> Result<(), Fail> {
-    let mut lists = Lists::new(alloc, window, u64::from(main), protected);
+    let mut lists = Lists::new(alloc, window, u64::from(main), protected)?;
     lists.reserve(5)?;
     make_all(rt, &mut lists, moves);
     Ok(())
@@ -341,7 +341,7 @@ fn expect_room(rt: &impl Abort, lists: &mut Lists) {
 
 #[test]
 fn a_refused_reserve_changes_nothing(rt: HostRuntime) -> Result<(), Fail> {
-    let mut lists = Lists::new(rt.alloc(), 10, 100, 80);
+    let mut lists = Lists::new(rt.alloc(), 10, 100, 80)?;
     lists.reserve(2)?;
     expect_room(&rt, &mut lists);
     Ok(())

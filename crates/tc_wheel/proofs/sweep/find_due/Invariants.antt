@@ -6,7 +6,7 @@ abbrev pub invariant-loop-left : goal.invariant-loop-left
 invariant-loop-left l = record {
   fewer : l.left ≤ l.fn.left;
   swept : IsSwept 4096 l.now l.left l.nodes;
-  dues : l.nodes.dues ≡ l.fn.nodes.dues;
+  dues : l.nodes.notes ≡ l.fn.nodes.notes;
 }
 
 abbrev pub decreases-loop-left : goal.decreases-loop-left

@@ -3,7 +3,7 @@ use Rattle.tc_wheel.proofs.Walked.{mark_within, seek_starts, seek_place, seek_ov
 use Rattle.tc_wheel.proofs.sweep.next_due.Goals as goal
 
 pub node-at-requires : goal.node-at-requires
-node-at-requires c = mark_within 4096 _ _ _ 4096 (omega arith) c.requires.2
+node-at-requires c = (omega arith, mark_within 4096 _ _ _ 4096 (omega arith) c.requires.2)
 
 pub loop-step-init : goal.loop-step-init
 loop-step-init c =
@@ -21,9 +21,11 @@ is_due-requires c =
     c.if-at-lt-MARKS.false c.requires.2 c.loop-step.invariant).own
 
 pub node-at-requires-in-loop-step : goal.node-at-requires-in-loop-step
-node-at-requires-in-loop-step c =
-    (seek_place c.requires.0 c.requires.1 c.args.moment c.slots-step-end.result c.loop-step._step c.args.nodes.now c.loop-step.at
-    c.if-at-lt-MARKS.false c.requires.2 c.loop-step.invariant).own
+node-at-requires-in-loop-step c = (
+  omega arith,
+  (seek_place c.requires.0 c.requires.1 c.args.moment c.slots-step-end.result c.loop-step._step c.args.nodes.now c.loop-step.at
+      c.if-at-lt-MARKS.false c.requires.2 c.loop-step.invariant).own,
+)
 
 pub loop-step-preserved : goal.loop-step-preserved
 loop-step-preserved c =

@@ -6,7 +6,7 @@ use Rattle.tc_wheel.proofs.sweep.walk_bucket.Goals as goal
 use Rattle.tc_wheel.proofs.sweep.walk_bucket.Goals.{then-is_due, else-is_due}
 
 pub node-at-requires : goal.node-at-requires
-node-at-requires c = mark_within 4096 _ _ _ c.bucket_of.result (omega arith) c.requires.swept
+node-at-requires c = (omega arith, mark_within 4096 _ _ _ c.bucket_of.result (omega arith) c.requires.swept)
 
 pub loop-step-init : goal.loop-step-init
 loop-step-init c =
@@ -20,9 +20,11 @@ returns-then-at-lt-MARKS-clause-swept c =
     c.loop-step.at c.if-at-lt-MARKS.true c.loop-step.invariant
 
 pub node-next-requires : goal.node-next-requires
-node-next-requires c =
-    (walk_place c.args.moment c.args.back c.slots-step-end.result c.loop-step._step c.args.nodes.now c.loop-step.nodes
-    c.loop-step.at c.if-at-lt-MARKS.false c.loop-step.invariant).own
+node-next-requires c = (
+  omega arith,
+  (walk_place c.args.moment c.args.back c.slots-step-end.result c.loop-step._step c.args.nodes.now c.loop-step.nodes
+      c.loop-step.at c.if-at-lt-MARKS.false c.loop-step.invariant).own,
+)
 
 pub is_due-requires : goal.is_due-requires
 is_due-requires c =
@@ -30,15 +32,18 @@ is_due-requires c =
     c.loop-step.at c.if-at-lt-MARKS.false c.loop-step.invariant).own
 
 pub unlink-requires : goal.unlink-requires
-unlink-requires c =
-    walk_place c.args.moment c.args.back c.slots-step-end.result c.loop-step._step c.args.nodes.now c.loop-step.nodes
-    c.loop-step.at c.if-at-lt-MARKS.false c.loop-step.invariant
+unlink-requires c = (
+  omega arith,
+  walk_place c.args.moment c.args.back c.slots-step-end.result c.loop-step._step c.args.nodes.now c.loop-step.nodes
+      c.loop-step.at c.if-at-lt-MARKS.false c.loop-step.invariant,
+)
 
-pub link_behind-requires-clause-after : goal.link_behind-requires-clause-after
-link_behind-requires-clause-after c =
-    (walk_put c.args.moment c.args.back c.slots-step-end.result c.loop-step._step c.args.nodes.now c.loop-step.nodes
-    c.unlink.new.nodes c.loop-step.at c.if-at-lt-MARKS.false (sym c.is_due.ensures ∙ c.if-is_due.true) c.unlink.ensures
-    c.loop-step.invariant).0.behind
+pub link_behind-requires : goal.link_behind-requires
+link_behind-requires c =
+    let put = walk_put c.args.moment c.args.back c.slots-step-end.result c.loop-step._step c.args.nodes.now c.loop-step.nodes
+    c.unlink.new.self c.loop-step.at c.if-at-lt-MARKS.false (sym c.is_due.ensures ∙ c.if-is_due.true) c.unlink.ensures
+    c.loop-step.invariant in
+    (omega arith, (put.0.own, (put.1, put.0.behind)))
 
 pub loop-step-preserved : goal.loop-step-preserved
 loop-step-preserved c =
@@ -49,7 +54,7 @@ loop-step-preserved c =
           (c.loop-step._step + 1) c.args.nodes.now x c.node-next.result.next)
           (sym w.nodes-is)
           (walk_moves c.args.moment c.args.back c.slots-step-end.result c.loop-step._step c.node-next.result.next c.args.nodes.now
-          c.loop-step.nodes w.unlink.new.nodes w.link_behind.new.nodes c.loop-step.at c.if-at-lt-MARKS.false
+          c.loop-step.nodes w.unlink.new.self w.link_behind.new.self c.loop-step.at c.if-at-lt-MARKS.false
           c.node-next.ensures.next (sym c.is_due.ensures ∙ w.if-is_due.true) w.unlink.ensures w.link_behind.ensures
           c.loop-step.invariant)
       | else-is_due w ↦

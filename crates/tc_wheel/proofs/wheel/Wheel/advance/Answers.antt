@@ -15,24 +15,25 @@ find_due-requires-clause-swept c =
     (omega arith) order c.self.invariant.swept)
 
 pub unlink-requires : goal.unlink-requires
-unlink-requires c =
-    (found c.later-now.result c.args.moment c.in-Some.at c.find_due.new.nodes c.in-Some.ensures.found
-    c.in-Some.ensures.swept).place
+unlink-requires c = (
+  omega arith,
+  (found c.later-now.result c.args.moment c.in-Some.at c.find_due.new.nodes c.in-Some.ensures.found c.in-Some.ensures.swept).place,
+)
 
 pub invariant_of-self : goal.invariant_of-self
 invariant_of-self c = record {
   passed = omega (arith, c.in-Some.ensures.fewer);
   swept =
-      (gives_some c.self.inside.nodes c.find_due.new.nodes c.unlink.new.nodes c.free.new.self c.self.inside.moment
+      (gives_some c.self.inside.nodes c.find_due.new.nodes c.unlink.new.self c.note.new.self c.self.inside.moment
       c.later-now.result c.args.moment c.in-Some.at c.args.self.now c.later-now.ensures c.in-Some.ensures.dues
-      c.in-Some.ensures.found c.unlink.ensures c.free.ensures c.self.view_is c.in-Some.ensures.swept).0;
+      c.in-Some.ensures.found c.unlink.ensures c.note.ensures c.self.view_is c.in-Some.ensures.swept).0;
 }
 
 pub returns-in-Some : goal.returns-in-Some
 returns-in-Some c =
-    (gives_some c.self.inside.nodes c.find_due.new.nodes c.unlink.new.nodes c.free.new.self c.self.inside.moment
+    (gives_some c.self.inside.nodes c.find_due.new.nodes c.unlink.new.self c.note.new.self c.self.inside.moment
     c.later-now.result c.args.moment c.in-Some.at c.args.self.now c.later-now.ensures c.in-Some.ensures.dues
-    c.in-Some.ensures.found c.unlink.ensures c.free.ensures c.self.view_is c.in-Some.ensures.swept).1
+    c.in-Some.ensures.found c.unlink.ensures c.note.ensures c.self.view_is c.in-Some.ensures.swept).1
 
 pub returns-in-None : goal.returns-in-None
 returns-in-None c =

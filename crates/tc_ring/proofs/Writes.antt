@@ -1,0 +1,59 @@
+-- What a write to one node does to the lists of links.
+use Rattle.std.specs.Prelude.{map, slice_set, slice_index_or, replicate}
+use Rattle.std.proofs.Common.{◌≡◌, ℕ, zero, suc, ◌-◌, ◌≤◌, List, ◌∷◌, ◌++◌, length, take, refl, ◌∙◌, ap, arith}
+use Rattle.std.proofs.Math.Seq.{map-set_same}
+use Rattle.std.proofs.lemmas.List.{length-map, map-append, map-set, take_all}
+use Rattle.tc_ring.specs.Links.{Links, grown}
+use Rattle.tc_ring.specs.Nodes.{links}
+use Rattle.tc_ring.specs.declared.ring.Node.{Node}
+
+-- a write that keeps a field of the value at its place keeps it everywhere
+pub kept_field : {A B : Type 0} (f : A → B) (xs : List A) (at : ℕ) (n x : A) → n ≡ slice_index_or xs at n → f x ≡ f n
+    → map f (slice_set xs at x) ≡ map f xs
+kept_field f xs at n x w e = map-set_same f xs at x n (e ∙ ap f w)
+
+pub map-replicate : {A B : Type 0} (f : A → B) (n : ℕ) (x : A) → map f (replicate n x) ≡ replicate n (f x)
+map-replicate f zero x = refl
+map-replicate f (suc n) x = ap (λ t. f x ∷ t) (map-replicate f n x)
+
+pub grown_field : {A B : Type 0} (f : A → B) (xs : List A) (k : ℕ) (x : A)
+    → map f (xs ++ replicate k x) ≡ map f xs ++ replicate k (f x)
+grown_field f xs k x = map-append f xs (replicate k x) ∙ ap (λ t. map f xs ++ t) (map-replicate f k x)
+
+module _ {N : Type 0} where
+  same_links : (a b c d : List ℕ) (e f : List N) → a ≡ b → c ≡ d → e ≡ f
+      → (let l : Links N = record { next = a; prev = c; notes = e } in l) ≡ record { next = b; prev = d; notes = f }
+  same_links a b c d e f p q r = cc
+
+  pub next_written : (ns : List (Node N)) (at to : ℕ) (n : Node N) → n ≡ slice_index_or ns at n
+      → links (slice_set ns at (record n { next = to })) ≡ record (links ns) { next = slice_set (links ns).next at to }
+  next_written ns at to n w =
+      let x : Node N = record n { next = to } in
+      same_links _ _ _ _ _ _ (map-set (λ n. n.next) ns at x) (kept_field (λ n. n.prev) ns at n x w refl)
+      (kept_field (λ n. n.note) ns at n x w refl)
+
+  pub prev_written : (ns : List (Node N)) (at to : ℕ) (n : Node N) → n ≡ slice_index_or ns at n
+      → links (slice_set ns at (record n { prev = to })) ≡ record (links ns) { prev = slice_set (links ns).prev at to }
+  prev_written ns at to n w =
+      let x : Node N = record n { prev = to } in
+      same_links _ _ _ _ _ _ (kept_field (λ n. n.next) ns at n x w refl) (map-set (λ n. n.prev) ns at x)
+      (kept_field (λ n. n.note) ns at n x w refl)
+
+  pub note_written : (ns : List (Node N)) (at : ℕ) (note : N) (n : Node N) → n ≡ slice_index_or ns at n
+      → links (slice_set ns at (record n { note = note })) ≡ record (links ns) { notes = slice_set (links ns).notes at note }
+  note_written ns at note n w =
+      let x : Node N = record n { note = note } in
+      same_links _ _ _ _ _ _ (kept_field (λ n. n.next) ns at n x w refl) (kept_field (λ n. n.prev) ns at n x w refl)
+      (map-set (λ n. n.note) ns at x)
+
+  -- nodes that come
+  pub links-grown : (ns items : List (Node N)) (all n : ℕ) (free : N) → length ns ≤ all → n ≡ length ns
+      → items ≡ take all ns ++ replicate (all - n) (record { next = 0; prev = 0; note = free })
+      → links items ≡ grown all free (links ns)
+  links-grown ns items all n free h e is =
+      let x : Node N = record { next = 0; prev = 0; note = free } in
+      let more : all - n ≡ all - length (links ns).next = omega (arith, length-map ns (λ (n : Node N). n.next)) in
+      let k : ℕ = all - length (links ns).next in
+      ap links (is ∙ ap (λ t. t ++ replicate (all - n) x) (take_all all ns h) ∙ ap (λ j. ns ++ replicate j x) more)
+      ∙ same_links _ _ _ _ _ _ (grown_field (λ n. n.next) ns k x) (grown_field (λ n. n.prev) ns k x)
+      (grown_field (λ n. n.note) ns k x)

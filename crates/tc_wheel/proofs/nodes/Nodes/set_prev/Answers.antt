@@ -1,7 +1,0 @@
-use Rattle.tc_wheel.proofs.Writes.{prev_written}
-use Rattle.tc_wheel.proofs.nodes.Nodes.set_prev.Goals as goal
-
-pub returns : goal.returns
-returns c =
-    rw (← c.self.view_is, c.link_to-link.ensures)
-    (prev_written c.self.inside.nodes.items c.args.at c.args.to c.index_mut.result.now c.index_mut.ensures.value)
