@@ -163,7 +163,8 @@ kept_removed k moment left l lists at due some e a =
     late_one : (n : ℕ) → is_among n (list_at k M) ≡ true → Compared n at → is_due moment (due_at D n) ≡ true
     late_one n among (inl p) =
         absurd (let f : false ≡ true = sym (own k) ∙ sym (ap (λ z. is_among z (list_at k M)) p.1) ∙ among in cc)
-    late_one n among (inr p) = ap (λ o. is_due moment o) (due_other l.notes at n None p.1) ∙ a.late n (sym (other k n p.1) ∙ among)
+    late_one n among (inr p) =
+        ap (λ o. is_due moment o) (due_other l.notes at n None p.1) ∙ a.late n (sym (other k n p.1) ∙ among)
 
     rest_one : (n d : ℕ) → is_among n (list_at k M) ≡ false → due_at D n ≡ Some d → d ≤ moment → Compared n at
         → Awaits k moment left d

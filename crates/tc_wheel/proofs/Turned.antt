@@ -222,8 +222,8 @@ seen : (l m : Links) (since slot : ℕ) (w : Dues) → m.notes ≡ l.notes → s
 seen l m since slot w em v =
     sym (ap (λ (x : Dues). due_at x.dues slot) v) ∙ due_at-slot_dues l.notes slot ∙ sym (ap (λ ds. due_at ds (slot + 4097)) em)
 
-pub gives_none : (l m : Links) (since now moment : ℕ) (w : Dues) → now ≡ max since moment → m.notes ≡ l.notes → IsNext None moment m
-    → shown l since ≡ w → Gives None moment w (shown m now)
+pub gives_none : (l m : Links) (since now moment : ℕ) (w : Dues) → now ≡ max since moment → m.notes ≡ l.notes
+    → IsNext None moment m → shown l since ≡ w → Gives None moment w (shown m now)
 gives_none l m since now moment w en em none v = (
   λ slot. ap (λ o. is_due moment o) (seen l m since slot w em v) ∙ none (slot + 4097),
   advanced_by l m since now moment w en em v,

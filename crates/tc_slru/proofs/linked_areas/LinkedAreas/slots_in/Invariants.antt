@@ -5,4 +5,5 @@ use Rattle.tc_slru.proofs.Read.{IsRead}
 use Rattle.tc_slru.proofs.linked_areas.LinkedAreas.slots_in.Given as goal
 
 abbrev pub invariant-loop-place : goal.invariant-loop-place
-invariant-loop-place l = IsRead (links_of l.self-inside.nodes) (list_in l.fn.area l.fn.self.areas) (l.count - l._place) l.at l.slots.items
+invariant-loop-place l =
+    IsRead (links_of l.self-inside.nodes) (list_in l.fn.area l.fn.self.areas) (l.count - l._place) l.at l.slots.items

@@ -38,12 +38,14 @@ invariant_of-self c = record {
   passed = c.self.invariant.passed;
   swept =
       (added_by c.self.inside.nodes c.note.new.self c.link_behind.new.self c.self.inside.moment c.args.slot.0 c.args.due
-      c.list_of.result c.place-at.result c.args.self.now c.place-at.ensures.node c.list_of.ensures (rw c.at.ensures at c.note.ensures)
-      c.link_behind.ensures c.self.view_is c.requires.reserved c.requires.free c.self.invariant.swept).0;
+      c.list_of.result c.place-at.result c.args.self.now c.place-at.ensures.node c.list_of.ensures
+      (rw c.at.ensures at c.note.ensures) c.link_behind.ensures c.self.view_is c.requires.reserved c.requires.free
+      c.self.invariant.swept).0;
 }
 
 pub returns : goal.returns
 returns c =
     (added_by c.self.inside.nodes c.note.new.self c.link_behind.new.self c.self.inside.moment c.args.slot.0 c.args.due
-    c.list_of.result c.place-at.result c.args.self.now c.place-at.ensures.node c.list_of.ensures (rw c.at.ensures at c.note.ensures)
-    c.link_behind.ensures c.self.view_is c.requires.reserved c.requires.free c.self.invariant.swept).1
+    c.list_of.result c.place-at.result c.args.self.now c.place-at.ensures.node c.list_of.ensures
+    (rw c.at.ensures at c.note.ensures) c.link_behind.ensures c.self.view_is c.requires.reserved c.requires.free
+    c.self.invariant.swept).1

@@ -17,7 +17,8 @@ find_due-requires-clause-swept c =
 pub unlink-requires : goal.unlink-requires
 unlink-requires c = (
   omega arith,
-  (found c.later-now.result c.args.moment c.in-Some.at c.find_due.new.nodes c.in-Some.ensures.found c.in-Some.ensures.swept).place,
+  (found c.later-now.result c.args.moment c.in-Some.at c.find_due.new.nodes c.in-Some.ensures.found
+      c.in-Some.ensures.swept).place,
 )
 
 pub invariant_of-self : goal.invariant_of-self

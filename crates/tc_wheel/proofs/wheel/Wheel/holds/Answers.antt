@@ -11,4 +11,5 @@ returns-then-slot-slots c =
 pub returns : goal.returns
 returns c =
     some_held c.self.inside.nodes c.self.inside.moment c.args.self.now c.args.slot.0 c.place-at.result c.node.result.note
-    c.is_some.result c.self.view_is c.place-at.ensures.node (c.node.ensures.note None) (c.is_some.ensures ∙ ap is_some c.moment.ensures)
+    c.is_some.result c.self.view_is c.place-at.ensures.node (c.node.ensures.note None)
+    (c.is_some.ensures ∙ ap is_some c.moment.ensures)
