@@ -39,6 +39,27 @@ impl<'a> FoundEntries for Sought<'a> {
     }
 }
 
+impl<'a> Sought<'a> {
+    /// Where several keys were found, reads the front of what each holds, and does nothing with it. A
+    /// hit counts one more holder of its data by an atomic, past which a processor reads nothing
+    /// ahead; these reads wait together. What they come to is added to an atomic, so that a compiler
+    /// leaves them in.
+    fn read_ahead(&self) {
+        if self.places.len() < 2 {
+            return;
+        }
+        let read = AtomicU64::new(0);
+        let mut sum: u64 = 0;
+        for place in self.places {
+            if let Some(entry) = self.live.held_at(*place) {
+                let front = entry.item.blob.as_slice().first();
+                sum = sum.wrapping_add(front.map_or(0, |byte| u64::from(*byte)));
+            }
+        }
+        read.fetch_add(sum, Ordering::SeqCst);
+    }
+}
+
 /// Where keys are found that will hold something at the moment, in the order asked.
 fn seek_all(
     alloc: Global,
@@ -58,22 +79,6 @@ fn seek_all(
     Ok(places)
 }
 
-/// Reads what stands at places where several keys were found, and the front of its data, and does
-/// nothing with it. A hit counts one more holder of its data by an atomic, past which a processor
-/// reads nothing ahead; these reads wait together. What they come to is added to an atomic, so that
-/// a compiler leaves them in.
-fn read_ahead(live: &LiveSlots, places: &[Option<Slot>]) {
-    let read = AtomicU64::new(0);
-    let mut sum: u64 = 0;
-    for place in places {
-        if let Some(entry) = live.held_at(*place) {
-            let front = entry.item.blob.as_slice().first();
-            sum = sum.wrapping_add(front.map_or(0, |byte| u64::from(*byte)));
-        }
-    }
-    read.fetch_add(sum, Ordering::SeqCst);
-}
-
 /// The hits of keys at the moment, in the order asked, and where each key was found. What is held
 /// has this due after its hit, if one is given; where that due has come it is gone, so that a key
 /// asked again shows nothing.
@@ -91,13 +96,11 @@ pub(crate) fn seek_hits(
         AreSought keys.now r.1.items (at_moment moment (live_of live.now))) }
 {
     let places = seek_all(alloc, live, keys, moment)?;
-    if keys.len() > 1 {
-        read_ahead(live, places.as_slice());
-    }
     let found = Sought {
         live,
         places: places.as_slice(),
     };
+    found.read_ahead();
     let hits = show_all(alloc, keys, &found, moment, due)?;
     Ok((hits, places))
 }
