@@ -15,10 +15,11 @@ use Rattle.tc_plain.specs.Doing.{with_live}
 use Rattle.tc_plain.specs.Soundness.{AreSound, IsSound}
 use Rattle.tc_plain.proofs.Advances.{limits-at_moment}
 use Rattle.tc_plain.proofs.Stays.{sound_with}
+use Rattle.tc_plain.proofs.Widths.{width-at_moment}
 use Rattle.tc_partition.specs.Deferred.{Waiting, Lazy, IsLazy, replay_one, replay, settled, AreInOrder}
 use Rattle.tc_partition.specs.WaitingSlots.{waiting_of, lazy_over}
 use Rattle.tc_partition.proofs.Deferral.{replayed, ends_at, settled_at, at_same}
-use Rattle.tc_partition.proofs.Draining.{sound_come, sound_light, note_limits}
+use Rattle.tc_partition.proofs.Draining.{sound_come, sound_light, note_limits, note_width}
 use Rattle.tc_partition.proofs.Tally.{length_map}
 
 -- what comes to a moment stays light
@@ -38,6 +39,12 @@ pub replay_limits : (l : EvictionState) (rs : List Waiting) → (replay l rs).li
 replay_limits l [] = refl
 replay_limits l (r ∷ rs) =
     replay_limits (replay_one l r) rs ∙ note_limits r.note (advanced l r.moment) ∙ limits-at_moment (max l.moment r.moment) l
+
+-- and neither does the sketch's width
+pub replay_width : (l : EvictionState) (rs : List Waiting) → (replay l rs).sketch.width ≡ l.sketch.width
+replay_width l [] = refl
+replay_width l (r ∷ rs) =
+    replay_width (replay_one l r) rs ∙ note_width r.note (advanced l r.moment) ∙ width-at_moment (max l.moment r.moment) l
 
 pub order_take : (n low high : ℕ) (rs : List Waiting) → AreInOrder low rs high → AreInOrder low (take n rs) high
 order_take zero low high [] h = h
@@ -84,7 +91,10 @@ settled_sound k f sound h e =
     let limits : (settled f).limits ≡ k.live.limits =
     limits-at_moment (max (replay f.base f.waiting).moment f.moment) (replay f.base f.waiting) ∙ replay_limits f.base f.waiting
     ∙ ap (λ (z : EvictionState). z.limits) e in
-    sound_with k (settled f) sound limits (subst (λ (t : Limits). AreSound t (settled f).areas) limits there)
+    let width : (settled f).sketch.width ≡ k.live.sketch.width =
+    width-at_moment (max (replay f.base f.waiting).moment f.moment) (replay f.base f.waiting) ∙ replay_width f.base f.waiting
+    ∙ ap (λ (z : EvictionState). z.sketch.width) e in
+    sound_with k (settled f) sound limits width (subst (λ (t : Limits). AreSound t (settled f).areas) limits there)
 
 -- what a copy comes to once all that waits is done to it
 pub frozen_sound : (k : UserCache) (l j : EvictionState) (slots : List (Option Entry)) (rs : List (Noted × ℕ)) (m : ℕ) → IsSound k

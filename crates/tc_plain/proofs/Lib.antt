@@ -5,6 +5,7 @@ pub mod Looks
 pub mod Steps
 pub mod Cells
 pub mod Sound
+pub mod Widths
 pub mod Stays
 mod WorkedRows
 pub mod Gone

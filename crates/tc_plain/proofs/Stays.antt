@@ -29,17 +29,20 @@ use Rattle.tc_plain.specs.UserCache.{UserCache, advance}
 use Rattle.tc_plain.specs.Storing.{Offer, Refused, Offered, is_too_large, is_worn, changed, accepted}
 use Rattle.tc_plain.specs.Doing.{looked_up, all_looked_up, with_live, touched, deleted, counted, counted_to, counted_under, done}
 use Rattle.tc_plain.specs.Soundness.{AreSound, IsSound, HasShortKey, StaysSound}
+use Rattle.tc_sketch.specs.Sketch.{hash}
+use Rattle.tc_plain.proofs.Widths.{recorded_width, width-at_moment, width-all_looked_up}
 use Rattle.tc_plain.proofs.Sound.{IsLight, held_light, sound_kept, sound_none, sound_at_moment, sound_hit, sound_settled}
 
 -- another state of what look-ups touch
-pub sound_with : (k : UserCache) (l : EvictionState) → IsSound k → l.limits ≡ k.live.limits → AreSound k.live.limits l.areas
-    → IsSound (with_live k l)
-sound_with k l h same s = record {
+pub sound_with : (k : UserCache) (l : EvictionState) → IsSound k → l.limits ≡ k.live.limits
+    → l.sketch.width ≡ k.live.sketch.width → AreSound k.live.limits l.areas → IsSound (with_live k l)
+sound_with k l h same wide s = record {
   least_budget = h.least_budget;
   most_budget = h.most_budget;
   least_largest = h.least_largest;
   most_largest = h.most_largest;
   limits = same ∙ h.limits;
+  width = wide ∙ h.width;
   areas = subst (λ t. AreSound t l.areas) (sym same) s;
   last = h.last;
 }
@@ -51,6 +54,7 @@ sound_changed e k w l h = record {
   least_largest = h.least_largest;
   most_largest = h.most_largest;
   limits = h.limits;
+  width = recorded_width k.live.sketch (hash e.key) ∙ h.width;
   areas = sound_settled k.live e (frequency (used e k.live)) l h.areas;
   last = below k.last h.last (eqb-false k.last (2 ^ 64 - 1) w);
 }
@@ -99,10 +103,10 @@ pub sound_touched : (due : Due) (key : List ℕ) (k : UserCache) → IsSound k �
 sound_touched due key k h = go (held key k.live.areas) refl
   where
     go : (o : Option Entry) → held key k.live.areas ≡ o → IsSound (touched due key o k).1
-    go None f = sound_with k (seen key k.live) h refl h.areas
+    go None f = sound_with k (seen key k.live) h refl (recorded_width k.live.sketch (hash key)) h.areas
     go (Some e) f =
         let x = with_item e (with_due due e.item) in
-        sound_with k (used x k.live) h refl
+        sound_with k (used x k.live) h refl (recorded_width k.live.sketch (hash x.key))
         (sound_hit k.live x e (held_own k.live.limits key k.live e f h.areas) (omega arith) h.areas)
 
 sound_deleted : (key : List ℕ) (k : UserCache) → IsSound k → IsSound (deleted key (held key k.live.areas) k).1
@@ -110,7 +114,7 @@ sound_deleted key k h = go (held key k.live.areas)
   where
     go : (o : Option Entry) → IsSound (deleted key o k).1
     go None = h
-    go (Some e) = sound_with k _ h refl (sound_kept k.live.limits k.live.areas _ h.areas)
+    go (Some e) = sound_with k _ h refl refl (sound_kept k.live.limits k.live.areas _ h.areas)
 
 -- a number that is read is one of 64 bits, and so is what it is counted to
 pub number-lt : (text : List ℕ) (n : ℕ) → number_in text ≡ Some n → n < 2 ^ 64
@@ -166,14 +170,17 @@ sound_counted way key by k short h = go (held key k.live.areas) refl
 
 pub sound_done : (k : UserCache) (command : Command) → HasShortKey command → IsSound k → IsSound (done k command).1
 sound_done k (Store head blob) short h = sound_accepted k head.key _ h
-sound_done k (Get form keys) short h = let r = sound_looked (λ i. i) (λ i. refl) keys k.live h.areas in sound_with k _ h r.1 r.0
+sound_done k (Get form keys) short h =
+    let r = sound_looked (λ i. i) (λ i. refl) keys k.live h.areas in
+    sound_with k _ h r.1 (width-all_looked_up (λ i. i) keys k.live) r.0
 sound_done k (Gat form exptime keys) short h =
-    let r = sound_looked (with_due (due_of exptime k.live.moment)) (λ i. refl) keys k.live h.areas in sound_with k _ h r.1 r.0
+    let r = sound_looked (with_due (due_of exptime k.live.moment)) (λ i. refl) keys k.live h.areas in
+    sound_with k _ h r.1 (width-all_looked_up (with_due (due_of exptime k.live.moment)) keys k.live) r.0
 sound_done k (Delete key quiet) short h = sound_deleted key k h
 sound_done k (Count way key by quiet) short h = sound_counted way key by k short h
 sound_done k (Touch key exptime quiet) short h = sound_touched (due_of exptime k.live.moment) key k h
-sound_done k (Flush zero quiet) short h = sound_with k _ h refl (sound_none k.live.limits)
-sound_done k (Flush (suc delay) quiet) short h = sound_with k _ h refl h.areas
+sound_done k (Flush zero quiet) short h = sound_with k _ h refl refl (sound_none k.live.limits)
+sound_done k (Flush (suc delay) quiet) short h = sound_with k _ h refl refl h.areas
 sound_done k AskStats short h = h
 sound_done k AskVersion short h = h
 sound_done k (Verbosity level quiet) short h = h
@@ -182,7 +189,7 @@ sound_done k Quit short h = h
 pub sound_advance : (k : UserCache) (m : ℕ) → IsSound k → IsSound (advance k m)
 sound_advance k m h =
     let r = sound_at_moment (max k.live.moment m) k.live h.areas in
-    sound_with k (at_moment (max k.live.moment m) k.live) h r.1 r.0
+    sound_with k (at_moment (max k.live.moment m) k.live) h r.1 (width-at_moment (max k.live.moment m) k.live) r.0
 
 pub stays_sound : StaysSound
 stays_sound k m command short h =
@@ -193,6 +200,7 @@ stays_sound k m command short h =
       least_largest = r.least_largest;
       most_largest = r.most_largest;
       limits = r.limits;
+      width = r.width;
       areas = r.areas;
       last = r.last;
     }

@@ -4,6 +4,7 @@ use Rattle.tc_model.specs.Areas.{Areas, Limits, total, settle}
 use Rattle.tc_model.specs.Within.{IsWithin}
 use Rattle.tc_item.specs.Bounds.{smallest_budget, largest_budget, largest_item, longest_key}
 use Rattle.tc_item.specs.declared.item.Item.{Item}
+use Rattle.tc_sketch.specs.Sketch.{width_of}
 use Rattle.tc_grammar.specs.declared.command.Command.{Command}
 use Rattle.tc_grammar.specs.declared.command.Command.TheVariants.{Count}
 use Rattle.tc_plain.specs.declared.entry.Entry.{Entry}
@@ -35,6 +36,8 @@ pub record IsSound (k : UserCache) : Type 0 where
   pub most_largest : k.largest ≤ largest_item
   -- the limits are those of the budget
   pub limits : k.live.limits ≡ limits_of k.budget
+  -- the sketch is as wide as the budget asks
+  pub width : k.live.sketch.width ≡ width_of k.budget
   pub areas : AreSound k.live.limits k.live.areas
   -- the last cas number is one of 64 bits
   pub last : k.last ≤ 2 ^ 64 - 1

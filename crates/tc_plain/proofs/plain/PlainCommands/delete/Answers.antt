@@ -25,7 +25,7 @@ invariant_of-self c =
     subst (λ (j : EvictionState). IsSound (with_live k j)) (sym c.advance.ensures.live)
     (sound_advance k c.args.now c.self.invariant) in
     subst (λ a. IsSound (with_live k (record l { areas = a }))) (sym c.take.ensures.areas)
-    (sound_with (with_live k l) (record l { areas = without_key c.as_bytes.result.now l.areas }) h refl
+    (sound_with (with_live k l) (record l { areas = without_key c.as_bytes.result.now l.areas }) h refl refl
     (sound_kept l.limits l.areas _ h.areas))
 
 pub returns-clause-state : goal.returns-clause-state

@@ -5,6 +5,7 @@ use Rattle.tc_plain.specs.Doing.{with_live, all_looked_up}
 use Rattle.tc_plain.specs.AreaLists.{live_of, change_of}
 use Rattle.tc_plain.specs.Soundness.{IsSound}
 use Rattle.tc_plain.proofs.Asked.{change_light}
+use Rattle.tc_plain.proofs.Widths.{width-all_looked_up}
 use Rattle.tc_plain.proofs.Stays.{sound_advance, sound_looked, sound_with}
 use Rattle.tc_plain.proofs.plain.PlainCommands.look.Goals as goal
 
@@ -39,4 +40,5 @@ invariant_of-self-2 c =
     subst (λ (l : EvictionState). IsSound (with_live k l)) (sym come) (sound_advance k c.args.now c.self.invariant) in
     let r = sound_looked (change_of c.args.due) (change_light c.args.due) c.args.keys.now j.live h.areas in
     subst (λ (l : EvictionState). IsSound (with_live j l)) (sym c.look_all.ensures)
-    (sound_with j (all_looked_up (change_of c.args.due) c.args.keys.now j.live).1 h r.1 r.0)
+    (sound_with j (all_looked_up (change_of c.args.due) c.args.keys.now j.live).1 h r.1
+    (width-all_looked_up (change_of c.args.due) c.args.keys.now j.live) r.0)
