@@ -1,7 +1,7 @@
 -- What filling and emptying make of index, entries, lists and wheel as they are kept.
 use Rattle.std.specs.Prelude.{◌==◌, map, sum_by, is_some, IsSome, slice_index_or, slice_set}
 use Rattle.std.specs.Str.{bytes_eq}
-use Rattle.std.proofs.Common.{◌≡◌, ℕ, zero, suc, ◌+◌, ◌<◌, ◌≤◌, Bool, true, false, cond, List, [], ◌∷◌, length, Option, Some}
+use Rattle.std.proofs.Common.{◌≡◌, ℕ, zero, suc, ◌+◌, ◌<◌, Bool, true, false, cond, List, [], ◌∷◌, length, Option, Some}
 use Rattle.std.proofs.Common.{None, refl, sym, ◌∙◌, ap, subst, arith}
 use Rattle.std.proofs.lemmas.Bool.{eqb-true, eqb-false}
 use Rattle.std.proofs.lemmas.Bool.Decides.{nat_tests}
@@ -23,7 +23,7 @@ use Rattle.tc_partition.specs.Agreement.{set_at, key_of, stray, stray_by, entry_
 use Rattle.tc_partition.specs.Held.{Held, room_in, HasRoom, IsVacated, IsTaken, IsFound, FindsSlot, AreWithin}
 use Rattle.tc_partition.proofs.Away.{not_held}
 use Rattle.tc_partition.proofs.OneSlot.{IsLess, without_slot_less, is_held}
-use Rattle.tc_partition.proofs.Filling.{some_same, agree_filled, filled_areas, untimed, none_at, agree_emptied, emptied_areas}
+use Rattle.tc_partition.proofs.Filling.{some_same, agree_filled, filled_areas, none_at, agree_emptied, emptied_areas}
 use Rattle.tc_partition.proofs.Filling.{once_at}
 use Rattle.tc_partition.proofs.Looked.{held_filled, held_emptied, without_unheld}
 

@@ -1,10 +1,9 @@
 -- Dropping the last of main, and admitting candidates, one at a time.
 use Rattle.std.specs.Prelude.{reverse, nat_lt, sum_by, ◌&&◌, ◌^◌, ◌⊎◌}
 use Rattle.std.specs.List.{list_all}
-use Rattle.std.proofs.Common.{◌≡◌, ℕ, zero, suc, ◌+◌, ◌-◌, ◌<◌, ◌≤◌, Bool, true, false, cond, List, [], ◌∷◌, ◌++◌, length, get_or}
+use Rattle.std.proofs.Common.{◌≡◌, ℕ, zero, suc, ◌+◌, ◌-◌, ◌<◌, ◌≤◌, Bool, true, false, cond, List, [], ◌∷◌, ◌++◌, length}
 use Rattle.std.proofs.Common.{take, inl, inr, refl, sym, ◌∙◌, ap, subst, length-append, arith}
 use mathlib.Core.List.{reverse_aux}
-use Rattle.std.proofs.lemmas.List.{take_more}
 use Rattle.std.proofs.lemmas.List.Sums.{sum_by-cons, sum_by_push}
 use Rattle.tc_stats.specs.UserCounters.{more}
 use Rattle.tc_model.specs.Areas.{Areas, Limits, Settled, fitting, beyond, shortest, demoted, trimmed, admitted, all_admitted}

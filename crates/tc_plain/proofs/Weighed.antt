@@ -8,7 +8,7 @@ use Rattle.tc_model.proofs.Steps.{areas_by, beyond_none}
 use Rattle.tc_plain.specs.declared.entry.Entry.{Entry}
 use Rattle.tc_plain.specs.declared.areas.Areas.{Areas as AreaLists}
 use Rattle.tc_plain.specs.Entries.{weight}
-use Rattle.tc_plain.specs.AreaLists.{areas_of, count_of, HasRoom}
+use Rattle.tc_plain.specs.AreaLists.{areas_of, count_of}
 
 -- the last of protected goes to the front of probation
 pub demoted_last : (limits : Limits) (w p q : List Entry) (e : Entry) → limits.protected < sum_by weight (q ++ e ∷ [])

@@ -15,6 +15,8 @@ returns-clause-sound c = record {
   most_largest = c.requires.most_largest;
   limits = c.in_ok-new.ensures.limits ∙ c.of-limits.ensures;
   width = ap (λ (s : Sketch). s.width) c.in_ok-new-2.ensures ∙ empty_width c.width_of.result ∙ c.width_of.ensures.value;
-  areas = subst (λ (a : Areas Entry). AreSound _ a) (sym c.in_ok-new.ensures.areas) (sound_none _);
+  areas =
+      subst (λ (a : Areas Entry). AreSound c.in_ok-new.field-0.limits a) (sym c.in_ok-new.ensures.areas)
+      (sound_none c.in_ok-new.field-0.limits);
   last = omega arith;
 }

@@ -2,14 +2,13 @@ use Rattle.std.proofs.Common.{sym, ◌∙◌, ap, subst, arith}
 use Rattle.tc_model.specs.Areas.{Areas}
 use Rattle.tc_sketch.specs.Sketch.{Sketch}
 use Rattle.tc_plain.specs.declared.entry.Entry.{Entry}
-use Rattle.tc_plain.specs.EvictionState.{limits_of}
 use Rattle.tc_plain.specs.Soundness.{AreSound}
 use Rattle.tc_plain.proofs.Sound.{sound_none}
 use Rattle.tc_plain.proofs.Widths.{empty_width}
 use Rattle.tc_plain.proofs.plain.Plain.new.Goals as goal
 
-pub invariant_of-result-in_ok : goal.invariant_of-result-in_ok
-invariant_of-result-in_ok c = record {
+pub invariant_of-result : goal.invariant_of-result
+invariant_of-result c = record {
   least_budget = c.requires.least_budget;
   most_budget = c.requires.most_budget;
   least_largest = c.requires.least_largest;
