@@ -1,12 +1,12 @@
 -- Where a line ends, what a request takes, and what a longer stream begins with.
 use Rattle.std.specs.Prelude.{◌==◌, option_map, nat_lt, min, IfSome}
 use Rattle.std.proofs.Common.{◌≡◌, ◌≢◌, ℕ, zero, suc, ◌+◌, ◌-◌, ◌<◌, ◌≤◌, Bool, true, false, cond, List, [], ◌∷◌, ◌++◌, length}
-use Rattle.std.proofs.Common.{get_or, take, drop, Option, Some, None, refl, sym, ◌∙◌, ap, subst, inl, inr, arith, append_assoc}
+use Rattle.std.proofs.Common.{get_or, take, drop, Option, Some, None, refl, sym, ◌∙◌, ap, subst, inr, arith, append_assoc}
 use Rattle.std.proofs.Common.{length-append, length-take, length-drop}
 use Rattle.std.proofs.lemmas.Bool.Decides.{nat_tests}
 use Rattle.std.proofs.Math.Nat.{zero-sub, sub-zero, zero-min, min-zero, suc-min-suc}
 use Rattle.std.proofs.lemmas.Bool.{ltb-true, ltb-false, le-ltb, lt-ltb, eqb-true}
-use Rattle.std.proofs.lemmas.List.{take-append-le, drop-append-le, take-take, append-nil}
+use Rattle.std.proofs.lemmas.List.{get_or-drop, take-append-le, drop-append-le, take-take}
 use Rattle.tc_grammar.specs.declared.command.Head.{Head}
 use Rattle.tc_grammar.specs.declared.fault.Fault.TheVariants.{LineTooLong}
 use Rattle.tc_grammar.specs.declared.line.Line.{Line}
@@ -43,6 +43,17 @@ line_more (x ∷ xs) zero lt none at = grind (arith, nat_tests)
 line_more (x ∷ xs) (suc i) lt none at =
     let h : ((x == 10) ≡ false) × (line_length (take i xs) ≡ None) = no_line _ _ none in
     rw (h.0, line_more xs i (omega arith) h.1 at)
+
+-- nor do bytes that none of more ends
+pub lines_more : (xs : List ℕ) (from n : ℕ) → from + n ≤ length xs → line_length (take from xs) ≡ None
+    → ((k : ℕ) → k < n → get_or (drop from xs) k 0 ≢ 10) → line_length (take (from + n) xs) ≡ None
+lines_more xs from zero le none clean =
+    let same : from ≡ from + 0 = omega arith in subst (λ m. line_length (take m xs) ≡ None) same none
+lines_more xs from (suc n) le none clean =
+    let here = lines_more xs from n (omega (arith, le)) none (λ k lt. clean k (omega (arith, lt))) in
+    let same : suc (from + n) ≡ from + suc n = omega arith in
+    subst (λ m. line_length (take m xs) ≡ None) same
+    (line_more xs (from + n) (omega (arith, le)) here (λ e. clean n (omega arith) (get_or-drop from xs n 0 ∙ e)))
 
 some_line : (b : Bool) (o : Option ℕ) (n m : ℕ) → ((k : ℕ) → o ≡ Some k → k < m) → cond b (Some 0) (option_map suc o) ≡ Some n
     → n < suc m

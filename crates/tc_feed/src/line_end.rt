@@ -2,6 +2,8 @@
 ghost use Rattle.std.specs.Prelude.{◌≡◌, ◌≤◌, length, take, None};
 ghost use Rattle.tc_feed.specs.Stream.{line_length, trimmed};
 
+use memchr::memchr;
+
 /// The most bytes of a line before its line feed, a carriage return among them.
 pub const LONGEST_LINE: usize = 65_536;
 
@@ -11,12 +13,10 @@ pub(crate) fn find_line(bytes: &[u8], from: usize) -> Option<usize>
     requires none { line_length (take from bytes.now) ≡ None }
     ensures { result ≡ line_length bytes.now }
 {
-    for i in from..bytes.len() {
-        if bytes[i] == b'\n' {
-            return Some(i);
-        }
+    match memchr(b'\n', &bytes[from..]) {
+        Some(i) => Some(from + i),
+        None => None,
     }
-    None
 }
 
 /// The line without a carriage return at its end.
