@@ -14,7 +14,6 @@ use crate::Fast;
 use crate::live_slots::LiveSlots;
 use smallvec::SmallVec;
 use std::alloc::Global;
-use std::sync::atomic::{AtomicU64, Ordering};
 use tc_item::{Due, Key, Moment, NoMemory, Slot};
 use tc_plain::{Entry, FoundEntries, show_all};
 use tc_readbuf::{Noted, PLACES, ReadBuf};
@@ -36,27 +35,6 @@ impl<'a> FoundEntries for Sought<'a> {
 
     fn entry(&self, i: usize) -> Option<&Entry> {
         self.live.held_at(self.places[i])
-    }
-}
-
-impl<'a> Sought<'a> {
-    /// Where several keys were found, reads the front of what each holds, and does nothing with it. A
-    /// hit counts one more holder of its data by an atomic, past which a processor reads nothing
-    /// ahead; these reads wait together. What they come to is added to an atomic, so that a compiler
-    /// leaves them in.
-    fn read_ahead(&self) {
-        if self.places.len() < 2 {
-            return;
-        }
-        let read = AtomicU64::new(0);
-        let mut sum: u64 = 0;
-        for place in self.places {
-            if let Some(entry) = self.live.held_at(*place) {
-                let front = entry.item.blob.as_slice().first();
-                sum = sum.wrapping_add(front.map_or(0, |byte| u64::from(*byte)));
-            }
-        }
-        read.fetch_add(sum, Ordering::SeqCst);
     }
 }
 
@@ -100,7 +78,6 @@ pub(crate) fn seek_hits(
         live,
         places: places.as_slice(),
     };
-    found.read_ahead();
     let hits = show_all(alloc, keys, &found, moment, due)?;
     Ok((hits, places))
 }
