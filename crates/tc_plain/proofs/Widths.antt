@@ -1,5 +1,6 @@
 -- The sketch never changes its width.
-use Rattle.std.specs.Prelude.{ℕ, ◌+◌, ◌*◌, ◌/◌, ◌^◌, ◌==◌, if◌then◌else◌, Bool, true, false, cond, List, [], ◌∷◌, Option, Some, None}
+use Rattle.std.specs.Prelude.{◌*◌, ◌/◌, ◌^◌, ◌==◌, if◌then◌else◌}
+use Rattle.std.specs.Prelude.{ℕ, ◌+◌, Bool, true, false, cond, List, [], ◌∷◌, Option, Some, None}
 use Rattle.std.proofs.Common.{◌≡◌, refl, ◌∙◌}
 use Rattle.tc_sketch.specs.Sketch.{Sketch, empty_sketch, hash, aged, recorded, halved, raised, place0, place1, place2, place3}
 use Rattle.tc_item.specs.declared.item.Item.{Item}
