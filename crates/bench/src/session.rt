@@ -251,7 +251,7 @@ impl Served<'_> {
     ) -> Result<Tally, NoMemory> {
         session.push(piece)?;
         let calls = self.cache.serve_all(alloc, session)?;
-        let said = session.out().len();
+        let said = session.out_len();
         session.sent(said);
         let sum = bytes(said);
         Ok(Tally { calls, sum })

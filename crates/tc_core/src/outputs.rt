@@ -8,7 +8,7 @@ use std::alloc::Global;
 use std::collections::BTreeMap;
 use std::marker::Model;
 use tc_item::NoMemory;
-use tc_session::Session;
+use tc_session::{Parts, Session};
 
 /// All bytes that a connection was sent.
 #[derive(Debug, Drop)]
@@ -26,10 +26,13 @@ impl Model for Sent {
 
 impl Sent {
     /// A copy of these bytes.
-    pub(crate) fn copied(alloc: Global, bytes: &[u8]) -> Result<Sent, NoMemory>
-        ensures { IfOk result (λ sent. sent ≡ bytes.now) }
+    pub(crate) fn copied(alloc: Global, parts: &Parts<'_>) -> Result<Sent, NoMemory>
+        ensures { IfOk result (λ sent. sent ≡ parts.now) }
     {
-        let bytes = Vec::from_slice(alloc, bytes)?;
+        let (first, second, third) = parts.as_slices();
+        let mut bytes = Vec::from_slice(alloc, first)?;
+        bytes.extend_from_slice(second)?;
+        bytes.extend_from_slice(third)?;
         Ok(Sent { bytes })
     }
 
@@ -93,7 +96,7 @@ pub(crate) fn outputs_of(
         outputs.push(Output {
             connection: *number,
             closed: session.is_closed(),
-            bytes: Sent::copied(alloc, session.out())?,
+            bytes: Sent::copied(alloc, &session.parts())?,
         })?;
     }
     Ok(Outputs::new(outputs))

@@ -1,13 +1,14 @@
 //! A wire over a socket.
-ghost use Rattle.std.specs.Prelude.{◌<◌, IsTrue};
+ghost use Rattle.std.specs.Prelude.{◌≡◌, ◌<◌, IsTrue};
+ghost use Rattle.std.specs.Io.{WritesAtMost};
 
 use crate::board::{Board, ENDING, READABLE, WRITABLE};
 use crate::door::Door;
 use mio::net::TcpStream;
 use std::alloc::Global;
-use std::io::{ErrorKind, Read, Write};
+use std::io::{self, ErrorKind, IoSlice, Read, Write};
 use std::sync::Arc;
-use tc_workers::{Got, Put, Wire};
+use tc_workers::{Got, Parts, Put, Wire};
 
 /// A socket that asks the system only where the poll said that there is something. It has a place of
 /// its worker's board and is counted at the door, both until it is dropped.
@@ -59,6 +60,22 @@ impl Socket {
         }
     }
 
+    /// Hands the bytes to the system in one call, from where they lie.
+    fn send(&mut self, from: &Parts<'_>) -> io::Result<usize>
+        ensures within { WritesAtMost result from.now }
+        ensures uncounted { self.new.failures ≡ self.old.failures }
+    {
+        let (first, second, third) = from.as_slices();
+        if second.is_empty() && third.is_empty() {
+            return self.stream.write(first);
+        }
+        self.stream.write_vectored(&[
+            IoSlice::new(first),
+            IoSlice::new(second),
+            IoSlice::new(third),
+        ])
+    }
+
     /// Counts a failure. Whether it could be counted.
     fn count_failure(&mut self) -> bool
         ensures { IsTrue result → self.old.failures < self.new.failures }
@@ -106,7 +123,7 @@ impl Wire for Socket {
         }
     }
 
-    fn write(&mut self, from: &[u8]) -> Put {
+    fn write(&mut self, from: &Parts<'_>) -> Put {
         if self.door.has_ended() {
             return if self.count_failure() {
                 Put::Failed
@@ -117,7 +134,7 @@ impl Wire for Socket {
         if !self.board.has(self.at, WRITABLE) {
             return Put::Later;
         }
-        match self.stream.write(from) {
+        match self.send(from) {
             Ok(n) => Put::Wrote(n),
             Err(e) if e.kind() == ErrorKind::WouldBlock => {
                 self.board.clear(self.at, WRITABLE);

@@ -1,2 +1,3 @@
 mod Logins
 pub mod Served
+mod Waiting

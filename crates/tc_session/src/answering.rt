@@ -76,7 +76,7 @@ fn write_outcome(out: &mut Output, form: Form, outcome: &Outcome) -> Result<(), 
     ensures front_on_err { OnErr result (take (length out.old.bytes) out.new.bytes
         ≡ out.old.bytes) }
     ensures longer_on_err { OnErr result (length out.old.bytes ≤ length out.new.bytes) }
-    ensures space { KeepsSpace out.old out.new }
+    ensures space_on_err { OnErr result (KeepsSpace out.old out.new) }
     ensures short { is_long outcome.now ≡ false → IsOk result }
 {
     match outcome {

@@ -8,10 +8,12 @@
 
 mod answering;
 mod output;
+mod parts;
 mod reply;
 mod session;
 mod want;
 
 pub use answering::can_end;
+pub use parts::Parts;
 pub use session::Session;
 pub use want::Want;

@@ -1,37 +1,77 @@
 //! Bytes that wait to be sent.
-ghost use Rattle.std.specs.Prelude.{◌≡◌, ◌+◌, ◌≤◌, ◌++◌, [], decimal, drop, take, length, OnOk, OnErr};
+ghost use Rattle.std.specs.Prelude.{◌≡◌, ◌+◌, ◌^◌, ◌<◌, ◌≤◌, ◌++◌, [], decimal, drop, take, length, vec_len};
+ghost use Rattle.std.specs.Prelude.{OnOk, OnErr, IsTrue};
 ghost use Rattle.tc_stats.specs.StatsRows.{stats_rows};
 ghost use Rattle.tc_session.specs.Unsent.{Unsent, KeepsSpace};
 
+use crate::parts::Parts;
 use itoa::Buffer;
 use std::alloc::Global;
 use std::marker::Model;
-use tc_item::NoMemory;
+use std::mem::swap;
+use tc_item::{Blob, LARGEST_ITEM, NoMemory};
 use tc_stats::Counters;
 
 /// The most room that is kept once all bytes are sent.
 const KEPT_ROOM: usize = 65_536;
 
+/// Data of at least so many bytes is sent from where it lies, and not copied.
+const SHARED: usize = 16_384;
+
+/// The most bytes that wait before data that is to be shared.
+const MOST_BEFORE: usize = 1_048_576;
+
 /// Bytes that wait to be sent, and room for more.
 #[derive(Debug, Drop)]
 pub(crate) struct Output {
-    bytes: Vec<u8>,
-    /// Where those begin that were not sent.
-    start: usize,
+    front: Vec<u8>,
+    /// How many of all bytes were sent.
+    sent: usize,
+    /// Data that waits behind the front.
+    shared: Option<Blob>,
+    /// What was written since then.
+    back: Vec<u8>,
 }
 
 impl Model for Output {
-    ghost use Rattle.std.specs.Prelude.{drop, vec_capacity, vec_len, ◌-◌, ◌≤◌};
-    ghost use Rattle.tc_session.specs.Unsent.{Unsent};
+    ghost use Rattle.std.specs.Prelude.{vec_capacity, vec_len, ◌-◌};
+    ghost use Rattle.tc_session.specs.Unsent.{Unsent, waiting, room_of, fixed_of, AreParts};
 
     ghost Value = { Unsent };
 
     ghost view = { λ o. record {
-      bytes = drop o.start o.bytes.items;
-      room = vec_capacity o.bytes - vec_len o.bytes;
+      bytes = waiting o.sent o.front.items o.shared o.back.items;
+      room = room_of o.shared (vec_capacity o.front - vec_len o.front)
+          (vec_capacity o.back - vec_len o.back);
+      fixed = fixed_of o.shared (vec_len o.front) o.sent;
+      behind = vec_capacity o.back;
     } };
 
-    ghost invariant = { λ o. o.start ≤ vec_len o.bytes };
+    ghost invariant = { λ o. AreParts o.shared o.sent (vec_len o.front) o.back.items };
+}
+
+/// Gives up the room of bytes that are no more, where it is large.
+fn clear(bytes: &mut Vec<u8>)
+    ensures { bytes.new.items ≡ [] }
+{
+    bytes.clear();
+    if bytes.capacity() > KEPT_ROOM {
+        bytes.shrink_to(0);
+    }
+}
+
+/// Gives up the room of the first bytes, which were sent, once they are more than those that wait. How
+/// many that were sent are left.
+fn compact(bytes: &mut Vec<u8>, sent: usize) -> usize
+    requires { sent ≤ vec_len bytes.old }
+    ensures waiting { drop result bytes.new.items ≡ drop sent bytes.old.items }
+    ensures within { result ≤ vec_len bytes.new }
+{
+    if sent <= bytes.len() - sent {
+        return sent;
+    }
+    bytes.drain(..sent);
+    0
 }
 
 impl Output {
@@ -40,8 +80,10 @@ impl Output {
         ensures { result.bytes ≡ [] }
     {
         Output {
-            bytes: Vec::new(alloc),
-            start: 0,
+            front: Vec::new(alloc),
+            sent: 0,
+            shared: None,
+            back: Vec::new(alloc),
         }
     }
 
@@ -51,7 +93,21 @@ impl Output {
         ensures room { OnOk result (n ≤ self.new.room) }
         ensures space { KeepsSpace self.old self.new }
     {
-        self.bytes.reserve(n)?;
+        match self.shared {
+            None => self.front.reserve(n)?,
+            Some(_) => self.back.reserve(n)?,
+        }
+        Ok(())
+    }
+
+    /// Makes room for so many bytes behind data that is to be shared.
+    pub fn reserve_behind(&mut self, n: usize) -> Result<(), NoMemory>
+        ensures bytes { self.new.bytes ≡ self.old.bytes }
+        ensures room { self.old.room ≤ self.new.room }
+        ensures behind { OnOk result (n ≤ self.new.behind) }
+        ensures space { KeepsSpace self.old self.new }
+    {
+        self.back.reserve(n)?;
         Ok(())
     }
 
@@ -62,13 +118,17 @@ impl Output {
         ensures room { self.old.room ≤ self.new.room + length text.now }
         ensures space { KeepsSpace self.old self.new }
     {
-        let _ = self.bytes.extend_from_slice(text);
+        let _ = match self.shared {
+            None => self.front.extend_from_slice(text),
+            Some(_) => self.back.extend_from_slice(text),
+        };
     }
 
     /// Puts a number at the end, for which there is room.
     pub fn write_number(&mut self, number: u64)
         requires { 20 ≤ self.old.room }
         ensures bytes { self.new.bytes ≡ self.old.bytes ++ decimal number }
+        ensures longer { length self.new.bytes ≤ length self.old.bytes + 20 }
         ensures room { self.old.room ≤ self.new.room + 20 }
         ensures space { KeepsSpace self.old self.new }
     {
@@ -83,30 +143,79 @@ impl Output {
         ensures unchanged_on_err { OnErr result (self.new.bytes ≡ self.old.bytes) }
         ensures space { KeepsSpace self.old self.new }
     {
-        counters.render(&mut self.bytes)
+        match self.shared {
+            None => counters.render(&mut self.front),
+            Some(_) => counters.render(&mut self.back),
+        }
+    }
+
+    /// Whether this data is to be shared: it is large, no other is shared, and little waits before it.
+    pub fn can_share(&self, blob: &Blob) -> bool
+        ensures alone { IsTrue result → self.now.fixed ≡ 0 }
+        ensures some { IsTrue result → 0 < length blob.now }
+        ensures few { IsTrue result → length self.now.bytes + length blob.now ≤ 2 ^ 32 }
+    {
+        self.shared.is_none()
+            && (SHARED..=LARGEST_ITEM as usize).contains(&blob.len())
+            && self.len() <= MOST_BEFORE
+    }
+
+    /// Puts data at the end, which is not copied. What is written next stands behind it.
+    pub fn share(&mut self, blob: Blob)
+        requires alone { self.old.fixed ≡ 0 }
+        requires some { 0 < length blob }
+        requires few { length self.old.bytes + length blob ≤ 2 ^ 62 }
+        ensures bytes { self.new.bytes ≡ self.old.bytes ++ blob }
+        ensures room { self.new.room ≡ self.old.behind }
+    {
+        self.front.drain(..self.sent);
+        self.sent = 0;
+        self.shared = Some(blob);
     }
 
     /// The bytes that wait.
-    pub fn as_slice(&self) -> &[u8]
-        ensures { result.now ≡ self.now.bytes }
+    pub fn parts(&self) -> Parts<'_>
+        ensures { result ≡ self.now.bytes }
     {
-        &self.bytes[self.start..]
+        let front = self.front.as_slice();
+        let back = self.back.as_slice();
+        match &self.shared {
+            None => Parts::new(&front[self.sent..], &[], back),
+            Some(data) => {
+                let data = data.as_slice();
+                match self.sent.checked_sub(front.len()) {
+                    None => Parts::new(&front[self.sent..], data, back),
+                    Some(sent) => Parts::new(&[], &data[sent..], back),
+                }
+            }
+        }
     }
 
     /// How many bytes wait.
     pub fn len(&self) -> usize
-        ensures { result ≡ length self.now.bytes }
+        ensures value { result ≡ length self.now.bytes }
+        ensures fixed { self.now.fixed ≤ result }
     {
-        self.bytes.len() - self.start
+        match &self.shared {
+            None => self.front.len() - self.sent,
+            Some(data) => self.front.len() + data.len() - self.sent + self.back.len(),
+        }
     }
 
-    /// Takes back all but the first so many bytes.
+    /// Takes back all but the first so many bytes, which are no fewer than can't be taken back.
     pub fn truncate(&mut self, n: usize)
-        requires { n ≤ length self.old.bytes }
+        requires within { n ≤ length self.old.bytes }
+        requires fixed { self.old.fixed ≤ n }
         ensures bytes { self.new.bytes ≡ take n self.old.bytes }
         ensures room { self.old.room + length self.old.bytes ≤ self.new.room + n }
     {
-        self.bytes.truncate(self.start + n);
+        match &self.shared {
+            None => self.front.truncate(self.sent + n),
+            Some(data) => {
+                let fixed = self.front.len() + data.len() - self.sent;
+                self.back.truncate(n - fixed);
+            }
+        }
     }
 
     /// So many of the first bytes were sent. Their room is given up, and a large one once all are sent.
@@ -114,24 +223,50 @@ impl Output {
         ensures { self.new.bytes ≡ drop n self.old.bytes }
     {
         if n >= self.len() {
-            self.bytes.clear();
-            self.start = 0;
-            if self.bytes.capacity() > KEPT_ROOM {
-                self.bytes.shrink_to(0);
-            }
+            self.clear();
         } else {
-            self.start += n;
-            self.compact();
+            self.pass(n);
         }
     }
 
-    /// Gives up the room of bytes that were sent, once they are more than those that wait.
-    fn compact(&mut self)
-        ensures { self.new.bytes ≡ self.old.bytes }
+    /// All bytes were sent.
+    fn clear(&mut self)
+        ensures { self.new.bytes ≡ [] }
     {
-        if self.start > self.bytes.len() - self.start {
-            self.bytes.drain(..self.start);
-            self.start = 0;
+        clear(&mut self.front);
+        clear(&mut self.back);
+        self.shared = None;
+        self.sent = 0;
+    }
+
+    /// So many of the first bytes were sent, and not all.
+    fn pass(&mut self, n: usize)
+        requires { n < length self.old.bytes }
+        ensures { self.new.bytes ≡ drop n self.old.bytes }
+    {
+        let sent = self.sent + n;
+        match &self.shared {
+            None => self.sent = compact(&mut self.front, sent),
+            Some(data) => {
+                let before = self.front.len() + data.len();
+                if sent < before {
+                    self.sent = sent;
+                } else {
+                    self.let_go(sent - before);
+                }
+            }
         }
+    }
+
+    /// The shared data was sent, with so many of the bytes behind it.
+    fn let_go(&mut self, n: usize)
+        requires some { 0 < self.old.fixed }
+        requires within { self.old.fixed + n ≤ length self.old.bytes }
+        ensures { self.new.bytes ≡ drop (self.old.fixed + n) self.old.bytes }
+    {
+        swap(&mut self.front, &mut self.back);
+        clear(&mut self.back);
+        self.shared = None;
+        self.sent = compact(&mut self.front, n);
     }
 }

@@ -1,5 +1,5 @@
 //! The reply texts.
-ghost use Rattle.std.specs.Prelude.{◌≡◌, ◌+◌, ◌≤◌, ◌++◌, ◌||◌, not, take, length, codes, OnOk, OnErr};
+ghost use Rattle.std.specs.Prelude.{◌≡◌, ◌+◌, ◌≤◌, ◌++◌, ◌||◌, ◌∷◌, ◌<◌, ◌^◌, [], not, take, length, codes, OnOk, OnErr};
 ghost use Rattle.std.specs.List.{flat_map};
 ghost use Rattle.tc_session.specs.SessionView.{reply_room};
 ghost use Rattle.tc_session.specs.Unsent.{KeepsSpace};
@@ -55,6 +55,7 @@ pub(crate) fn write_fault(out: &mut Output, fault: Fault)
 fn write_cas(out: &mut Output, form: Form, cas: u64)
     requires { 21 ≤ out.old.room }
     ensures bytes { out.new.bytes ≡ out.old.bytes ++ cas_text form cas }
+    ensures longer { length out.new.bytes ≤ length out.old.bytes + 21 }
     ensures room { out.old.room ≤ out.new.room + 21 }
     ensures space { KeepsSpace out.old out.new }
 {
@@ -72,6 +73,7 @@ fn write_cas(out: &mut Output, form: Form, cas: u64)
 fn write_value_line(out: &mut Output, form: Form, hit: &Hit)
     requires { length hit.now.key + 71 ≤ out.old.room }
     ensures bytes { out.new.bytes ≡ out.old.bytes ++ value_line form hit.now }
+    ensures longer { length out.new.bytes ≤ length out.old.bytes + (length hit.now.key + 71) }
     ensures room { out.old.room ≤ out.new.room + (length hit.now.key + 71) }
     ensures space { KeepsSpace out.old out.new }
 {
@@ -103,7 +105,7 @@ fn write_hit(out: &mut Output, form: Form, hit: &Hit) -> Result<(), NoMemory>
 
 /// Writes all hits, and END. Where memory is refused, what waited before is still in front.
 #[tactic(auto, unfolding(crate::specs::Replies::values_text))]
-pub(crate) fn write_values(out: &mut Output, form: Form, hits: &[Hit]) -> Result<(), NoMemory>
+fn write_copied(out: &mut Output, form: Form, hits: &[Hit]) -> Result<(), NoMemory>
     ensures bytes { OnOk result (out.new.bytes ≡ out.old.bytes ++ values_text form hits.now) }
     ensures front_on_err { OnErr result (take (length out.old.bytes) out.new.bytes
         ≡ out.old.bytes) }
@@ -116,6 +118,41 @@ pub(crate) fn write_values(out: &mut Output, form: Form, hits: &[Hit]) -> Result
     out.reserve(5)?;
     out.write(b"END\r\n");
     Ok(())
+}
+
+/// Writes one hit, whose data is shared, and END. A refusal changes nothing.
+#[tactic(auto, unfolding(crate::specs::Replies::values_text, crate::specs::Replies::value_text))]
+fn write_shared(out: &mut Output, form: Form, hit: &Hit) -> Result<(), NoMemory>
+    requires alone { out.old.fixed ≡ 0 }
+    requires some { 0 < length hit.now.blob }
+    requires few { length out.old.bytes + length hit.now.blob ≤ 2 ^ 32 }
+    ensures bytes { OnOk result (out.new.bytes
+        ≡ out.old.bytes ++ values_text form (hit.now ∷ [])) }
+    ensures unchanged_on_err { OnErr result (out.new.bytes ≡ out.old.bytes) }
+    ensures space { OnErr result (KeepsSpace out.old out.new) }
+{
+    let data = hit.blob.copy()?;
+    out.reserve(hit.key.as_bytes().len() + 71)?;
+    out.reserve_behind(7)?;
+    write_value_line(out, form, hit);
+    out.share(data);
+    out.write(b"\r\nEND\r\n");
+    Ok(())
+}
+
+/// Writes all hits, and END; the data of a large one that is alone is shared. Where memory is refused,
+/// what waited before is still in front.
+pub(crate) fn write_values(out: &mut Output, form: Form, hits: &[Hit]) -> Result<(), NoMemory>
+    ensures bytes { OnOk result (out.new.bytes ≡ out.old.bytes ++ values_text form hits.now) }
+    ensures front_on_err { OnErr result (take (length out.old.bytes) out.new.bytes
+        ≡ out.old.bytes) }
+    ensures longer_on_err { OnErr result (length out.old.bytes ≤ length out.new.bytes) }
+    ensures space { OnErr result (KeepsSpace out.old out.new) }
+{
+    match hits {
+        [hit] if out.can_share(&hit.blob) => write_shared(out, form, hit),
+        _ => write_copied(out, form, hits),
+    }
 }
 
 /// Writes the rows of counters, and END. Where memory is refused, what waited before is still in front.

@@ -1,6 +1,6 @@
 //! A connection.
-ghost use Rattle.std.specs.Prelude.{◌≡◌, ◌≢◌, ◌+◌, ◌≤◌, ◌++◌, ℕ, [], true, false, codes, drop, length};
-ghost use Rattle.std.specs.Prelude.{None, IsOk, IfOk, OnOk, OnErr};
+ghost use Rattle.std.specs.Prelude.{◌≡◌, ◌≢◌, ◌+◌, ◌<◌, ◌≤◌, ◌++◌, ◌↔◌, ℕ, [], true, false, codes, drop, length};
+ghost use Rattle.std.specs.Prelude.{None, IsOk, IfOk, IsTrue, OnOk, OnErr};
 ghost use Rattle.tc_model.specs.Connection.{turn, login, login_turn, unbound_turn, bound_turn, with_piece, shut_endpoint};
 ghost use Rattle.tc_model.specs.Connection.{new_endpoint, Unbound, Bound, Nothing, Close, is_closed};
 ghost use Rattle.tc_grammar.specs.declared.fault.Fault.TheVariants.{AuthenticationFailure, NoMemory as OutOfMemory};
@@ -14,6 +14,7 @@ ghost use Rattle.tc_session.specs.SessionView.{reply_room, needed_room};
 use crate::Want;
 use crate::answering::{write_refusal, write_reply};
 use crate::output::Output;
+use crate::parts::Parts;
 use crate::reply::{is_quiet, write_fault};
 use std::alloc::Global;
 use std::marker::Model;
@@ -333,10 +334,24 @@ impl Session {
     }
 
     /// The bytes that wait to be sent.
-    pub fn out(&self) -> &[u8]
-        ensures { result.now ≡ self.now.out }
+    pub fn parts(&self) -> Parts<'_>
+        ensures { result ≡ self.now.out }
     {
-        self.out.as_slice()
+        self.out.parts()
+    }
+
+    /// How many bytes wait to be sent.
+    pub fn out_len(&self) -> usize
+        ensures { result ≡ length self.now.out }
+    {
+        self.out.len()
+    }
+
+    /// Whether bytes wait to be sent.
+    pub fn has_out(&self) -> bool
+        ensures { IsTrue result ↔ (0 < length self.now.out) }
+    {
+        self.out_len() > 0
     }
 
     /// So many of the first bytes that wait were sent; all of them, where fewer wait.

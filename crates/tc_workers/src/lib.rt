@@ -26,5 +26,6 @@ mod worker;
 pub use crew::{CrewFault, Why, run_crew};
 pub use gate::{Gate, Open, Place};
 pub use keeper::{Keeper, Source};
+pub use tc_session::Parts;
 pub use wire::{Got, Inlet, Patience, Put, Taken, Wire};
 pub use worker::Worker;

@@ -107,7 +107,7 @@ impl<W: Wire + Drop> Link<W> {
         let Some(pace) = self.look_again(came.and(served).and(went), buffer) else {
             return Onward::Done;
         };
-        if self.session.is_closed() && self.session.out().is_empty() {
+        if self.session.is_closed() && !self.session.has_out() {
             return Onward::Done;
         }
         match pace {
@@ -120,7 +120,7 @@ impl<W: Wire + Drop> Link<W> {
     /// more, so that a wire with nothing says so before its worker waits; `None` where it is over. What
     /// this read gives is served in the next turn.
     fn look_again(&mut self, pace: Pace, buffer: &mut [u8]) -> Option<Pace> {
-        let is_through = self.rests && self.session.out().is_empty();
+        let is_through = self.rests && !self.session.has_out();
         if pace != Pace::GetsOn || !is_through || !self.is_watched {
             return Some(pace);
         }
@@ -137,7 +137,7 @@ impl<W: Wire + Drop> Link<W> {
 
     /// Whether so much waits to be sent that its client is to read first.
     fn is_full(&self) -> bool {
-        self.session.out().len() > MOST_OUT
+        self.session.out_len() > MOST_OUT
     }
 
     /// Reads once, where all that came is read and little waits to be sent; `None` where it is over.
@@ -256,11 +256,10 @@ impl<W: Wire + Drop> Link<W> {
     fn write(&mut self) -> Option<Pace> {
         let mut pace = Pace::Rests;
         for _ in 0..u64::MAX {
-            let out = self.session.out();
-            if out.is_empty() {
+            if !self.session.has_out() {
                 return Some(pace);
             }
-            match self.wire.write(out) {
+            match self.wire.write(&self.session.parts()) {
                 Put::Wrote(0) => return Some(pace.and(Pace::Tries)),
                 Put::Wrote(n) => self.session.sent(n),
                 Put::Later => return Some(pace),

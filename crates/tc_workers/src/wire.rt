@@ -2,6 +2,8 @@
 ghost use Rattle.std.specs.Prelude.{◌≡◌, ℕ, length};
 ghost use Rattle.tc_workers.specs.Wires.{ReadsWithin, WritesWithin, CountsFailedRead, CountsFailedWrite};
 
+use tc_session::Parts;
+
 /// What a read gave.
 #[derive(Clone, Copy, Debug, PartialEq, Eq)]
 pub enum Got {
@@ -33,7 +35,8 @@ pub trait Wire {
         ensures within { ReadsWithin result (length into.old) }
         ensures counted { CountsFailedRead result (failed self.old) (failed self.new) };
 
-    fn write(&mut self, from: &[u8]) -> Put
+    /// Takes the first bytes of what waits, as many as it can.
+    fn write(&mut self, from: &Parts<'_>) -> Put
         ensures within { WritesWithin result (length from.now) }
         ensures counted { CountsFailedWrite result (failed self.old) (failed self.new) };
 

@@ -3,6 +3,7 @@
 ghost use Rattle.std.specs.Prelude.{◌≡◌, ◌≤◌, true, OnOk};
 ghost use Rattle.tc_session.specs.Replies.{can_end};
 
+mod shared;
 mod table;
 
 use crate::fixtures::{expect_bytes, expect_number, users};
@@ -83,6 +84,14 @@ fn expect_wanted(rt: &impl Abort, got: Wanted, want: Wanted, at: &str) {
     assert_eq!(rt; got, want, "{at}");
 }
 
+/// Whether this waits to be sent, in one slice.
+fn expect_out(rt: &impl Abort, session: &Session, out: &[u8], at: &str) {
+    let parts = session.parts();
+    let (first, second, third) = parts.as_slices();
+    expect_bytes(rt, first, out, at);
+    assert!(rt; second.is_empty() && third.is_empty(), "{at}");
+}
+
 /// Takes a turn.
 fn expect_turn(
     rt: &(impl AllocGlobal + Abort),
@@ -94,7 +103,7 @@ fn expect_turn(
     push(session, said.as_bytes())?;
     let got = wanted(rt.alloc(), session, users)?;
     expect_wanted(rt, got, want, said);
-    expect_bytes(rt, session.out(), out.as_bytes(), said);
+    expect_out(rt, session, out.as_bytes(), said);
     Ok(())
 }
 
@@ -264,7 +273,7 @@ fn answer(
         return Ok(());
     }
     let refused = b"SERVER_ERROR out of memory\r\n";
-    expect_bytes(rt, session.out(), refused, "refused");
+    expect_out(rt, session, refused, "refused");
     session.sent(28);
     wanted(rt.alloc(), session, users)?;
     session.answer(command, outcome)
@@ -312,7 +321,7 @@ fn expect_reply(
     push(session, said.as_bytes())?;
     let got = serve_next(rt, session, users, outcome)?;
     expect_wanted(rt, got, Wanted::Alices, said);
-    expect_bytes(rt, session.out(), out.as_bytes(), said);
+    expect_out(rt, session, out.as_bytes(), said);
     Ok(())
 }
 
@@ -410,7 +419,7 @@ fn expect_refused(
     let (said, out) = *reply;
     push(session, said.as_bytes())?;
     refuse_next(rt.alloc(), session, users)?;
-    expect_bytes(rt, session.out(), out.as_bytes(), said);
+    expect_out(rt, session, out.as_bytes(), said);
     Ok(())
 }
 
@@ -459,7 +468,7 @@ fn converse(
 
 /// Whether the connection has said all, and is closed.
 fn expect_said(rt: &impl Abort, session: &Session) {
-    expect_bytes(rt, session.out(), ANSWERED.as_bytes(), "stream");
+    expect_out(rt, session, ANSWERED.as_bytes(), "stream");
     assert!(rt; session.is_closed());
 }
 

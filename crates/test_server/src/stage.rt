@@ -5,7 +5,7 @@ ghost use Rattle.tc_fresh.specs.Beginning.{fresh_cache};
 use crate::hall::{crowd, pages, refusals, scenes};
 use crate::workers::crews::{self, Hold};
 use crate::workers::wires::Plan;
-use crate::workers::{pressure, talks};
+use crate::workers::{pressure, sips, talks};
 use std::alloc::Global;
 use std::hash::RandomState;
 use std::marker::Brand;
@@ -47,6 +47,8 @@ pub enum Scene {
     Rests,
     /// A client that never reads beside one that does.
     Floods,
+    /// A client that reads a few bytes a call.
+    Sips,
     /// Bob is served while alice's worker is held.
     Holds(Hold),
     /// A hundred calls by each of eight workers.
@@ -68,7 +70,7 @@ fn row(alloc: Global, name: &[u8]) -> Result<UserSpec, Fail> {
         token: Text::copy(alloc, b"one")?,
         second: None,
         budget: 65_536,
-        largest: 1_024,
+        largest: 20_000,
     })
 }
 
@@ -118,6 +120,7 @@ fn perform<
         Scene::Talks(one, other) => talks::talk(rt, alloc, &hall, users, &mut seats, one, other),
         Scene::Rests => talks::rest(rt, alloc, &hall, users, &mut seats),
         Scene::Floods => pressure::serve_flood(rt, alloc, &hall, users, &mut seats),
+        Scene::Sips => sips::serve_sips(rt, alloc, &hall, users, &mut seats),
         Scene::Holds(hold) => crews::hold_alice(rt, alloc, &hall, users, &mut seats, *hold),
         Scene::Counts => crews::count(rt, alloc, hall, users, seats, all),
     }

@@ -3,6 +3,7 @@
 
 pub mod crews;
 pub mod pressure;
+pub mod sips;
 mod table;
 pub mod talks;
 pub mod wires;

@@ -12,7 +12,7 @@ use std::test::*;
 use tc_locked::{Clock, Hall, Naming, Seat};
 use tc_plain::Cache;
 use tc_users::Users;
-use tc_workers::{Got, Open, Put, Wire, Worker};
+use tc_workers::{Got, Open, Parts, Put, Wire, Worker};
 
 /// After so many turns more than 1,048,576 bytes wait for one that doesn't read: each turn asks for 16
 /// times 2,813 bytes.
@@ -83,7 +83,7 @@ impl Wire for Flood {
         Got::Bytes(into.len())
     }
 
-    fn write(&mut self, from: &[u8]) -> Put {
+    fn write(&mut self, from: &Parts<'_>) -> Put {
         match self.client {
             Client::Reads => {
                 self.seen.taken.fetch_add(from.len() as u64, SeqCst);

@@ -5,7 +5,7 @@ use std::alloc::Global;
 use std::sync::Arc;
 use std::sync::atomic::AtomicU64;
 use std::sync::atomic::Ordering::SeqCst;
-use tc_workers::{Got, Put, Wire};
+use tc_workers::{Got, Parts, Put, Wire};
 
 /// How the bytes of a wire come.
 #[derive(Clone, Copy, Debug, PartialEq, Eq)]
@@ -151,13 +151,16 @@ impl Wire for Memory {
         }
     }
 
-    fn write(&mut self, from: &[u8]) -> Put {
+    fn write(&mut self, from: &Parts<'_>) -> Put {
         self.writes = self.writes.saturating_add(1);
         if self.plan.ending == Ending::FailsAtWrite(self.writes) && self.failed == 0 {
             self.failed = 1;
             return Put::Failed;
         }
-        self.hear(from);
+        let (first, second, third) = from.as_slices();
+        self.hear(first);
+        self.hear(second);
+        self.hear(third);
         Put::Wrote(from.len())
     }
 

@@ -2,7 +2,7 @@ use Rattle.std.specs.List.{flat_map}
 use Rattle.std.proofs.Common.{◌≡◌, ◌++◌, take}
 use Rattle.tc_session.specs.Unsent.{KeepsSpace}
 use Rattle.tc_session.specs.Replies.{value_text}
-use Rattle.tc_session.proofs.reply.write_values.Given as goal
+use Rattle.tc_session.proofs.reply.write_copied.Given as goal
 
 abbrev pub invariant-loop-hit : goal.invariant-loop-hit
 invariant-loop-hit l = record {
