@@ -1,8 +1,9 @@
 //! What the command line asks for.
 use clap::error::ErrorKind;
-use clap::{Arg, ArgMatches, Command, Error, value_parser};
+use clap::{Arg, ArgAction, ArgMatches, Command, Error, value_parser};
 use std::alloc::{AllocError, Global};
 use std::io;
+use tc_net::Affinity;
 
 /// What the program is to do.
 #[derive(Drop)]
@@ -10,7 +11,11 @@ pub enum Asked {
     /// Run a script.
     Run,
     /// Serve by the settings in a file, until so many connections were closed.
-    Serve { config: String, until: Option<u32> },
+    Serve {
+        config: String,
+        affinity: Affinity,
+        until: Option<u32>,
+    },
 }
 
 /// Why the command line asks for nothing.
@@ -59,9 +64,14 @@ fn serve_command<'a>(alloc: Global) -> Result<Command<'a>, AllocError> {
         .value_name("N")
         .value_parser(value_parser!(u32).range(1..))
         .help("End once N connections were closed");
+    let spread = Arg::new(alloc, "spread")
+        .long("spread")
+        .action(ArgAction::SetTrue)
+        .help("Serve a user's connections by all workers, and not by one");
     Command::new(alloc, "serve")
         .about("Listen, and serve memcached's clients")
         .arg(config)?
+        .arg(spread)?
         .arg(until)
 }
 
@@ -85,8 +95,14 @@ fn asked_by(alloc: Global, matches: &ArgMatches<'_>) -> Result<Asked, AllocError
     };
     // The parser refuses a `serve` without it.
     let config = serve.get_str("config").unwrap_or("");
+    let affinity = if serve.get_flag("spread") {
+        Affinity::Spread
+    } else {
+        Affinity::ByUser
+    };
     Ok(Asked::Serve {
         config: String::from_str(alloc, config)?,
+        affinity,
         until: serve.get_one::<u32>("until"),
     })
 }

@@ -98,10 +98,19 @@ fn report_unasked(rt: &HostRuntime, unasked: Unasked) -> io::Result<u8> {
 fn main(rt: HostRuntime) -> io::Result<ExitCode> {
     let status = match asked(&rt) {
         Ok(Asked::Run) => report_run(&rt, run(&rt))?,
-        Ok(Asked::Serve { config, until }) => match prepare(&rt, config.as_str()) {
+        Ok(
+            Asked::Serve {
+                config,
+                affinity,
+                until,
+            },
+        ) => match prepare(&rt, config.as_str()) {
             Ok(beginning) => {
                 let until = until.map(u64::from);
-                let ended = serve::<Fast, Brand, HostRuntime>(&rt, rt.alloc(), beginning, until);
+                let alloc = rt.alloc();
+                let ended = serve::<Fast, Brand, HostRuntime>(
+                    &rt, alloc, beginning, affinity, until,
+                );
                 report_served(&rt, ended)?
             }
             Err(unready) => report_unready(&rt, unready)?,

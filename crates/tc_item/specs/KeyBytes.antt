@@ -7,11 +7,11 @@ use Rattle.tc_item.specs.KeyRule.{is_key}
 -- the bytes: the first so many of those in place, or all of the others
 abbrev pub bytes_held : KeyBytes → List ℕ
 bytes_held (Short place length) = take length place
-bytes_held (Long bytes) = bytes.items
+bytes_held (Long bytes) = bytes
 
 -- no more are counted than there are places
 abbrev pub IsInPlace : KeyBytes → Type 0
-IsInPlace (Short place length) = length ≤ 32
+IsInPlace (Short place length) = length ≤ 22
 IsInPlace (Long bytes) = ⊤
 
 -- a key's bytes

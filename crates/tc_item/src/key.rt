@@ -10,7 +10,7 @@ ghost use Rattle.tc_item.specs.KeyBytes.{bytes_held, IsInPlace};
 ghost use Rattle.tc_item.specs.KeyFaults.{key_fault};
 ghost use Rattle.tc_item.specs.declared.key.KeyFault.TheVariants.{NoMemory as OutOfMemory};
 
-use crate::{Few, LONGEST_KEY, NoMemory, TryCopy};
+use crate::{Blob, Few, LONGEST_KEY, NoMemory, TryCopy};
 use std::alloc::Global;
 use std::error::Error;
 use std::fmt;
@@ -49,23 +49,23 @@ impl From<NoMemory> for KeyFault {
 }
 
 /// The most bytes of a key that are kept in place.
-const IN_PLACE: usize = 32;
+const IN_PLACE: usize = 22;
 
-/// What an item is stored under. Most keys are short, so up to 32 bytes are kept in place, and copied
-/// all at once.
+/// What an item is stored under. Up to 22 bytes are kept in place, and copied all at once; more are
+/// shared by all copies.
 #[derive(Drop)]
 pub struct Key {
     bytes: KeyBytes,
 }
 
-/// A key's bytes: the first so many of some in place, or those in memory of their own.
+/// A key's bytes: the first so many of some in place, or those that it shares with its copies.
 #[derive(Drop)]
 enum KeyBytes {
     Short([u8; IN_PLACE], u8),
-    Long(Vec<u8>),
+    Long(Blob),
 }
 
-const _: () = prove!(size_of::<Key>() == 40);
+const _: () = prove!(size_of::<Key>() == 24);
 
 impl Model for Key {
     ghost use Rattle.std.specs.Prelude.{ℕ, List};
@@ -100,7 +100,7 @@ pub fn is_key(bytes: &[u8]) -> bool
 impl KeyBytes {
     /// These bytes, in place.
     fn short(bytes: &[u8]) -> KeyBytes
-        requires { length bytes.now ≤ 32 }
+        requires { length bytes.now ≤ 22 }
         ensures held { bytes_held result ≡ bytes.now }
         ensures fits { IsInPlace result }
     {
@@ -137,7 +137,7 @@ impl Key {
         let bytes = if bytes.len() <= IN_PLACE {
             KeyBytes::short(bytes)
         } else {
-            KeyBytes::Long(Vec::from_slice(alloc, bytes)?)
+            KeyBytes::Long(Blob::new(alloc, Vec::from_slice(alloc, bytes)?)?)
         };
         Ok(Key { bytes })
     }
@@ -156,12 +156,12 @@ impl Key {
     }
 
     /// An equal key.
-    pub fn copy(&self, alloc: Global) -> Result<Key, NoMemory>
+    pub fn copy(&self, _alloc: Global) -> Result<Key, NoMemory>
         ensures { IfOk result (λ k. k ≡ self.now) }
     {
         let bytes = match &self.bytes {
             KeyBytes::Short(place, length) => KeyBytes::Short(*place, *length),
-            KeyBytes::Long(bytes) => KeyBytes::Long(Vec::from_slice(alloc, bytes.as_slice())?),
+            KeyBytes::Long(bytes) => KeyBytes::Long(bytes.copy()?),
         };
         Ok(Key { bytes })
     }

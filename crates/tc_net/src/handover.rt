@@ -2,11 +2,14 @@
 ghost use Rattle.crossbeam_channel.specs.Claims.{IsSeatAt};
 ghost use Rattle.crossbeam_channel.specs.Ends.{sends_on, receives_on};
 
+use crate::socket::Socket;
 use crossbeam_channel::protocol::{Free, Split};
 use crossbeam_channel::{Pass, RuledReceiver, RuledSender, bounded_with};
+use mio::Waker;
 use mio::net::TcpStream;
 use std::alloc::{AllocError, Global};
-use std::sync::Wait;
+use std::sync::{Arc, Wait};
+use tc_workers::Link;
 
 /// The most connections that wait for one worker.
 const MOST_WAITING: usize = 1_024;
@@ -20,18 +23,21 @@ impl Split<()> for Same {
     ghost right = { λ v. v };
 }
 
-/// A connection on its way to its worker, with the number of its connection.
+/// A connection on its way to a worker.
 #[derive(Drop)]
-pub(crate) struct Arrival {
-    pub(crate) conn: u32,
-    pub(crate) stream: TcpStream,
+pub(crate) enum Arrival {
+    /// From the listener, with its number.
+    New { conn: u32, stream: TcpStream },
+    /// From another worker.
+    Passed(Link<Socket>),
 }
 
-/// Where the listener puts a worker's connections.
+/// Where a worker's connections are put, and what wakes it.
 #[derive(Drop)]
 pub(crate) struct Outlet {
     to: RuledSender<Arrival, (), Free>,
     pass: Pass<Arrival, ()>,
+    waker: Arc<Waker, Global>,
     ghost fits: { IsSeatAt (sends_on to) pass },
 }
 
@@ -43,19 +49,41 @@ pub(crate) struct Intake {
     ghost fits: { IsSeatAt (receives_on from) pass },
 }
 
-/// Both ends of a worker's channel.
-pub(crate) fn handover(alloc: Global) -> Result<(Outlet, Intake), AllocError> {
+/// Both ends of the channel of a worker, which the waker wakes.
+pub(crate) fn handover(alloc: Global, waker: Waker) -> Result<(Outlet, Intake), AllocError> {
+    let Ok(waker) = Arc::new(alloc, waker) else {
+        return Err(AllocError);
+    };
     let (to, from, mut pass) = bounded_with::<Arrival, (), Free, Global>(alloc, MOST_WAITING)?;
     let theirs = to.another::<Same>(&mut pass);
-    Ok((Outlet { to, pass }, Intake { from, pass: theirs }))
+    Ok((Outlet { to, pass, waker }, Intake { from, pass: theirs }))
 }
 
 impl Outlet {
-    /// Whether the connection was handed over; else it is closed.
-    pub(crate) fn send<R: Wait>(&mut self, rt: &R, arrival: Arrival) -> bool {
-        self.to
-            .try_send_as::<Free, R>(rt, &mut self.pass, arrival)
-            .is_ok()
+    /// Another one to the same worker.
+    pub(crate) fn another(&mut self) -> Result<Outlet, AllocError> {
+        let to = self.to.try_clone()?;
+        let waker = Arc::try_clone(&self.waker)?;
+        let pass = self.to.another::<Same>(&mut self.pass);
+        Ok(Outlet { to, pass, waker })
+    }
+
+    /// Hands a connection over, and wakes its worker. It comes back where too many wait, or where the
+    /// worker has ended.
+    pub(crate) fn send<R: Wait>(&mut self, rt: &R, arrival: Arrival) -> Result<(), Arrival> {
+        match self.to.try_send_as::<Free, R>(rt, &mut self.pass, arrival) {
+            Ok(()) => {
+                // A worker that isn't woken looks by itself soon.
+                self.wake();
+                Ok(())
+            }
+            Err(refused) => Err(refused.into_inner()),
+        }
+    }
+
+    /// Has the worker look whether something is new.
+    pub(crate) fn wake(&self) {
+        let _ = self.waker.wake();
     }
 }
 

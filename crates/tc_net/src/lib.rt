@@ -4,7 +4,8 @@
 //! Each worker waits in a poll of its own. What the poll said of a socket stands on that worker's
 //! `Board`, so that a `Socket`, which is a wire, asks the system only where there is something; a
 //! `Queue`, which is an inlet, names the wires of which the poll said something. The listener has a
-//! thread and a poll of its own; it hands connections over by channels, and wakes the worker.
+//! thread and a poll of its own; it hands connections over by channels, and wakes the worker. By the
+//! same channels workers pass connections on to the worker of their user.
 //!
 //! `serve` goes over any cache. A `Beginning` holds what `Hall::new` asks of its caller.
 //!
@@ -23,4 +24,4 @@ mod serving;
 mod socket;
 
 pub use beginning::Beginning;
-pub use serving::{Unserved, serve};
+pub use serving::{Affinity, Unserved, serve};

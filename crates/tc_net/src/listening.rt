@@ -2,7 +2,7 @@
 use crate::door::Door;
 use crate::handover::{Arrival, Outlet};
 use mio::net::{TcpListener, TcpStream};
-use mio::{Events, Interest, Poll, Token, Waker};
+use mio::{Events, Interest, Poll, Token};
 use std::alloc::Global;
 use std::io;
 use std::net::{Net, SocketAddr};
@@ -21,20 +21,13 @@ const LONG_WAIT: u64 = 500;
 /// The most connections that are taken before it looks whether it is done.
 const BURST: u32 = 1_024;
 
-/// Where a worker's connections are put, and what wakes it.
-#[derive(Drop)]
-pub(crate) struct Post {
-    pub(crate) outlet: Outlet,
-    pub(crate) waker: Waker,
-}
-
 /// The listener, before its thread starts.
 #[derive(Drop)]
 pub(crate) struct Listening {
     listener: TcpListener,
     poll: Poll,
     events: Events,
-    posts: Vec<Post>,
+    outlets: Vec<Outlet>,
     door: Arc<Door, Global>,
     /// After so many closed connections it ends.
     until: Option<u64>,
@@ -46,7 +39,7 @@ impl Listening {
     pub(crate) fn new<N: Net + AllocGlobal>(
         net: &N,
         addr: SocketAddr,
-        posts: Vec<Post>,
+        outlets: Vec<Outlet>,
         door: Arc<Door, Global>,
         until: Option<u64>,
     ) -> io::Result<Listening> {
@@ -59,7 +52,7 @@ impl Listening {
             listener,
             poll,
             events,
-            posts,
+            outlets,
             door,
             until,
             number: 0,
@@ -94,18 +87,13 @@ impl Listening {
         let _ = stream.set_nodelay(true);
         let number = self.number;
         self.number = number.wrapping_add(1);
-        let count = self.posts.len() as u64;
+        let count = self.outlets.len() as u64;
         if count == 0 {
             return false;
         }
         let conn = (number % 4_294_967_296) as u32;
-        let post = &mut self.posts[(number % count) as usize];
-        if !post.outlet.send(rt, Arrival { conn, stream }) {
-            return false;
-        }
-        // A worker that isn't woken looks by itself soon.
-        let _ = post.waker.wake();
-        true
+        let outlet = &mut self.outlets[(number % count) as usize];
+        outlet.send(rt, Arrival::New { conn, stream }).is_ok()
     }
 
     /// How long it waits for a connection before it looks whether it is done.
@@ -118,14 +106,14 @@ impl Listening {
 
     /// Wakes all workers, so that they learn that no further connection comes.
     fn wake_workers(&self) {
-        for post in &self.posts {
-            let _ = post.waker.wake();
+        for outlet in &self.outlets {
+            outlet.wake();
         }
     }
 
     /// Takes connections until enough were closed; then no further one comes. It gives back what wakes
     /// the workers, which is to live until they have ended: what a waker says is lost with it.
-    pub(crate) fn run<R: Wait>(mut self, rt: &R) -> Vec<Post> {
+    pub(crate) fn run<R: Wait>(mut self, rt: &R) -> Vec<Outlet> {
         let patience = self.patience();
         for _ in rt.forever() {
             if self.is_done() {
@@ -136,19 +124,19 @@ impl Listening {
         }
         self.door.end();
         self.wake_workers();
-        self.into_posts()
+        self.into_outlets()
     }
 
-    fn into_posts(self) -> Vec<Post> {
+    fn into_outlets(self) -> Vec<Outlet> {
         let Listening {
             listener: _,
             poll: _,
             events: _,
-            posts,
+            outlets,
             door: _,
             until: _,
             number: _,
         } = self;
-        posts
+        outlets
     }
 }

@@ -1,17 +1,19 @@
-//! The connections that the listener hands over, and the poll in which their worker waits.
+//! The connections that the listener and other workers hand over, and the poll in which their worker
+//! waits.
 use crate::board::{Board, ENDING, READABLE, WRITABLE};
 use crate::door::Door;
-use crate::handover::{Arrival, Intake};
+use crate::handover::{Arrival, Intake, Outlet, handover};
 use crate::socket::Socket;
 use mio::event::Event;
-use mio::{Events, Interest, Poll, Token, Waker};
+use mio::net::TcpStream;
+use mio::{Events, Poll, Token, Waker};
 use std::alloc::Global;
 use std::io;
 use std::io::ErrorKind;
 use std::net::Net;
 use std::sync::{Arc, Wait};
 use std::time::Duration;
-use tc_workers::{Inlet, Patience, Taken};
+use tc_workers::{Inlet, Link, Patience, Taken};
 
 /// The most events of one wait.
 const EVENTS: usize = 256;
@@ -31,6 +33,8 @@ const LONG: u64 = 1_000;
 pub(crate) struct Queue<R: Wait + Drop> {
     rt: R,
     intake: Intake,
+    /// Where the connections of each worker are put, where workers pass connections on.
+    outlets: Vec<Outlet>,
     poll: Poll,
     events: Events,
     board: Arc<Board, Global>,
@@ -60,22 +64,25 @@ fn bits_of(event: &Event) -> u64 {
 }
 
 impl<R: Wait + Drop> Queue<R> {
+    /// An inlet that passes no connection on, and where its worker's connections are put.
     pub(crate) fn new<N: Net + AllocGlobal>(
         net: &N,
         rt: R,
-        intake: Intake,
         door: Arc<Door, Global>,
-    ) -> io::Result<Queue<R>> {
+    ) -> io::Result<(Queue<R>, Outlet)> {
         let alloc = net.alloc();
         let poll = Poll::new(net)?;
+        let waker = Waker::new(poll.registry(), Token(usize::MAX))?;
+        let (outlet, intake) = handover(alloc, waker)?;
         let events = Events::with_capacity(alloc, EVENTS)?;
         let woken = Vec::with_capacity(alloc, PLACES)?;
         let Ok(board) = Arc::new(alloc, Board::new(alloc, PLACES)?) else {
             return Err(io::Error::from(ErrorKind::OutOfMemory));
         };
-        Ok(Queue {
+        let queue = Queue {
             rt,
             intake,
+            outlets: Vec::new(alloc),
             poll,
             events,
             board,
@@ -83,12 +90,13 @@ impl<R: Wait + Drop> Queue<R> {
             woken,
             brought: false,
             is_ending: false,
-        })
+        };
+        Ok((queue, outlet))
     }
 
-    /// What wakes the worker out of its poll.
-    pub(crate) fn waker(&self) -> io::Result<Waker> {
-        Waker::new(self.poll.registry(), Token(usize::MAX))
+    /// Learns where the connections of each worker are put, in the order of the workers' numbers.
+    pub(crate) fn set_outlets(&mut self, outlets: Vec<Outlet>) {
+        self.outlets = outlets;
     }
 
     /// Notes that a socket is to be looked at. Each key that is named was taken before the next wait,
@@ -135,18 +143,33 @@ impl<R: Wait + Drop> Queue<R> {
         }
     }
 
-    /// The wire of a connection that came; `None` where it can't be watched, and it is closed.
-    fn wire_of(&self, mut stream: mio::net::TcpStream) -> Option<Socket> {
-        let board = Arc::try_clone(&self.board).ok()?;
-        let door = Arc::try_clone(&self.door).ok()?;
-        let at = self.board.claim()?;
-        let both = Interest::READABLE | Interest::WRITABLE;
-        let watched = self.poll.registry().register(&mut stream, Token(at), both);
-        if watched.is_err() {
-            board.free(at);
-            return None;
+    /// Has the poll watch a wire. Whether it can.
+    fn watch(&self, wire: &mut Socket) -> bool {
+        match Arc::try_clone(&self.board) {
+            Ok(board) => wire.join(self.poll.registry(), board),
+            Err(_) => false,
         }
-        Some(Socket::new(stream, board, door, at))
+    }
+
+    /// A new connection; one that can't be watched is closed.
+    fn give(&self, conn: u32, stream: TcpStream) -> Taken<Socket> {
+        let Ok(door) = Arc::try_clone(&self.door) else {
+            self.door.leave();
+            return Taken::Nothing;
+        };
+        let mut wire = Socket::new(stream, door);
+        if !self.watch(&mut wire) {
+            return Taken::Nothing;
+        }
+        Taken::Given(conn, wire)
+    }
+
+    /// A connection that another worker passed on; one that can't be watched is closed.
+    fn give_on(&self, mut link: Link<Socket>) -> Taken<Socket> {
+        if !self.watch(link.wire_mut()) {
+            return Taken::Nothing;
+        }
+        Taken::Passed(link)
     }
 }
 
@@ -159,23 +182,33 @@ impl<R: Wait + Drop> Inlet for Queue<R> {
         let has_ended = self.door.has_ended();
         let arrival = self.intake.take(&self.rt);
         self.brought = arrival.is_some();
-        let Some(Arrival { conn, stream }) = arrival else {
-            if has_ended {
+        match arrival {
+            Some(Arrival::New { conn, stream }) => self.give(conn, stream),
+            Some(Arrival::Passed(link)) => self.give_on(link),
+            None if has_ended => {
                 self.wake_all();
-                return Taken::Ended;
+                Taken::Ended
             }
-            return Taken::Nothing;
-        };
-        match self.wire_of(stream) {
-            Some(wire) => Taken::Given(conn, wire),
-            None => {
-                self.door.leave();
-                Taken::Nothing
-            }
+            None => Taken::Nothing,
         }
     }
 
     fn woken(&mut self) -> Option<usize> {
         self.woken.pop()
+    }
+
+    fn pass_on(&mut self, to: usize, mut link: Link<Socket>) -> Result<(), Link<Socket>> {
+        let Some(outlet) = self.outlets.get_mut(to) else {
+            return Err(link);
+        };
+        link.wire_mut().leave(self.poll.registry());
+        let Err(Arrival::Passed(mut back)) = outlet.send(&self.rt, Arrival::Passed(link)) else {
+            return Ok(());
+        };
+        // One that can't be watched here again is closed.
+        if self.watch(back.wire_mut()) {
+            return Err(back);
+        }
+        Ok(())
     }
 }

@@ -1,12 +1,12 @@
 //! A server from its settings to its end.
-ghost use Rattle.std.specs.Prelude.{◌≡◌, map};
+ghost use Rattle.std.specs.Prelude.{◌≡◌, ◌<◌, map};
 ghost use Rattle.tc_fresh.specs.Beginning.{fresh_cache};
 
 use crate::beginning::Beginning;
 use crate::clocking::{Ticking, moment_now};
 use crate::door::Door;
-use crate::handover::handover;
-use crate::listening::{Listening, Post};
+use crate::handover::Outlet;
+use crate::listening::Listening;
 use crate::queue::Queue;
 use crate::socket::Socket;
 use std::alloc::{AllocError, Global};
@@ -20,7 +20,7 @@ use tc_item::NoMemory;
 use tc_locked::{Clock, Hall, Naming, Seat};
 use tc_plain::Cache;
 use tc_users::{Settings, Users};
-use tc_workers::{Keeper, Open, Worker, run_crew};
+use tc_workers::{Homes, Keeper, Open, Worker, run_crew};
 
 /// Why a server doesn't serve.
 #[derive(Debug, Drop, Clone, Copy, PartialEq, Eq)]
@@ -52,12 +52,21 @@ impl From<io::Error> for Unserved {
     }
 }
 
+/// Which worker serves a connection once its user is known.
+#[derive(Clone, Copy, Debug, PartialEq, Eq)]
+pub enum Affinity {
+    /// That of its user: users are dealt out to the workers in the order of their numbers.
+    ByUser,
+    /// The one that it came to.
+    Spread,
+}
+
 /// A worker with its inlet, and where its connections are put.
 #[derive(Drop)]
 struct Hired<N: Naming, R: Wait + Drop> {
     worker: Worker<Socket, N>,
     queue: Queue<R>,
-    post: Post,
+    outlet: Outlet,
 }
 
 /// A worker for a seat.
@@ -67,16 +76,14 @@ fn hire<N: Naming, R: Wait + Net + AllocGlobal + Copy + Drop>(
     door: &Arc<Door, Global>,
     seat: Seat<N>,
 ) -> Result<Hired<N, R>, Unserved> {
-    let (outlet, intake) = handover(alloc)?;
-    let queue = Queue::new(rt, *rt, intake, shared(door)?)?;
-    let waker = queue.waker()?;
+    let (queue, outlet) = Queue::new(rt, *rt, shared(door)?)?;
     let Ok(worker) = Worker::new(alloc, seat) else {
         return Err(Unserved::NoMemory);
     };
     Ok(Hired {
         worker,
         queue,
-        post: Post { outlet, waker },
+        outlet,
     })
 }
 
@@ -88,11 +95,14 @@ fn shared(door: &Arc<Door, Global>) -> Result<Arc<Door, Global>, Unserved> {
     }
 }
 
+/// A worker of a crew, with its inlet.
+type Member<N, R> = (Worker<Socket, N>, Queue<R>);
+
 /// All workers, with their inlets and where their connections are put.
 #[derive(Drop)]
 struct Staff<N: Naming, R: Wait + Drop> {
-    crew: Vec<(Worker<Socket, N>, Queue<R>)>,
-    posts: Vec<Post>,
+    crew: Vec<Member<N, R>>,
+    outlets: Vec<Outlet>,
 }
 
 /// A worker for each seat.
@@ -102,19 +112,44 @@ fn hire_all<N: Naming, R: Wait + Net + AllocGlobal + Copy + Drop>(
     door: &Arc<Door, Global>,
     seats: Vec<Seat<N>>,
 ) -> Result<Staff<N, R>, Unserved> {
-    let mut posts = Vec::new(alloc);
+    let mut outlets = Vec::new(alloc);
     let mut crew = Vec::new(alloc);
     for seat in seats {
         let Hired {
             worker,
             queue,
-            post,
+            outlet,
         } = hire(rt, alloc, door, seat)?;
-        if posts.push(post).is_err() || crew.push((worker, queue)).is_err() {
+        if outlets.push(outlet).is_err() || crew.push((worker, queue)).is_err() {
             return Err(Unserved::NoMemory);
         }
     }
-    Ok(Staff { crew, posts })
+    Ok(Staff { crew, outlets })
+}
+
+/// Another outlet to each worker.
+fn another_each(alloc: Global, outlets: &mut Vec<Outlet>) -> Result<Vec<Outlet>, AllocError> {
+    let mut others = Vec::new(alloc);
+    for outlet in outlets.iter_mut() {
+        others.push(outlet.another()?)?;
+    }
+    Ok(others)
+}
+
+/// Deals users out to so many workers.
+fn settle<N: Naming, R: Wait + Drop>(
+    alloc: Global,
+    staff: &mut Staff<N, R>,
+    workers: usize,
+) -> Result<(), AllocError>
+    requires { 0 < workers }
+{
+    for (own, member) in staff.crew.iter_mut().enumerate() {
+        let (worker, queue) = member;
+        worker.set_homes(Homes::by_user(own, workers));
+        queue.set_outlets(another_each(alloc, &mut staff.outlets)?);
+    }
+    Ok(())
 }
 
 /// Listens and serves, until so many connections were closed.
@@ -122,7 +157,13 @@ pub fn serve<
     C: Cache + Send + Sync,
     N: Naming + Send + Sync,
     R: Threads + Wait + Net + Time + AllocGlobal + Send + Sync + Copy + Drop + 'static,
->(rt: &R, alloc: Global, beginning: Beginning<C>, until: Option<u64>) -> Result<(), Unserved>
+>(
+    rt: &R,
+    alloc: Global,
+    beginning: Beginning<C>,
+    affinity: Affinity,
+    until: Option<u64>,
+) -> Result<(), Unserved>
     requires name { beginning.opened ≡ N.table }
     requires begins { N.terms.begins ≡ map fresh_cache beginning.settings.users }
     requires seats { N.terms.seats ≡ beginning.settings.workers }
@@ -146,8 +187,12 @@ pub fn serve<
     let Ok(door) = Arc::new(alloc, Door::new()) else {
         return Err(Unserved::NoMemory);
     };
-    let Staff { crew, posts } = hire_all(rt, alloc, &door, seats)?;
-    let listening = Listening::new(rt, address, posts, shared(&door)?, until)?;
+    let mut staff = hire_all(rt, alloc, &door, seats)?;
+    if affinity == Affinity::ByUser {
+        settle(alloc, &mut staff, workers)?;
+    }
+    let Staff { crew, outlets } = staff;
+    let listening = Listening::new(rt, address, outlets, shared(&door)?, until)?;
     run(rt, alloc, &hall, &users, crew, listening, &door)
 }
 
@@ -176,7 +221,7 @@ fn run<
     let source = Ticking { rt: *rt };
     let ended = run_crew(rt, alloc, hall, users, &clock, &Open, keeper, crew, source);
     door.end();
-    let _posts = listener.join(rt);
+    let _outlets = listener.join(rt);
     match ended {
         Ok(_seats) => Ok(()),
         Err(_) => Err(Unserved::NoMemory),

@@ -5,18 +5,32 @@ ghost use Rattle.std.specs.Io.{WritesAtMost};
 use crate::board::{Board, ENDING, READABLE, WRITABLE};
 use crate::door::Door;
 use mio::net::TcpStream;
+use mio::{Interest, Registry, Token};
 use std::alloc::Global;
 use std::io::{self, ErrorKind, IoSlice, Read, Write};
 use std::sync::Arc;
 use tc_workers::{Got, Parts, Put, Wire};
 
-/// A socket that asks the system only where the poll said that there is something. It has a place of
-/// its worker's board and is counted at the door, both until it is dropped.
+/// A socket's place on the board of its worker, until it is dropped.
+struct Watch {
+    board: Arc<Board, Global>,
+    at: usize,
+}
+
+impl Drop for Watch {
+    fn drop(self) {
+        let Watch { board, at } = self;
+        board.free(at);
+    }
+}
+
+/// A socket that asks the system only where the poll said that there is something. It is counted at
+/// the door until it is dropped.
 pub(crate) struct Socket {
     stream: TcpStream,
-    board: Arc<Board, Global>,
+    /// None while it is on its way to a worker.
+    watch: Option<Watch>,
     door: Arc<Door, Global>,
-    at: usize,
     failures: u64,
 }
 
@@ -24,39 +38,71 @@ impl Drop for Socket {
     fn drop(self) {
         let Socket {
             stream,
-            board,
+            watch,
             door,
-            at,
             failures: _,
         } = self;
         drop(stream);
-        board.free(at);
+        drop(watch);
         door.leave();
     }
 }
 
 impl Socket {
-    /// A wire that has the place `at` of the board, and was counted at the door.
-    pub(crate) fn new(
-        stream: TcpStream,
-        board: Arc<Board, Global>,
-        door: Arc<Door, Global>,
-        at: usize,
-    ) -> Socket {
+    /// A wire that was counted at the door, and that no worker has yet.
+    pub(crate) fn new(stream: TcpStream, door: Arc<Door, Global>) -> Socket {
         Socket {
             stream,
-            board,
+            watch: None,
             door,
-            at,
             failures: 0,
+        }
+    }
+
+    /// Takes a place of a worker's board, which the worker's poll writes from now on. Whether there was
+    /// one and the poll took it.
+    pub(crate) fn join(&mut self, registry: &Registry, board: Arc<Board, Global>) -> bool {
+        let Some(at) = board.claim() else {
+            return false;
+        };
+        let watch = Watch { board, at };
+        let both = Interest::READABLE | Interest::WRITABLE;
+        if registry
+            .register(&mut self.stream, Token(at), both)
+            .is_err()
+        {
+            return false;
+        }
+        self.watch = Some(watch);
+        true
+    }
+
+    /// Gives its place up, and leaves the worker's poll.
+    pub(crate) fn leave(&mut self, registry: &Registry) {
+        let _ = registry.deregister(&mut self.stream);
+        self.watch = None;
+    }
+
+    /// Whether the poll said this of it.
+    fn has(&self, bit: u64) -> bool {
+        match &self.watch {
+            Some(watch) => watch.board.has(watch.at, bit),
+            None => false,
+        }
+    }
+
+    /// Notes that the system said that it isn't so any more.
+    fn clear(&self, bit: u64) {
+        if let Some(watch) = &self.watch {
+            watch.board.clear(watch.at, bit);
         }
     }
 
     /// After a read of `n` bytes into `room`: the poll tells anew of bytes that come after a read that
     /// left room, but not of an end that it told already.
     fn note_read(&self, n: usize, room: usize) {
-        if n < room && !self.board.has(self.at, ENDING) {
-            self.board.clear(self.at, READABLE);
+        if n < room && !self.has(ENDING) {
+            self.clear(READABLE);
         }
     }
 
@@ -99,7 +145,7 @@ impl Wire for Socket {
                 Got::Ended
             };
         }
-        if !self.board.has(self.at, READABLE) {
+        if !self.has(READABLE) {
             return Got::Later;
         }
         match self.stream.read(into) {
@@ -109,7 +155,7 @@ impl Wire for Socket {
                 Got::Bytes(n)
             }
             Err(e) if e.kind() == ErrorKind::WouldBlock => {
-                self.board.clear(self.at, READABLE);
+                self.clear(READABLE);
                 Got::Later
             }
             Err(e) if e.kind() == ErrorKind::Interrupted => Got::Bytes(0),
@@ -131,13 +177,13 @@ impl Wire for Socket {
                 Put::Later
             };
         }
-        if !self.board.has(self.at, WRITABLE) {
+        if !self.has(WRITABLE) {
             return Put::Later;
         }
         match self.send(from) {
             Ok(n) => Put::Wrote(n),
             Err(e) if e.kind() == ErrorKind::WouldBlock => {
-                self.board.clear(self.at, WRITABLE);
+                self.clear(WRITABLE);
                 Put::Later
             }
             Err(e) if e.kind() == ErrorKind::Interrupted => Put::Wrote(0),
@@ -156,7 +202,12 @@ impl Wire for Socket {
     }
 
     fn set_key(&mut self, key: usize) -> bool {
-        self.board.set_key(self.at, key);
-        true
+        match &self.watch {
+            Some(watch) => {
+                watch.board.set_key(watch.at, key);
+                true
+            }
+            None => false,
+        }
     }
 }

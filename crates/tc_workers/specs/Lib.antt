@@ -1,3 +1,4 @@
 pub mod Wires
 pub mod Turns
 pub mod Crews
+pub mod Homes

@@ -73,6 +73,7 @@ fn work<R: Wait, C: Cache, N: Naming, G: Gate, W: Wire + Drop, I: Inlet<Wire = W
                     // A connection that finds no memory is dropped.
                     let _ = worker.add(conn, wire);
                 }
+                Taken::Passed(link) => worker.adopt(link),
                 Taken::Nothing => {}
                 Taken::Ended => {
                     if worker.is_idle() {
@@ -82,6 +83,7 @@ fn work<R: Wait, C: Cache, N: Naming, G: Gate, W: Wire + Drop, I: Inlet<Wire = W
             }
             worker.wake_named(&mut inlet);
             patience = worker.turn(post.rt, post.hall, post.users, post.clock, post.gate);
+            worker.pass_on(&mut inlet);
         }
     }
     post.running.fetch_sub(1, SeqCst);

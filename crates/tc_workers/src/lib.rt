@@ -4,7 +4,8 @@
 //! over those that may have something to do: it reads once, asks for at most 16 requests, each command
 //! of which is one `Hall::call_with`, and writes until the wire takes no more; where nothing is left to
 //! do it looks at the wire once more. A connection whose wire answered that nothing can be done is left
-//! out of the turns until the worker's `Inlet` names it. A `Keeper` does the deferred work of one user
+//! out of the turns until the worker's `Inlet` names it. Where each user has a worker (`Homes`), a
+//! connection is passed on to it after the turn of its first command. A `Keeper` does the deferred work of one user
 //! after another. `run_crew` gives each worker a thread and the keeper one, and hands all seats back.
 //!
 //! What a wire may answer is `specs/Wires.antt`. Each connection keeps at most 1,130,498 unread bytes
@@ -15,6 +16,7 @@
 
 mod crew;
 mod gate;
+mod homes;
 mod keeper;
 mod link;
 mod pace;
@@ -25,7 +27,9 @@ mod worker;
 
 pub use crew::{CrewFault, Why, run_crew};
 pub use gate::{Gate, Open, Place};
+pub use homes::Homes;
 pub use keeper::{Keeper, Source};
+pub use link::Link;
 pub use tc_session::Parts;
 pub use wire::{Got, Inlet, Patience, Put, Taken, Wire};
 pub use worker::Worker;

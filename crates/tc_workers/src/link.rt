@@ -6,6 +6,7 @@ ghost use Rattle.tc_session.specs.SessionView.{most_resting, reply_room};
 ghost use Rattle.tc_workers.specs.Turns.{longest_piece, most_kept, WritesAtMost};
 
 use crate::gate::{Gate, Place};
+use crate::homes::Homes;
 use crate::pace::{Onward, Pace};
 use crate::service::Service;
 use crate::wire::{Got, Put, Wire};
@@ -27,9 +28,21 @@ const REQUESTS: u32 = 16;
 /// With more bytes that wait to be sent, nothing is read and no request is done.
 const MOST_OUT: usize = 1_048_576;
 
+/// What a connection's worker knows of its user.
+#[derive(Clone, Copy, Debug, PartialEq, Eq)]
+enum Owner {
+    /// It had no command yet.
+    Unknown,
+    /// It had its first command, of the user of this number, and its worker was not asked yet where it
+    /// is to be served.
+    Found(u32),
+    /// It is served where it is to be.
+    Settled,
+}
+
 /// A connection: its wire, and what came on it.
 #[derive(Drop)]
-pub(crate) struct Link<W: Wire + Drop> {
+pub struct Link<W> {
     conn: u32,
     wire: W,
     session: Session,
@@ -41,6 +54,7 @@ pub(crate) struct Link<W: Wire + Drop> {
     is_watched: bool,
     /// It stands on its worker's list.
     pub(crate) is_listed: bool,
+    owner: Owner,
     ghost bounded: { length session.endpoint.reader.unread ≤ most_kept },
     ghost resting: { rests ≡ true → length session.endpoint.reader.unread ≤ most_resting },
 }
@@ -55,6 +69,7 @@ impl<W: Wire + Drop> Link<W> {
             refused: None,
             is_watched: false,
             is_listed: true,
+            owner: Owner::Unknown,
         }
     }
 
@@ -68,8 +83,26 @@ impl<W: Wire + Drop> Link<W> {
             refused: _,
             is_watched: _,
             is_listed: _,
+            owner: _,
         } = self;
         wire
+    }
+
+    /// The wire, for an inlet that passes the connection on or took it over.
+    pub fn wire_mut(&mut self) -> &mut W {
+        &mut self.wire
+    }
+
+    /// The worker that is to serve it, where that is another one; asked once it had a command, it is
+    /// settled.
+    pub(crate) fn leaves_for(&mut self, homes: Homes) -> Option<usize> {
+        match self.owner {
+            Owner::Found(number) => {
+                self.owner = Owner::Settled;
+                homes.elsewhere(UserNo::new(number))
+            }
+            Owner::Unknown | Owner::Settled => None,
+        }
     }
 
     /// Learns its key.
@@ -228,6 +261,9 @@ impl<W: Wire + Drop> Link<W> {
         requires runs { command.now ≢ Quit }
         ensures wrote { WritesAtMost 1 seat.old seat.new }
     {
+        if self.owner == Owner::Unknown {
+            self.owner = Owner::Found(user.number());
+        }
         // A client with many requests in flight sent some of them together.
         seat.set_more(self.session.kept() > 0);
         let gate = service.gate;

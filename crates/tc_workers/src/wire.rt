@@ -2,6 +2,7 @@
 ghost use Rattle.std.specs.Prelude.{◌≡◌, ℕ, length};
 ghost use Rattle.tc_workers.specs.Wires.{ReadsWithin, WritesWithin, CountsFailedRead, CountsFailedWrite};
 
+use crate::link::Link;
 use tc_session::Parts;
 
 /// What a read gave.
@@ -51,8 +52,10 @@ pub trait Wire {
 /// What an inlet gives.
 #[derive(Drop)]
 pub enum Taken<W> {
-    /// A connection, under the caller's number.
+    /// A new connection, under the caller's number.
     Given(u32, W),
+    /// A connection that another worker passed on.
+    Passed(Link<W>),
     Nothing,
     /// No more come.
     Ended,
@@ -78,4 +81,8 @@ pub trait Inlet: Drop {
 
     /// The key of a wire that may be read or written again; each is named once.
     fn woken(&mut self) -> Option<usize>;
+
+    /// Passes a connection on to the worker `to`, counted from 0, whose inlet gives it. Where that
+    /// can't be, it comes back.
+    fn pass_on(&mut self, to: usize, link: Link<Self::Wire>) -> Result<(), Link<Self::Wire>>;
 }

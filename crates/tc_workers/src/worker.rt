@@ -3,12 +3,13 @@ ghost use Rattle.std.specs.Prelude.{◌≡◌, ◌*◌, ◌≤◌, IfOk, IfErr, 
 ghost use Rattle.tc_workers.specs.Turns.{most_kept, WritesAtMost};
 
 use crate::gate::Gate;
+use crate::homes::Homes;
 use crate::link::{LONGEST_PIECE, Link};
 use crate::pace::{Onward, Pace};
 use crate::service::Service;
 use crate::wire::{Inlet, Patience, Wire};
 use slab::Slab;
-use std::alloc::Global;
+use std::alloc::{AllocError, Global};
 use std::marker::Model;
 use std::sync::Wait;
 use tc_item::NoMemory;
@@ -22,15 +23,25 @@ const FIRST_ROOM: usize = 16;
 /// The most keys that are taken from the inlet before a turn.
 const MOST_WOKEN: u32 = 1_024;
 
+/// A connection that another worker is to serve: under which key it stands here, and that worker.
+#[derive(Clone, Copy, Debug)]
+struct Leaving {
+    key: usize,
+    to: usize,
+}
+
 /// Connections, and the seat by which their commands are done, seen as that seat and how many
 /// connections the next turn goes over.
 #[derive(Drop)]
 pub struct Worker<W: Wire + Drop, N: Naming> {
     alloc: Global,
     seat: Seat<N>,
+    homes: Homes,
     links: Slab<Link<W>>,
     /// The keys of the connections that are served in the next turn, each once.
     listed: Vec<usize>,
+    /// The connections of the last turn that another worker is to serve. They are not listed.
+    leaving: Vec<Leaving>,
     /// What is read, before a session takes it.
     buffer: Vec<u8>,
 }
@@ -56,10 +67,19 @@ impl<W: Wire + Drop, N: Naming> Worker<W, N> {
         Ok(Worker {
             alloc,
             seat,
+            homes: Homes::spread(),
             links: Slab::new(alloc),
             listed: Vec::new(alloc),
+            leaving: Vec::new(alloc),
             buffer,
         })
+    }
+
+    /// Has it serve the users of these homes alone from now on; a new worker serves all.
+    pub fn set_homes(&mut self, homes: Homes)
+        ensures { self.new ≡ self.old }
+    {
+        self.homes = homes;
     }
 
     /// Takes room for the first connections. It is called in the worker's own thread, so that the
@@ -76,9 +96,7 @@ impl<W: Wire + Drop, N: Naming> Worker<W, N> {
     pub fn add(&mut self, conn: u32, wire: W) -> Result<(), (W, NoMemory)>
         ensures { self.new.seat ≡ self.old.seat }
     {
-        // With room for all connections, none is lost when it is to be listed again.
-        let room = self.links.len().saturating_add(1);
-        if self.listed.reserve(room).is_err() {
+        if self.reserve().is_err() {
             return Err((wire, NoMemory));
         }
         match self.links.insert(Link::new(self.alloc, conn, wire)) {
@@ -87,6 +105,43 @@ impl<W: Wire + Drop, N: Naming> Worker<W, N> {
                 Ok(())
             }
             Err(refused) => Err((refused.value.into_wire(), NoMemory)),
+        }
+    }
+
+    /// Takes a connection over from another worker, or back. Where memory is refused, it is dropped.
+    pub fn adopt(&mut self, link: Link<W>)
+        ensures { self.new.seat ≡ self.old.seat }
+    {
+        if self.reserve().is_err() {
+            return;
+        }
+        if let Ok(key) = self.links.insert(link) {
+            self.introduce(key);
+        }
+    }
+
+    /// Room to list one connection more. With room for all, none is lost when it is to be listed again.
+    fn reserve(&mut self) -> Result<(), AllocError>
+        ensures { self.new.seat ≡ self.old.seat }
+    {
+        self.listed.reserve(self.links.len().saturating_add(1))
+    }
+
+    /// Passes on the connections of the last turn that another worker is to serve. One that can't be
+    /// passed on stays.
+    pub fn pass_on<I: Inlet<Wire = W>>(&mut self, inlet: &mut I)
+        ensures { self.new.seat ≡ self.old.seat }
+    {
+        for _ in 0..self.leaving.len() {
+            let Some(Leaving { key, to }) = self.leaving.pop() else {
+                return;
+            };
+            let Some(link) = self.links.try_remove(key) else {
+                continue;
+            };
+            if let Err(link) = inlet.pass_on(to, link) {
+                self.adopt(link);
+            }
         }
     }
 
@@ -151,7 +206,8 @@ impl<W: Wire + Drop, N: Naming> Worker<W, N> {
         }
     }
 
-    /// Goes over the listed connections once, and drops those that are done. How long the inlet may then
+    /// Goes over the listed connections once, and drops those that are done; those that another worker
+    /// is to serve wait for `pass_on`. How long the inlet may then
     /// wait: not at all where one gets on, and a moment where one is to be tried again. Each command of a
     /// connection is one call of the hall, and a connection has 16 at most.
     pub fn turn<R: Wait, C: Cache, G: Gate>(
@@ -197,7 +253,8 @@ impl<W: Wire + Drop, N: Naming> Worker<W, N> {
         }
     }
 
-    /// One connection's turn. Where it is done it is dropped, and where it rests it is told so.
+    /// One connection's turn. Where it is done it is dropped, where it rests it is told so, and where
+    /// another worker is to serve it, it is done with here.
     fn serve<R: Wait, C: Cache, G: Gate>(
         &mut self,
         service: &Service<'_, R, C, N, G>,
@@ -210,12 +267,17 @@ impl<W: Wire + Drop, N: Naming> Worker<W, N> {
             return Onward::Done;
         };
         let onward = link.turn(service, &mut self.seat, self.buffer.as_mut_slice());
-        match onward {
-            Onward::Done => {
-                let _ = self.links.try_remove(key);
-            }
-            Onward::GoesOn(Pace::Rests) => link.is_listed = false,
-            Onward::GoesOn(_) => {}
+        if onward == Onward::Done {
+            let _ = self.links.try_remove(key);
+            return onward;
+        }
+        if let Some(to) = link.leaves_for(self.homes)
+            && self.leaving.push(Leaving { key, to }).is_ok()
+        {
+            return Onward::Done;
+        }
+        if onward == Onward::GoesOn(Pace::Rests) {
+            link.is_listed = false;
         }
         onward
     }
@@ -227,8 +289,10 @@ impl<W: Wire + Drop, N: Naming> Worker<W, N> {
         let Worker {
             alloc: _,
             seat,
+            homes: _,
             links: _,
             listed: _,
+            leaving: _,
             buffer: _,
         } = self;
         seat

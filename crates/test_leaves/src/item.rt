@@ -39,7 +39,7 @@ fn is_judged_over(
 #[test]
 fn a_key_has_1_to_250_bytes(rt: HostRuntime) -> Result<(), Fail> {
     assert!(rt; is_judged(rt.alloc(), b"", Some(KeyFault::Empty)));
-    for times in &[1, 32, 33, 250] {
+    for times in &[1, 22, 23, 250] {
         assert!(rt;
             is_judged_over(rt.alloc(), b'k', *times, None)?,
             "{times} bytes"

@@ -9,35 +9,48 @@ use std::thread;
 use std::time::{Clock, Duration};
 use tc_kinds::begin_all;
 use tc_locked::Opened;
-use tc_net::{Beginning, serve};
+use tc_net::{Affinity, Beginning, serve};
 use tc_partition::Fast;
 use tc_users::Settings;
 
-const SETTINGS: &str = "listen = \"127.0.0.1:21211\"\nworkers = 2\njournal = 16\n\
-[[user]]\nname = \"alice\"\ntoken = \"one\"\nbudget = 65536\n";
+/// Two workers and two users, so that the second is served by the second worker.
+const SETTINGS: &str = "workers = 2\njournal = 16\n\
+[[user]]\nname = \"alice\"\ntoken = \"one\"\nbudget = 65536\n\
+[[user]]\nname = \"bob\"\ntoken = \"two\"\nbudget = 65536\n";
 
-const STREAM: &[u8] = b"set a 0 0 9\r\nalice one\r\nset k 5 0 3\r\nabc\r\nget k\r\n";
+/// What bob sends first, and what he is answered.
+const STORES: &[u8] = b"set a 0 0 7\r\nbob two\r\nset k 5 0 3\r\nabc\r\n";
 
-const ANSWERS: &[u8] = b"STORED\r\nSTORED\r\nVALUE k 5 3\r\nabc\r\nEND\r\n";
+const STORED: &[u8] = b"STORED\r\nSTORED\r\n";
+
+/// What he then sends, and what he is answered.
+const ASKS: &[u8] = b"get k\r\n";
+
+const ANSWERS: &[u8] = b"VALUE k 5 3\r\nabc\r\nEND\r\n";
 
 /// So often the client tries to connect, a millisecond apart.
 const TRIES: u32 = 10_000;
 
 /// Whether as many bytes come as are expected, and these.
-fn hears<S: Read>(stream: &mut S) -> bool {
-    let mut buffer = [0u8; 39];
-    stream.read_exact(&mut buffer).is_ok() && buffer.as_slice() == ANSWERS
+fn hears<S: Read>(stream: &mut S, expects: &[u8]) -> bool {
+    let mut buffer = [0u8; 32];
+    let into = &mut buffer[..expects.len()];
+    stream.read_exact(into).is_ok() && *into == *expects
 }
 
-/// Whether a client that sends the stream is answered. It closes its connection at once.
+/// Whether a client is answered that stores, waits for its replies, and asks. It closes its connection
+/// at once.
 fn is_answered<S: Read + Write + Drop>(mut stream: S) -> bool {
-    stream.write_all(STREAM).is_ok() && hears(&mut stream)
+    stream.write_all(STORES).is_ok()
+        && hears(&mut stream, STORED)
+        && stream.write_all(ASKS).is_ok()
+        && hears(&mut stream, ANSWERS)
 }
 
 /// Connects as soon as the server listens, and asks.
-fn ask<R: Net + Clock>(rt: &R) -> bool {
+fn ask<R: Net + Clock>(rt: &R, address: &str) -> bool {
     for _ in 0..TRIES {
-        if let Ok(stream) = TcpStream::connect(rt, "127.0.0.1:21211") {
+        if let Ok(stream) = TcpStream::connect(rt, address) {
             return is_answered(stream);
         }
         thread::sleep(rt, Duration::from_millis(1));
@@ -45,9 +58,13 @@ fn ask<R: Net + Clock>(rt: &R) -> bool {
     false
 }
 
-/// A server of two workers on loopback.
-fn loopback(alloc: Global, hasher: RandomState) -> Result<Beginning<Fast>, Fail> {
-    let settings = Settings::from_toml(alloc, SETTINGS)?;
+/// A server of two workers at an address of loopback.
+fn loopback(alloc: Global, hasher: RandomState, address: &str) -> Result<Beginning<Fast>, Fail> {
+    let mut text = String::from_str(alloc, "listen = \"")?;
+    text.push_str(address)?;
+    text.push_str("\"\n")?;
+    text.push_str(SETTINGS)?;
+    let settings = Settings::from_toml(alloc, text.as_str())?;
     let caches = begin_all::<Fast>(alloc, &settings.users, hasher)?;
     Ok(Beginning {
         settings,
@@ -56,16 +73,28 @@ fn loopback(alloc: Global, hasher: RandomState) -> Result<Beginning<Fast>, Fail>
     })
 }
 
-#[test]
-fn a_client_is_served_and_the_server_ends_with_it(rt: HostRuntime) -> Result<(), Fail> {
+/// One client of a server, which ends with it.
+fn serve_one(rt: HostRuntime, address: &'static str, affinity: Affinity) -> Result<(), Fail> {
     let alloc = rt.alloc();
-    let beginning = loopback(alloc, RandomState::new(&rt)?)?;
+    let beginning = loopback(alloc, RandomState::new(&rt)?, address)?;
     let own = rt;
-    let Ok(client) = thread::spawn(&rt, move || ask(&own)) else {
+    let Ok(client) = thread::spawn(&rt, move || ask(&own, address)) else {
         panic!(&rt; "no thread")
     };
-    let served = serve::<Fast, Brand, HostRuntime>(&rt, alloc, beginning, Some(1));
+    let served = serve::<Fast, Brand, HostRuntime>(&rt, alloc, beginning, affinity, Some(1));
     assert!(&rt; served.is_ok());
     assert!(&rt; client.join(&rt));
     Ok(())
+}
+
+/// The connection comes to the first worker, which passes it on.
+#[test]
+fn a_client_is_served_and_the_server_ends_with_it(rt: HostRuntime) -> Result<(), Fail> {
+    serve_one(rt, "127.0.0.1:21211", Affinity::ByUser)
+}
+
+/// The connection stays with the first worker.
+#[test]
+fn a_client_is_served_where_connections_are_spread(rt: HostRuntime) -> Result<(), Fail> {
+    serve_one(rt, "127.0.0.1:21212", Affinity::Spread)
 }

@@ -5,7 +5,7 @@ ghost use Rattle.tc_fresh.specs.Beginning.{fresh_cache};
 use crate::hall::{crowd, pages, refusals, scenes};
 use crate::workers::crews::{self, Hold};
 use crate::workers::wires::Plan;
-use crate::workers::{pressure, sips, talks};
+use crate::workers::{moves, pressure, sips, talks};
 use std::alloc::Global;
 use std::hash::RandomState;
 use std::marker::Brand;
@@ -49,6 +49,8 @@ pub enum Scene {
     Floods,
     /// A client that reads a few bytes a call.
     Sips,
+    /// Two users come to the worker of one.
+    Comes,
     /// Bob is served while alice's worker is held.
     Holds(Hold),
     /// A hundred calls by each of eight workers.
@@ -120,6 +122,7 @@ fn perform<
         Scene::Talks(one, other) => talks::talk(rt, alloc, &hall, users, &mut seats, one, other),
         Scene::Rests => talks::rest(rt, alloc, &hall, users, &mut seats),
         Scene::Floods => pressure::serve_flood(rt, alloc, &hall, users, &mut seats),
+        Scene::Comes => moves::come(rt, alloc, &hall, users, &mut seats),
         Scene::Sips => sips::serve_sips(rt, alloc, &hall, users, &mut seats),
         Scene::Holds(hold) => crews::hold_alice(rt, alloc, &hall, users, &mut seats, *hold),
         Scene::Counts => crews::count(rt, alloc, hall, users, seats, all),

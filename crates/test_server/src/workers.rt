@@ -2,6 +2,7 @@
 //! are dropped, and what then stays done. Texts are by hand from the protocol's text.
 
 pub mod crews;
+pub mod moves;
 pub mod pressure;
 pub mod sips;
 mod table;

@@ -18,7 +18,9 @@ use tc_item::Moment;
 use tc_locked::{Clock, Closed, Hall, Naming, Seat};
 use tc_plain::Cache;
 use tc_users::{UserNo, Users};
-use tc_workers::{Gate, Inlet, Keeper, Open, Patience, Place, Source, Taken, Worker, run_crew};
+use tc_workers::{
+    Gate, Inlet, Keeper, Link, Open, Patience, Place, Source, Taken, Worker, run_crew,
+};
 
 /// So often one thread looks for what another does, a millisecond apart.
 const LOOKS: u32 = 10_000;
@@ -141,6 +143,10 @@ impl<R: Time + Drop> Inlet for One<R> {
 
     fn woken(&mut self) -> Option<usize> {
         None
+    }
+
+    fn pass_on(&mut self, _to: usize, link: Link<Memory>) -> Result<(), Link<Memory>> {
+        Err(link)
     }
 }
 
