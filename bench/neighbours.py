@@ -1,0 +1,95 @@
+#!/usr/bin/env python3
+"""What one user notices of another: how long the requests of a quiet user take alone, and beside a
+busy one with a million items.
+
+usage: bench/neighbours.py PROGRAM [--beside COMMAND] [--rounds N] [--seconds S]
+
+It starts `PROGRAM serve` with two users and 4 workers, once as it is and once with --spread, and
+COMMAND, as bench/serve.py does. The quiet user has 8 connections, one request at a time, over 10,000
+keys; the busy one 25 connections with 16 requests in flight each, over a million. Nine requests of
+ten are `get`s of 100 B. Numbers are medians of the rounds, in microseconds and requests a second."""
+import argparse
+import json
+import shlex
+import statistics
+import subprocess
+import sys
+import tempfile
+import time
+from pathlib import Path
+
+from serve import BENCH, free_port
+
+USERS = ("quiet", "busy")
+LOADS = {"quiet": "-c 8 -g 90 -v 100 -k 10000", "busy": "-c 25 -P 16 -g 90 -v 100 -k 1000000"}
+MEASURES = {"p50": "p50_us", "p99": "p99_us", "p99.9": "p999_us", "longest": "max_us", "requests/s": "rps"}
+
+
+def start(command, folder):
+    """A server that runs, and its port."""
+    port = free_port()
+    config, authfile = Path(folder, f"{port}.toml"), Path(folder, f"{port}.auth")
+    users = "".join(f'[[user]]\nname = "{user}"\ntoken = "one"\nbudget = {256 << 20}\n' for user in USERS)
+    config.write_text(f'listen = "127.0.0.1:{port}"\nworkers = 4\njournal = 65536\n{users}')
+    authfile.write_text("".join(f"{user}:one\n" for user in USERS))
+    words = [word.format(port=port, config=config, authfile=authfile) for word in shlex.split(command)]
+    process = subprocess.Popen(words)
+    time.sleep(0.5)
+    return process, port
+
+
+def load(port, user, *more):
+    """A load of one user, which runs."""
+    words = [load.program, "-j", "-p", str(port), "-L", f"{user} one", "-t", "1", *LOADS[user].split(), *more]
+    return subprocess.Popen(words, stdout=subprocess.PIPE, text=True)
+
+
+def told(run):
+    """What a load tells once it has ended."""
+    answer = json.loads(run.communicate()[0])
+    if not answer["good"]:
+        sys.exit(f"bench/neighbours.py: a reply that was not right: {answer['first']}")
+    return answer
+
+
+def measured(port, is_beside, asked):
+    """What the quiet user sees, and how many requests the busy one has answered a second."""
+    busy = load(port, "busy", "-F", "-w", "0.5", "-d", str(asked.seconds + 1)) if is_beside else None
+    if busy:
+        time.sleep(0.5)
+    seen = told(load(port, "quiet", "-F", "-w", "0.3", "-d", str(asked.seconds)))
+    return dict(seen, busy=told(busy)["rps"] if busy else 0)
+
+
+def main():
+    words = argparse.ArgumentParser(description=__doc__, formatter_class=argparse.RawDescriptionHelpFormatter)
+    words.add_argument("program", help="crates/partcached/out/partcached, as `rt run` leaves it")
+    words.add_argument("--beside", help="another server's command, with {port} and {authfile}")
+    words.add_argument("--rounds", type=int, default=3)
+    words.add_argument("--seconds", type=float, default=2.5)
+    asked = words.parse_args()
+    commands = {"by user": f"{asked.program} serve --config {{config}}",
+                "--spread": f"{asked.program} serve --spread --config {{config}}"}
+    if asked.beside:
+        commands[shlex.split(asked.beside)[0]] = asked.beside
+    with tempfile.TemporaryDirectory() as folder:
+        load.program = str(Path(folder, "load"))
+        subprocess.run(["cc", "-O2", "-pthread", "-o", load.program, str(BENCH / "load.c"), "-lm"], check=True)
+        print("| Server | The busy user | " + " | ".join(MEASURES) + " | its requests/s |\n|---" + "|---" * 7 + "|")
+        for name, command in commands.items():
+            process, port = start(command, folder)
+            try:
+                for user in USERS:
+                    told(load(port, user, "-n", "1", "-w", "0"))
+                for is_beside in (False, True):
+                    runs = [measured(port, is_beside, asked) for _ in range(asked.rounds)]
+                    cells = [statistics.median(run[it] for run in runs) for it in (*MEASURES.values(), "busy")]
+                    print(f"| {name} | {'asks on' if is_beside else 'waits'} | "
+                          + " | ".join(f"{cell:,.0f}" for cell in cells) + " |", flush=True)
+            finally:
+                process.kill()
+                process.wait()
+
+
+if __name__ == "__main__":
+    main()
