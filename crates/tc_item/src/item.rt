@@ -3,15 +3,15 @@ ghost use Rattle.std.specs.Prelude.{◌≡◌};
 ghost use Rattle.tc_item.specs.Expiry.{is_before};
 ghost use Rattle.tc_item.specs.Weight.{weight_of};
 
-use crate::{Blob, Due, Key, Moment, RECORD_WEIGHT};
+use crate::{Blob, KeptDue, Key, Moment, RECORD_WEIGHT};
 
 /// What is kept under a key.
-#[derive(Debug, PartialEq, Eq, Drop)]
+#[derive(Debug, Drop)]
 pub struct Item {
     /// What the client stored beside the data and gets back with it.
     pub flags: u32,
     /// Until when the item is alive.
-    pub due: Due,
+    pub due: KeptDue,
     /// The number of the change that made the data.
     pub cas: u64,
     /// The data.
@@ -22,7 +22,7 @@ pub struct Item {
 pub fn alive(item: &Item, now: Moment) -> bool
     ensures { result ≡ is_before now item.now.due }
 {
-    item.due.is_after(now)
+    item.due.get().is_after(now)
 }
 
 /// What an item of this key and so many data bytes weighs, in bytes.

@@ -2,8 +2,9 @@
 //!
 //! A `Key` is seen as its bytes and is always 1 to 250 of them (`specs/KeyRule.antt`); `Few` is
 //! seen as the list of its items, and so `Keys`, its keys; `Blob` as its bytes, `Moment` as its
-//! seconds, always below 2^40. `exptime::due`, `alive` and `weight` give what `specs/Expiry.antt`
-//! and `specs/Weight.antt` define; their contracts are those equations. A `Slot` is a number alone.
+//! seconds, always below 2^40, `KeptDue` as the `Due` that it keeps. `exptime::due`, `alive` and
+//! `weight` give what `specs/Expiry.antt` and `specs/Weight.antt` define; their contracts are those
+//! equations. A `Slot` is a number alone.
 //! `NoMemory` is the one error of a refused growth, and a `TryCopy` equals what it copies. No
 //! clause speaks of capacity or of where a key's bytes lie.
 #![tactic(auto)]
@@ -13,6 +14,7 @@ mod bounds;
 pub mod exptime;
 mod few;
 mod item;
+mod kept_due;
 mod key;
 pub mod moment;
 mod no_memory;
@@ -25,6 +27,7 @@ pub use bounds::{
 };
 pub use few::{Few, TryCopy};
 pub use item::{Item, alive, weight};
+pub use kept_due::KeptDue;
 pub use key::{Key, KeyFault, Keys, is_key};
 pub use moment::{Due, Moment};
 pub use no_memory::NoMemory;

@@ -11,6 +11,7 @@ ghost use Rattle.tc_locked.specs.declared.call_fault.CallFault.TheVariants.{Worn
 use crate::call_fault::CallFault;
 use crate::called::Called;
 use crate::entry::{Entry, Slip};
+use crate::old_entries::let_all_go;
 use std::alloc::Global;
 use std::marker::Model;
 use std::mem;
@@ -63,7 +64,7 @@ fn keep_last(entries: &mut Vec<Entry>)
     let Some(last) = entries.pop() else {
         return;
     };
-    entries.clear();
+    let_all_go(entries);
     entries.push_reserved(last);
 }
 

@@ -28,8 +28,9 @@ impl Split<()> for Same {
 pub(crate) enum Arrival {
     /// From the listener, with its number.
     New { conn: u32, stream: TcpStream },
-    /// From another worker.
-    Passed(Link<Socket>),
+    /// From another worker. The channel has a place for each that may wait, so a connection lies
+    /// elsewhere.
+    Passed(Box<Link<Socket>>),
 }
 
 /// Where a worker's connections are put, and what wakes it.

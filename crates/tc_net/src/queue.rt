@@ -32,6 +32,7 @@ const LONG: u64 = 1_000;
 #[derive(Drop)]
 pub(crate) struct Queue<R: Wait + Drop> {
     rt: R,
+    alloc: Global,
     intake: Intake,
     /// Where the connections of each worker are put, where workers pass connections on.
     outlets: Vec<Outlet>,
@@ -81,6 +82,7 @@ impl<R: Wait + Drop> Queue<R> {
         };
         let queue = Queue {
             rt,
+            alloc,
             intake,
             outlets: Vec::new(alloc),
             poll,
@@ -184,7 +186,7 @@ impl<R: Wait + Drop> Inlet for Queue<R> {
         self.brought = arrival.is_some();
         match arrival {
             Some(Arrival::New { conn, stream }) => self.give(conn, stream),
-            Some(Arrival::Passed(link)) => self.give_on(link),
+            Some(Arrival::Passed(link)) => self.give_on(Box::into_inner(link)),
             None if has_ended => {
                 self.wake_all();
                 Taken::Ended
@@ -202,8 +204,12 @@ impl<R: Wait + Drop> Inlet for Queue<R> {
             return Err(link);
         };
         link.wire_mut().leave(self.poll.registry());
-        let Err(Arrival::Passed(mut back)) = outlet.send(&self.rt, Arrival::Passed(link)) else {
-            return Ok(());
+        let mut back = match Box::new(self.alloc, link) {
+            Ok(link) => match outlet.send(&self.rt, Arrival::Passed(link)) {
+                Err(Arrival::Passed(back)) => Box::into_inner(back),
+                Ok(()) | Err(Arrival::New { .. }) => return Ok(()),
+            },
+            Err(refused) => refused.value,
         };
         // One that can't be watched here again is closed.
         if self.watch(back.wire_mut()) {

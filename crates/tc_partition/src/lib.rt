@@ -20,6 +20,7 @@ mod freezing;
 mod live_slots;
 mod looking;
 mod parts;
+mod reading;
 mod slot_cache;
 mod slots;
 mod work;

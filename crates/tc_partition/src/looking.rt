@@ -12,6 +12,7 @@ ghost use Rattle.tc_partition.specs.Delayed.{settled_in, noted_in, hit_in, waits
 
 use crate::Fast;
 use crate::live_slots::LiveSlots;
+use crate::reading::have_read;
 use smallvec::SmallVec;
 use std::alloc::Global;
 use tc_item::{Due, Key, Moment, NoMemory, Slot};
@@ -57,6 +58,23 @@ fn seek_all(
     Ok(places)
 }
 
+/// Reads the data in slots, where there are several, and does nothing with it. To show an item is to
+/// wait for its data, whose holders are counted by an atomic that no later read overtakes.
+fn read_ahead(live: &LiveSlots, places: &[Option<Slot>]) {
+    if places.len() < 2 {
+        return;
+    }
+    let mut sum: u64 = 0;
+    for place in places {
+        if let Some(entry) = live.held_at(*place)
+            && let Some(byte) = entry.item.blob.as_slice().first()
+        {
+            sum = sum.wrapping_add(u64::from(*byte));
+        }
+    }
+    have_read(sum);
+}
+
 /// The hits of keys at the moment, in the order asked, and where each key was found. What is held
 /// has this due after its hit, if one is given; where that due has come it is gone, so that a key
 /// asked again shows nothing.
@@ -78,6 +96,7 @@ pub(crate) fn seek_hits(
         live,
         places: places.as_slice(),
     };
+    read_ahead(live, found.places);
     let hits = show_all(alloc, keys, &found, moment, due)?;
     Ok((hits, places))
 }

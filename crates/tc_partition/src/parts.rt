@@ -11,12 +11,12 @@ ghost use Rattle.tc_partition.specs.Copied.{entries_at};
 ghost use Rattle.tc_partition.specs.Agreement.{set_at, due_by};
 ghost use Rattle.tc_partition.specs.Held.{seen_by, IsVacated, IsTaken, HasRoom};
 
+use crate::reading::have_read;
 use indexmap::IndexMap;
 use slab::Slab;
 use std::alloc::Global;
 use std::hash::RandomState;
-use std::sync::atomic::{AtomicU64, Ordering};
-use tc_item::{Due, Key, MOMENT_LIMIT, Moment, NoMemory, Slot};
+use tc_item::{Due, KeptDue, Key, MOMENT_LIMIT, Moment, NoMemory, Slot};
 use tc_plain::Entry;
 use tc_sketch::{Sketch, hash};
 use tc_slru::Lists;
@@ -86,6 +86,13 @@ pub fn reached(due: Due) -> Option<Moment>
             }
         }
     }
+}
+
+/// The moment of an entry's due, if a moment can reach it.
+pub fn reached_by(entry: &Entry) -> Option<Moment>
+    ensures { result ≡ due_by entry.now.item.due }
+{
+    reached(entry.item.due.get())
 }
 
 /// Holds a slot in the wheel until its due, if it has one.
@@ -166,7 +173,7 @@ pub fn put_due(entries: &mut Slab<Entry>, slot: Slot, due: Due)
     ensures capacity { entries.new.capacity ≡ entries.old.capacity }
 {
     if let Some(held) = entries.get_mut(slot.0) {
-        held.item.due = due;
+        held.item.due = KeptDue::new(due);
     }
 }
 
@@ -198,27 +205,25 @@ pub fn add_copy(
 
 /// Reads what the next slots from a place on hold, and does nothing with it. To copy an entry is to
 /// wait for its memory, and then for its data's, whose holders are counted by an atomic that no
-/// later read overtakes; these reads wait together. What they come to is added to `read`, so that a
-/// compiler leaves them in.
-fn read_ahead(entries: &Slab<Entry>, slots: &[Slot], from: usize, read: &AtomicU64) {
+/// later read overtakes.
+fn read_ahead(entries: &Slab<Entry>, slots: &[Slot], from: usize) {
     let mut sum: u64 = 0;
     for place in from..from.saturating_add(AHEAD) {
         if let Some(slot) = slots.get(place) {
             sum = sum.wrapping_add(weight_at(entries, *slot));
         }
     }
-    read.fetch_add(sum, Ordering::SeqCst);
+    have_read(sum);
 }
 
 /// The entries of slots, in order, over the same data.
 pub fn copy_at(alloc: Global, entries: &Slab<Entry>, slots: &[Slot]) -> Result<Vec<Entry>, NoMemory>
     ensures { IfOk result (λ copied. copied.items ≡ entries_at (slab_get entries.now) slots.now) }
 {
-    let read = AtomicU64::new(0);
     let mut copied = Vec::with_capacity(alloc, slots.len())?;
     for (i, slot) in slots.iter().enumerate() {
         if i % AHEAD == 0 {
-            read_ahead(entries, slots, i + AHEAD, &read);
+            read_ahead(entries, slots, i + AHEAD);
         }
         add_copy(alloc, entries, slot, &mut copied)?;
     }

@@ -31,7 +31,8 @@ ghost use Rattle.tc_partition.specs.Agreement.{entry_or};
 ghost use Rattle.tc_partition.specs.Held.{filled, IsFound, FindsSlot, DropsEntry};
 
 use crate::parts::{
-    copy_at, drop_next, grow, put, put_due, reached, take_in, take_out, time, vacate, weight_at,
+    copy_at, drop_next, grow, put, put_due, reached, reached_by, take_in, take_out, time, vacate,
+    weight_at,
 };
 use indexmap::IndexMap;
 use slab::Slab;
@@ -214,7 +215,7 @@ impl Slots {
         ensures areas { self.new.areas ≡ at_front entry self.old.areas }
     {
         let weight = entry.weight();
-        let due = reached(entry.item.due);
+        let due = reached_by(&entry);
         let slot = take_in(&mut self.index, &mut self.entries, key, entry);
         self.lists.push_window(slot, weight);
         time(&mut self.wheel, slot, due);
@@ -231,7 +232,7 @@ impl Slots {
         ensures room { self.old.has_room ≡ true → self.new.has_room ≡ true }
     {
         let weight = entry.weight();
-        let due = reached(entry.item.due);
+        let due = reached_by(&entry);
         put(&mut self.entries, slot, entry);
         self.lists.access(slot, weight);
         self.wheel.remove(slot);

@@ -5,11 +5,11 @@ ghost use Rattle.tc_plain.specs.Entries.{weight, with_item};
 ghost use Rattle.tc_plain.specs.AreaLists.{change_of};
 
 use std::alloc::Global;
-use tc_item::{Due, Item, Key, NoMemory, RECORD_WEIGHT};
+use tc_item::{Due, Item, KeptDue, Key, NoMemory, RECORD_WEIGHT};
 use tc_stats::Hit;
 
 /// An item under its key.
-#[derive(Debug, PartialEq, Eq, Drop)]
+#[derive(Debug, Drop)]
 pub struct Entry {
     pub key: Key,
     pub item: Item,
@@ -46,7 +46,7 @@ impl Entry {
         ensures { result ≡ with_item self (change_of due self.item) }
     {
         if let Some(due) = due {
-            self.item.due = due;
+            self.item.due = KeptDue::new(due);
         }
         self
     }
@@ -59,7 +59,7 @@ impl Entry {
         let flags = self.item.flags;
         let item = Item {
             flags,
-            due: self.item.due,
+            due: self.item.due.copy(),
             cas: self.item.cas,
             blob: self.item.blob.copy()?,
         };

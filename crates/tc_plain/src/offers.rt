@@ -10,7 +10,7 @@ use crate::end::End;
 use std::alloc::Global;
 use tc_grammar::{Head, StoreKind};
 use tc_item::exptime::due;
-use tc_item::{Blob, Due, Item, Key, Moment, NoMemory, RECORD_WEIGHT};
+use tc_item::{Blob, Item, KeptDue, Key, Moment, NoMemory, RECORD_WEIGHT};
 
 /// An item that is to be stored and has no cas number yet.
 #[derive(Debug, Drop)]
@@ -18,7 +18,7 @@ pub struct Draft {
     /// What the client stores beside the data and gets back with it.
     pub flags: u32,
     /// Until when the item will be alive.
-    pub due: Due,
+    pub due: KeptDue,
     /// The data.
     pub blob: Blob,
 }
@@ -59,7 +59,7 @@ fn own_item(head: &Head, blob: &Blob, moment: Moment) -> Result<Draft, NoMemory>
 {
     Ok(Draft {
         flags: head.flags,
-        due: due(head.exptime, moment),
+        due: KeptDue::new(due(head.exptime, moment)),
         blob: blob.copy()?,
     })
 }
@@ -81,7 +81,7 @@ fn joined(alloc: Global, held: &Item, first: &Blob, second: &Blob) -> Result<Dra
 {
     Ok(Draft {
         flags: held.flags,
-        due: held.due,
+        due: held.due.copy(),
         blob: join(alloc, first.as_slice(), second.as_slice())?,
     })
 }

@@ -80,7 +80,7 @@ pub fn plan_count(alloc: Global, entry: &Entry, way: Way, by: u64) -> Result<Pla
     let key = entry.key.copy(alloc)?;
     let draft = Draft {
         flags: entry.item.flags,
-        due: entry.item.due,
+        due: entry.item.due.copy(),
         blob: spell(alloc, number)?,
     };
     Ok(Plan::Changes(End::Number(number), key, draft))

@@ -6,7 +6,9 @@ use std::alloc::{AllocError, Global};
 use std::collections::HashMap;
 use std::test::Fail;
 use tc_item::exptime::due;
-use tc_item::{Blob, Due, Item, Key, KeyFault, Keys, Moment, NoMemory, alive, is_key, weight};
+use tc_item::{
+    Blob, Due, Item, KeptDue, Key, KeyFault, Keys, Moment, NoMemory, alive, is_key, weight,
+};
 
 /// The moment of so many seconds, or the last one.
 fn at(second: u64) -> Moment {
@@ -97,7 +99,7 @@ fn lives(alloc: Global, due: Due, second: u64) -> Result<bool, NoMemory> {
     let blob = Blob::new(alloc, Vec::new(alloc))?;
     let item = Item {
         flags: 5,
-        due,
+        due: KeptDue::new(due),
         cas: 1,
         blob,
     };

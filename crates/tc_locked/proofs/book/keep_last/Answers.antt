@@ -8,5 +8,5 @@ pub returns : goal.returns
 returns c =
     let was : c.args.entries.now.items ≡ c.pop.new.self.items ++ c.in-Some.last ∷ [] =
     c.pop.ensures.items ∙ ap (λ o. c.pop.new.self.items ++ option_to_list o) c.in-Some.is in
-    c.push_reserved.ensures.items ∙ ap (λ l. l ++ c.in-Some.last ∷ []) c.clear.ensures.items
+    c.push_reserved.ensures.items ∙ ap (λ l. l ++ c.in-Some.last ∷ []) c.let_all_go.ensures.entries
     ∙ sym (ap last_alone was ∙ last_alone-push c.pop.new.self.items c.in-Some.last)

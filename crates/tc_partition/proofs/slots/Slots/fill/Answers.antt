@@ -38,7 +38,8 @@ invariant_of-self c =
           c.take_in-slot.new.index c.take_in-slot.new.entries c.take_in-slot.ensures
           (ap (λ (z : Held). held c.args.entry.key z.areas) c.self.view_is ∙ c.requires.free)
           c.push_window.new.self c.time.new.wheel c.weight-weight.result c.weight-weight.ensures.value c.push_window.ensures
-          (λ k. c.time.ensures.dues k ∙ ap (λ o. set_at c.take_in-slot.result.0 o (due_at i.wheel.dues) k) c.reached-due.ensures);
+          (λ k. c.time.ensures.dues k
+          ∙ ap (λ o. set_at c.take_in-slot.result.0 o (due_at i.wheel.dues) k) c.reached_by-due.ensures);
       within = subst (λ n. AreWithin n (slab_get c.take_in-slot.new.entries)) (sym c.time.ensures.long)
           (within_taken (length i.wheel.dues) c.take_in-slot.result.0 c.args.entry (slab_get i.entries)
           (slab_get c.take_in-slot.new.entries) (omega (arith, c.take_in-slot.ensures.within, r.wheel))

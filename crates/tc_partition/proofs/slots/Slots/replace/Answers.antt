@@ -45,7 +45,7 @@ invariant_of-self c =
           c.access.ensures
           c.time.new.wheel (due_again i.wheel c.remove.new.self c.time.new.wheel c.args.slot.0 _ c.remove.ensures
           (λ k. c.time.ensures.dues k
-          ∙ ap (λ o. set_at c.args.slot.0 o (due_at c.remove.new.self.dues) k) c.reached-due.ensures));
+          ∙ ap (λ o. set_at c.args.slot.0 o (due_at c.remove.new.self.dues) k) c.reached_by-due.ensures));
       within =
           subst (λ n. AreWithin n (slab_get c.put.new.entries))
           (sym (c.time.ensures.long ∙ long_cleared i.wheel c.remove.new.self c.args.slot.0 c.remove.ensures))

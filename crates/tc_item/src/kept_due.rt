@@ -1,0 +1,78 @@
+//! A due, as an item keeps it.
+ghost use Rattle.std.specs.Prelude.{◌≡◌};
+
+use crate::Due;
+use std::fmt;
+use std::marker::Model;
+use std::mem::size_of;
+
+/// How many moments there are in one of the high word's.
+const LOW: u64 = 1 << 32;
+
+/// A due in 12 bytes, so that an entry has 56; a `Due` alone has 16.
+#[derive(Drop)]
+pub struct KeptDue {
+    high: u32,
+    low: u32,
+    ends: bool,
+}
+
+const _: () = prove!(size_of::<KeptDue>() == 12);
+
+impl Model for KeptDue {
+    ghost use Rattle.tc_item.specs.declared.moment.Due.{Due};
+    ghost use Rattle.tc_item.specs.KeptDues.{due_kept};
+
+    ghost Value = { Due };
+
+    ghost view = { λ d. due_kept d.ends d.high d.low };
+}
+
+impl KeptDue {
+    /// Keeps a due.
+    pub fn new(due: Due) -> KeptDue
+        ensures { result ≡ due }
+    {
+        match due {
+            Due::Never => KeptDue {
+                high: 0,
+                low: 0,
+                ends: false,
+            },
+            Due::At(second) => KeptDue {
+                high: (second / LOW) as u32,
+                low: (second % LOW) as u32,
+                ends: true,
+            },
+        }
+    }
+
+    /// The due.
+    pub fn get(&self) -> Due
+        ensures { result ≡ self.now }
+    {
+        if self.ends {
+            Due::At(u64::from(self.high) * LOW + u64::from(self.low))
+        } else {
+            Due::Never
+        }
+    }
+
+    /// The same due.
+    pub fn copy(&self) -> KeptDue
+        ensures { result ≡ self.now }
+    {
+        KeptDue {
+            high: self.high,
+            low: self.low,
+            ends: self.ends,
+        }
+    }
+}
+
+/// As the due.
+impl fmt::Debug for KeptDue {
+    fn fmt<W: fmt::Write>(&self, f: &mut fmt::Formatter<W>) -> fmt::Result {
+        write!(f, "{:?}", self.get())
+    }
+}
