@@ -11,7 +11,7 @@ use tc_grammar::Command;
 use tc_item::{Moment, NoMemory};
 use tc_kinds::Kind;
 use tc_partition::Fast;
-use tc_plain::{Cache, EvictionState, Plain};
+use tc_plain::{Cache, Entry, EvictionState, Plain};
 use tc_sketch::{Sketch, hash};
 use tc_stats::Outcome;
 
@@ -79,11 +79,31 @@ fn is_seen_alike(alloc: Global, first: &Sketch, second: &Sketch) -> Result<bool,
     Ok(true)
 }
 
+/// Whether the same is held under the same key.
+fn is_same_entry(first: &Entry, second: &Entry) -> bool {
+    first.key == second.key
+        && first.item.flags == second.item.flags
+        && first.item.due.get() == second.item.due.get()
+        && first.item.cas == second.item.cas
+        && first.item.blob == second.item.blob
+}
+
+/// Whether the same entries stand in the same order.
+fn are_same_entries(first: &[Entry], second: &[Entry]) -> bool {
+    for (i, entry) in first.iter().enumerate() {
+        match second.get(i) {
+            Some(other) if is_same_entry(entry, other) => {}
+            _ => return false,
+        }
+    }
+    first.len() == second.len()
+}
+
 /// Whether the same entries stand in the same areas, with the same moment and pending flush.
 fn holds_alike(first: &EvictionState, second: &EvictionState) -> bool {
-    first.areas.window.as_slice() == second.areas.window.as_slice()
-        && first.areas.probation.as_slice() == second.areas.probation.as_slice()
-        && first.areas.protected.as_slice() == second.areas.protected.as_slice()
+    are_same_entries(&first.areas.window, &second.areas.window)
+        && are_same_entries(&first.areas.probation, &second.areas.probation)
+        && are_same_entries(&first.areas.protected, &second.areas.protected)
         && first.moment == second.moment
         && first.flush == second.flush
 }
