@@ -6,7 +6,7 @@ use std::fmt;
 use std::marker::Model;
 use std::mem::size_of;
 
-/// How many moments there are in one of the high word's.
+/// How many seconds one of the high word stands for.
 const LOW: u64 = 1 << 32;
 
 /// A due in 12 bytes, so that an entry has 56; a `Due` alone has 16.
