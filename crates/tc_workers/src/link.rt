@@ -28,6 +28,10 @@ const REQUESTS: u32 = 16;
 /// With more bytes that wait to be sent, nothing is read and no request is done.
 const MOST_OUT: usize = 1_048_576;
 
+/// More bytes than these are sent as soon as a turn's requests are done; fewer wait until the other
+/// connections' are done too.
+const EARLY_OUT: usize = 16_384;
+
 /// What a connection's worker knows of its user.
 #[derive(Clone, Copy, Debug, PartialEq, Eq)]
 enum Owner {
@@ -54,6 +58,8 @@ pub struct Link<W> {
     is_watched: bool,
     /// It stands on its worker's list.
     pub(crate) is_listed: bool,
+    /// How far the first half of its turn came.
+    pace: Pace,
     owner: Owner,
     ghost bounded: { length session.endpoint.reader.unread ≤ most_kept },
     ghost resting: { rests ≡ true → length session.endpoint.reader.unread ≤ most_resting },
@@ -69,6 +75,7 @@ impl<W: Wire + Drop> Link<W> {
             refused: None,
             is_watched: false,
             is_listed: true,
+            pace: Pace::Rests,
             owner: Owner::Unknown,
         }
     }
@@ -83,6 +90,7 @@ impl<W: Wire + Drop> Link<W> {
             refused: _,
             is_watched: _,
             is_listed: _,
+            pace: _,
             owner: _,
         } = self;
         wire
@@ -117,27 +125,30 @@ impl<W: Wire + Drop> Link<W> {
         self.session.kept()
     }
 
-    /// Reads, does requests, writes, and looks once more whether there is something to read. Each command
-    /// is one call of the hall, and there are 16 at most.
-    pub(crate) fn turn<R: Wait, C: Cache, N: Naming, G: Gate>(
+    /// The first half of a turn: reads, and does requests. Each command is one call of the hall, and
+    /// there are 16 at most. Whether it goes on.
+    pub(crate) fn take_in<R: Wait, C: Cache, N: Naming, G: Gate>(
         &mut self,
         service: &Service<'_, R, C, N, G>,
         seat: &mut Seat<N>,
         buffer: &mut [u8],
-    ) -> Onward
+    ) -> bool
         ensures wrote { WritesAtMost 16 seat.old seat.new }
     {
         let Some(came) = self.read(buffer) else {
-            return Onward::Done;
+            return false;
         };
         let served = self.serve(service, seat);
-        let Some(went) = self.write() else {
-            return Onward::Done;
-        };
-        if self.is_starved(service.clock.now()) {
+        self.pace = came.and(served);
+        self.session.out_len() <= EARLY_OUT || self.send()
+    }
+
+    /// The second half of a turn: writes, and looks once more whether there is something to read.
+    pub(crate) fn give_out(&mut self, now: Moment, buffer: &mut [u8]) -> Onward {
+        if !self.send() || self.is_starved(now) {
             return Onward::Done;
         }
-        let Some(pace) = self.look_again(came.and(served).and(went), buffer) else {
+        let Some(pace) = self.look_again(self.pace, buffer) else {
             return Onward::Done;
         };
         if self.session.is_closed() && !self.session.has_out() {
@@ -146,6 +157,17 @@ impl<W: Wire + Drop> Link<W> {
         match pace {
             Pace::Rests if !self.is_watched => Onward::GoesOn(Pace::Tries),
             pace => Onward::GoesOn(pace),
+        }
+    }
+
+    /// Writes, and notes how far the turn came by it. Whether the wire goes on.
+    fn send(&mut self) -> bool {
+        match self.write() {
+            Some(went) => {
+                self.pace = self.pace.and(went);
+                true
+            }
+            None => false,
         }
     }
 

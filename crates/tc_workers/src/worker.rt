@@ -12,7 +12,7 @@ use slab::Slab;
 use std::alloc::{AllocError, Global};
 use std::marker::Model;
 use std::sync::Wait;
-use tc_item::NoMemory;
+use tc_item::{Moment, NoMemory};
 use tc_locked::{Clock, Hall, Naming, Seat};
 use tc_plain::Cache;
 use tc_users::Users;
@@ -206,10 +206,10 @@ impl<W: Wire + Drop, N: Naming> Worker<W, N> {
         }
     }
 
-    /// Goes over the listed connections once, and drops those that are done; those that another worker
-    /// is to serve wait for `pass_on`. How long the inlet may then
-    /// wait: not at all where one gets on, and a moment where one is to be tried again. Each command of a
-    /// connection is one call of the hall, and a connection has 16 at most.
+    /// Goes over the listed connections: each reads and does requests, and once all did, each writes.
+    /// Those that are done are dropped; those that another worker is to serve wait for `pass_on`. How
+    /// long the inlet may then wait: not at all where one gets on, and a moment where one is to be tried
+    /// again. Each command of a connection is one call of the hall, and a connection has 16 at most.
     pub fn turn<R: Wait, C: Cache, G: Gate>(
         &mut self,
         rt: &R,
@@ -228,6 +228,24 @@ impl<W: Wire + Drop, N: Naming> Worker<W, N> {
             clock,
             gate,
         };
+        self.take_all_in(&service);
+        self.give_all_out(clock.now())
+    }
+
+    /// The first half of the turn of each listed connection.
+    fn take_all_in<R: Wait, C: Cache, G: Gate>(&mut self, service: &Service<'_, R, C, N, G>)
+        ensures wrote { WritesAtMost (16 * self.old.due) self.old.seat self.new.seat }
+    {
+        for at in 0..self.listed.len() {
+            let key = self.listed[at];
+            self.take_in(service, key);
+        }
+    }
+
+    /// The second half of the turn of each listed connection, and how long the inlet may wait.
+    fn give_all_out(&mut self, now: Moment) -> Patience
+        ensures kept { self.new.seat ≡ self.old.seat }
+    {
         let mut one_got_on = false;
         let mut at = 0;
         for _ in 0..self.listed.len() {
@@ -235,7 +253,7 @@ impl<W: Wire + Drop, N: Naming> Worker<W, N> {
                 break;
             }
             let key = self.listed[at];
-            match self.serve(&service, key) {
+            match self.give_out(now, key) {
                 Onward::GoesOn(Pace::GetsOn) => {
                     one_got_on = true;
                     at += 1;
@@ -253,20 +271,29 @@ impl<W: Wire + Drop, N: Naming> Worker<W, N> {
         }
     }
 
-    /// One connection's turn. Where it is done it is dropped, where it rests it is told so, and where
-    /// another worker is to serve it, it is done with here.
-    fn serve<R: Wait, C: Cache, G: Gate>(
-        &mut self,
-        service: &Service<'_, R, C, N, G>,
-        key: usize,
-    ) -> Onward
-        ensures due { self.new.due ≡ self.old.due }
+    /// The first half of one connection's turn. Where it is done it is dropped.
+    fn take_in<R: Wait, C: Cache, G: Gate>(&mut self, service: &Service<'_, R, C, N, G>, key: usize)
+        ensures listed { self.new.due ≡ self.old.due }
         ensures wrote { WritesAtMost 16 self.old.seat self.new.seat }
+    {
+        let Some(link) = self.links.get_mut(key) else {
+            return;
+        };
+        if !link.take_in(service, &mut self.seat, self.buffer.as_mut_slice()) {
+            let _ = self.links.try_remove(key);
+        }
+    }
+
+    /// The second half of one connection's turn. Where it is done it is dropped, where it rests it is
+    /// told so, and where another worker is to serve it, it is done with here.
+    fn give_out(&mut self, now: Moment, key: usize) -> Onward
+        ensures listed { self.new.due ≡ self.old.due }
+        ensures kept { self.new.seat ≡ self.old.seat }
     {
         let Some(link) = self.links.get_mut(key) else {
             return Onward::Done;
         };
-        let onward = link.turn(service, &mut self.seat, self.buffer.as_mut_slice());
+        let onward = link.give_out(now, self.buffer.as_mut_slice());
         if onward == Onward::Done {
             let _ = self.links.try_remove(key);
             return onward;
