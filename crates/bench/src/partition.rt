@@ -12,6 +12,7 @@ use tc_grammar::Command;
 use tc_item::{Blob, LARGEST_BUDGET, Moment, NoMemory, RECORD_WEIGHT, SMALLEST_BUDGET};
 use tc_kinds::Kind;
 use tc_partition::Fast;
+use tc_plain::Snapshot;
 
 /// How many look-ups wait at most.
 const WAITING: u32 = 128;
@@ -258,23 +259,25 @@ fn report_drains<C: Kind>(
     print_spent(rt, size.topic("drains", "look-ups done"), spent, extent)
 }
 
-/// Makes copies, and lets go of each.
-fn freeze_often<C: Kind>(alloc: Global, cache: &C, rounds: u32) -> Result<(), NoMemory> {
+/// Brings a snapshot up to the cache, as a page's turn does, and lets go of what that leaves over.
+fn turn_often<C: Kind>(alloc: Global, cache: &mut C, rounds: u32) -> Result<(), NoMemory> {
+    let mut snapshot = cache.snapshot(alloc)?;
     for _ in 0..rounds {
-        let _copy = cache.freeze(alloc)?;
+        cache.prepare(alloc, &mut snapshot)?;
+        let _left = snapshot.turn();
     }
     Ok(())
 }
 
-/// Copies, by the items in them.
-fn report_freeze<C: Kind>(
+/// A snapshot and turns of it between which nothing changes, by the items in them.
+fn report_turns<C: Kind>(
     rt: &HostRuntime,
-    cache: &C,
+    cache: &mut C,
     size: Size,
     extent: Extent,
 ) -> Result<(), Fault> {
     let start = Instant::now(rt)?;
-    freeze_often(rt.alloc(), cache, size.rounds)?;
+    turn_often(rt.alloc(), cache, size.rounds)?;
     let time = start.elapsed(rt)?;
     let tally = Tally {
         calls: size.held.wrapping_mul(size.rounds),
@@ -282,7 +285,7 @@ fn report_freeze<C: Kind>(
     };
     print_spent(
         rt,
-        size.topic("items copied by freeze", "copies"),
+        size.topic("items gone over by turns", "turns"),
         Spent { time, tally },
         extent,
     )
@@ -335,7 +338,7 @@ fn report_roomy<C: Kind>(
     let topic = size.topic("sets of held keys", EVICTED);
     report_sets(rt, cache, data, size.inner(), size.rounds, topic, extent)?;
     report_drains(rt, cache, size, extent)?;
-    report_freeze(rt, cache, size, extent)?;
+    report_turns(rt, cache, size, extent)?;
     report_expiry(rt, cache, size, extent)
 }
 

@@ -1,8 +1,8 @@
 -- What calls, maintenance and page turns keep of a book.
 use Rattle.std.proofs.Common.{zero, suc, ◌≡◌, ℕ, ◌+◌, ◌<◌, ◌≤◌, max, Bool, cond, List, [], ◌∷◌, ◌++◌, length, refl, sym, ap, ◌∙◌}
-use Rattle.std.proofs.Common.{subst, arith, replicate, length-append}
+use Rattle.std.proofs.Common.{subst, arith, replicate, length-append, take}
 use Rattle.std.specs.Prelude.{slice_index, slice_set}
-use Rattle.std.proofs.lemmas.List.{length-set, length-replicate, get_or-set_same, get_or-set_other}
+use Rattle.std.proofs.lemmas.List.{length-set, length-replicate, get_or-set_same, get_or-set_other, length-take-le}
 use Rattle.std.proofs.lemmas.Bool.{le-leb}
 use mathlib.Core.Logic.{dite}
 use native.Mathlib.Decide.{ℕ_discrete}
@@ -16,7 +16,8 @@ use Rattle.tc_locked.specs.declared.entry.Entry.{Entry}
 use Rattle.tc_fresh.specs.Beginning.{IsEmptyCache}
 use Rattle.tc_locked.specs.Books.{BookState, events_of, Start, first_start, moment_after, counts_after, IsNext, AreNumbered}
 use Rattle.tc_locked.specs.Books.{Stands, IsBook, entry_of, after_call, after_maintain, page_turned, turn_if, paged, fresh_book}
-use Rattle.tc_locked.specs.Books.{last_alone, page_before_last, slip_of}
+use Rattle.tc_locked.specs.Books.{slip_of}
+use Rattle.tc_locked.specs.declared.entry.Slip.{Slip}
 use Rattle.tc_locked.specs.Closing.{HasLegalPage}
 use Rattle.tc_plain.proofs.Left.{leaves_advanced, advance-earlier, advance-advance, act-advance, advance-empty}
 
@@ -193,47 +194,25 @@ turn_if-some (e ∷ es) b lt = refl
 pub turned_is : (v b : BookState) → v ≡ b → 0 < length v.entries → page_turned v ≡ turn_if b.entries b
 turned_is v b is some = sym (turn_if-some v.entries v some) ∙ ap (λ (x : BookState). turn_if x.entries x) is
 
-pub last_alone-push : (es : List Entry) (e : Entry) → last_alone (es ++ e ∷ []) ≡ e ∷ []
-last_alone-push [] e = refl
-last_alone-push (x ∷ []) e = refl
-last_alone-push (x ∷ y ∷ es) e = last_alone-push (y ∷ es) e
-
--- a page that is turned before a call's entry is as one that was turned before the call
-before_last-call : (b : BookState) (opening : UserCache) (e : Entry) → opening ≡ b.settled
-    → page_before_last opening (after_call b e) ≡ after_call (page_turned b) e
-before_last-call b opening e is = λ i. record {
-  opening = is i;
-  entries = last_alone-push b.entries e i;
-  settled = (act b.settled e.moment e.command).1;
-  moment = e.moment;
-  turns = b.turns + 1;
-  number = e.number;
-  counts = slice_set b.counts e.seat e.tally;
-}
+pub take_some : (n : ℕ) (xs : List Entry) → 0 < n → n ≤ length xs → 0 < length (take n xs)
+take_some n xs lt le = let same = length-take-le n xs le in omega (arith, same, lt)
 
 -- a full page is turned for a call
 paged-full : (journal : ℕ) (b : BookState) → journal ≤ length b.entries → paged journal b ≡ page_turned b
 paged-full journal b many = ap (λ (t : Bool). cond t (page_turned b) b) (le-leb journal (length b.entries) many)
 
-pub paged_call : (journal : ℕ) (b called : BookState) (opening : UserCache) (e : Entry) → journal ≤ length b.entries
-    → opening ≡ b.settled → called ≡ after_call b e → page_before_last opening called ≡ after_call (paged journal b) e
-paged_call journal b called opening e many is was =
-    ap (page_before_last opening) was ∙ before_last-call b opening e is
-    ∙ ap (λ (x : BookState). after_call x e) (sym (paged-full journal b many))
+pub paged_call : (journal : ℕ) (b called : BookState) (e : Entry) → journal ≤ length b.entries
+    → called ≡ after_call (page_turned b) e → called ≡ after_call (paged journal b) e
+paged_call journal b called e many is = is ∙ ap (λ (x : BookState). after_call x e) (sym (paged-full journal b many))
 
-pub paged_slip : (journal : ℕ) (b : BookState) (e : Entry) (page : ℕ) → journal ≤ length b.entries → page ≡ b.turns + 1
-    → slip_of (paged journal b) e
-    ≡ record { page = page; number = e.number; tally = e.tally; moment = e.moment; outcome = e.outcome }
-paged_slip journal b e page many is =
-    ap (λ (x : BookState). slip_of x e) (paged-full journal b many)
-    ∙ (λ i. record { page = sym is i; number = e.number; tally = e.tally; moment = e.moment; outcome = e.outcome })
+pub paged_slip : (journal : ℕ) (b : BookState) (e : Entry) (slip : Slip) → journal ≤ length b.entries
+    → slip ≡ slip_of (page_turned b) e → slip ≡ slip_of (paged journal b) e
+paged_slip journal b e slip many is = is ∙ ap (λ (x : BookState). slip_of x e) (sym (paged-full journal b many))
 
-pub paged_legal : (b called : BookState) (opening : UserCache) (seat now conn : ℕ) (command : Command) → 0 < length b.entries
-    → seat < length b.counts → IsBook b → opening ≡ b.settled → called ≡ after_call b (entry_of b seat now conn command)
-    → IsBook (page_before_last opening called)
-paged_legal b called opening seat now conn command some lt h is was =
-    subst IsBook (sym (ap (page_before_last opening) was ∙ before_last-call b opening (entry_of b seat now conn command) is))
-    (book_call (page_turned b) seat now conn command lt (book_turn b some h))
+-- a turned page and a call on it
+pub turned_call : (b : BookState) (seat now conn : ℕ) (command : Command) → 0 < length b.entries → seat < length b.counts
+    → IsBook b → IsBook (after_call (page_turned b) (entry_of b seat now conn command))
+turned_call b seat now conn command some lt h = book_call (page_turned b) seat now conn command lt (book_turn b some h)
 
 -- ---- the page
 replays_from_zero : (from : ℕ) (k : UserCache) (es : List Entry) → Replays user_caching from k (events_of es)

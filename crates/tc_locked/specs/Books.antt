@@ -140,24 +140,6 @@ page_turned b = record {
   counts = b.counts;
 }
 
--- the last of entries, alone
-abbrev pub last_alone : List Entry → List Entry
-last_alone [] = []
-last_alone (e ∷ []) = e ∷ []
-last_alone (e ∷ f ∷ es) = last_alone (f ∷ es)
-
--- the page is turned before its last entry, and begins with this state
-abbrev pub page_before_last : UserCache → BookState → BookState
-page_before_last opening b = record {
-  opening = opening;
-  entries = last_alone b.entries;
-  settled = b.settled;
-  moment = b.moment;
-  turns = b.turns + 1;
-  number = b.number;
-  counts = b.counts;
-}
-
 -- a page with entries is turned
 abbrev pub turn_if : List Entry → BookState → BookState
 turn_if [] b = b

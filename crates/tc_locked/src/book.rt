@@ -1,29 +1,29 @@
 //! A user's book.
 ghost use Rattle.std.specs.Prelude.{◌≡◌, ◌≢◌, ℕ, ◌+◌, ◌-◌, ◌^◌, ◌<◌, ◌≤◌, length, IfOk, OnOk, IfErr, OnErr, slice_get};
-ghost use Rattle.std.specs.Prelude.{slice_index, Some, IfSome, IfNone};
+ghost use Rattle.std.specs.Prelude.{slice_index, slice_set, take, ◌++◌, ◌∷◌, [], vec_len, vec_capacity, Some, IfSome, IfNone};
 ghost use Rattle.tc_locked.specs.declared.entry.Entry.{Entry};
 ghost use Rattle.tc_fresh.specs.Beginning.{IsEmptyCache};
-ghost use Rattle.tc_locked.specs.Books.{entry_of, after_call, slip_of, after_maintain, turn_if, paged, fresh_book, IsBook};
-ghost use Rattle.tc_locked.specs.Books.{last_alone, page_before_last};
+ghost use Rattle.tc_locked.specs.Books.{entry_of, after_call, slip_of, after_maintain, page_turned, turn_if, paged, fresh_book};
 ghost use Rattle.tc_locked.specs.Closing.{HasLegalPage};
 ghost use Rattle.tc_locked.specs.declared.call_fault.CallFault.TheVariants.{Worn, NoUser};
 
 use crate::call_fault::CallFault;
 use crate::called::Called;
 use crate::entry::{Entry, Slip};
-use crate::old_entries::let_all_go;
 use std::alloc::Global;
 use std::marker::Model;
-use std::mem;
 use tc_grammar::Command;
 use tc_item::{Moment, NoMemory};
-use tc_plain::{Cache, Plain};
+use tc_plain::{Cache, Plain, Snapshot};
 
 /// A cache and the calls that it did since its page began, seen as its state. It is always legal.
 #[derive(Drop)]
 pub struct Book<C: Cache> {
-    opening: Plain,
+    opening: C::Snapshot,
+    /// The entries of the page, and behind them such of the page before it as are not replaced yet.
     entries: Vec<Entry>,
+    /// How many entries the page has.
+    used: usize,
     cache: C,
     moment: Moment,
     turns: u64,
@@ -32,13 +32,14 @@ pub struct Book<C: Cache> {
 }
 
 impl<C: Cache> Model for Book<C> {
+    ghost use Rattle.std.specs.Prelude.{◌≤◌, length, take};
     ghost use Rattle.tc_locked.specs.Books.{BookState, IsBook};
 
     ghost Value = { BookState };
 
     ghost view = { λ b. record {
-      opening = b.opening;
-      entries = b.entries.items;
+      opening = C.Snapshot.shown b.opening;
+      entries = take b.used b.entries.items;
       settled = C.settled b.cache;
       moment = b.moment;
       turns = b.turns;
@@ -47,38 +48,71 @@ impl<C: Cache> Model for Book<C> {
     } };
 
     ghost invariant = { λ b. IsBook (record {
-      opening = b.opening;
-      entries = b.entries.items;
+      opening = C.Snapshot.shown b.opening;
+      entries = take b.used b.entries.items;
       settled = C.settled b.cache;
       moment = b.moment;
       turns = b.turns;
       number = b.number;
       counts = b.counts.items;
-    }) };
+    }) × (b.used ≤ length b.entries.items) };
 }
 
-/// Lets go of all entries but the last, and keeps their room.
-fn keep_last(entries: &mut Vec<Entry>)
-    ensures { entries.new.items ≡ last_alone entries.old.items }
+/// Room for an entry behind the first `used`.
+fn make_room(entries: &mut Vec<Entry>, used: usize) -> Result<(), NoMemory>
+    ensures entries { entries.new.items ≡ entries.old.items }
+    ensures room { OnOk result (length entries.new.items ≤ used
+        → vec_len entries.new < vec_capacity entries.new) }
 {
-    let Some(last) = entries.pop() else {
-        return;
-    };
-    let_all_go(entries);
-    entries.push_reserved(last);
+    if entries.len() <= used {
+        entries.reserve(1)?;
+    }
+    Ok(())
+}
+
+/// Puts an entry behind the first `used`, in the place of the one there, if there is one.
+fn put(entries: &mut Vec<Entry>, used: usize, entry: Entry)
+    requires within { used ≤ length entries.old.items }
+    requires room { length entries.old.items ≤ used
+        → vec_len entries.old < vec_capacity entries.old }
+    ensures entries { take (used + 1) entries.new.items ≡ take used entries.old.items ++ entry ∷ [] }
+    ensures within { used + 1 ≤ length entries.new.items }
+{
+    if used < entries.len() {
+        entries[used] = entry;
+    } else {
+        entries.push_reserved(entry);
+    }
+}
+
+/// Counts an entry of a seat: its number, and how many the seat has with it.
+fn count_entry(number: &mut u64, counts: &mut Vec<u64>, seat_no: usize) -> (u64, u64)
+    requires seat { seat_no < length counts.old.items }
+    requires number { number.old + 1 < 2 ^ 64 }
+    requires tally { slice_index counts.old.items seat_no + 1 < 2 ^ 64 }
+    ensures number { (number.new ≡ number.old + 1) × (result.0 ≡ number.old + 1) }
+    ensures counts { counts.new.items
+        ≡ slice_set counts.old.items seat_no (slice_index counts.old.items seat_no + 1) }
+    ensures tally { result.1 ≡ slice_index counts.old.items seat_no + 1 }
+{
+    let tally = counts[seat_no] + 1;
+    counts[seat_no] = tally;
+    *number += 1;
+    (*number, tally)
 }
 
 impl<C: Cache> Book<C> {
     /// The book of an empty cache, with a count for each of so many seats.
-    pub fn open(alloc: Global, cache: C, seats: usize) -> Result<Book<C>, NoMemory>
+    pub fn open(alloc: Global, mut cache: C, seats: usize) -> Result<Book<C>, NoMemory>
         requires empty { IsEmptyCache (C.settled cache) }
         ensures { IfOk result (λ book. book ≡ fresh_book (C.settled cache) seats) }
     {
-        let opening = cache.freeze(alloc)?;
+        let opening = cache.snapshot(alloc)?;
         let counts = vec![in alloc; 0u64; seats]?;
         Ok(Book {
             opening,
             entries: Vec::new(alloc),
+            used: 0,
             cache,
             moment: Moment::FIRST,
             turns: 0,
@@ -111,19 +145,16 @@ impl<C: Cache> Book<C> {
         if self.number == u64::MAX {
             return Err(CallFault::Worn);
         }
-        let Ok(()) = self.entries.reserve(1) else {
+        let Ok(()) = make_room(&mut self.entries, self.used) else {
             return Err(CallFault::NoMemory);
         };
         let moment = self.moment.later(now);
-        let tally = self.counts[seat_no] + 1;
         let Ok((answer, outcome)) = self.cache.act(alloc, moment, command) else {
             return Err(CallFault::NoMemory);
         };
         self.moment = moment;
-        self.number += 1;
-        self.counts[seat_no] = tally;
-        let number = self.number;
-        self.entries.push_reserved(Entry {
+        let (number, tally) = count_entry(&mut self.number, &mut self.counts, seat_no);
+        let entry = Entry {
             seat: seat_no,
             tally,
             number,
@@ -131,7 +162,9 @@ impl<C: Cache> Book<C> {
             conn,
             command: kept,
             outcome,
-        });
+        };
+        put(&mut self.entries, self.used, entry);
+        self.used += 1;
         Ok(Slip {
             page: self.turns,
             number,
@@ -149,34 +182,85 @@ impl<C: Cache> Book<C> {
         self.moment = self.moment.later(now);
     }
 
-    /// A copy of what the cache stands for. What it defers is done first, which nobody sees: for the
-    /// cache that is a few steps, and for the copy, a list, it would be many.
-    fn copy_settled(&mut self, alloc: Global) -> Result<Plain, NoMemory>
-        ensures state { self.new ≡ self.old }
-        ensures settled { IfOk result (λ plain. plain ≡ self.old.settled) }
-    {
-        self.cache.maintain(self.moment, u32::MAX);
-        self.cache.freeze(alloc)
-    }
-
     /// Begins a new page at what the cache stands for, where the page has entries. A refusal changes
     /// nothing.
     pub fn turn_page(&mut self, alloc: Global) -> Result<(), NoMemory>
         ensures turned { OnOk result (self.new ≡ turn_if self.old.entries self.old) }
         ensures unchanged_on_err { OnErr result (self.new ≡ self.old) }
     {
-        if self.entries.is_empty() {
+        if self.used == 0 {
             return Ok(());
         }
-        let opening = self.cache.freeze(alloc)?;
-        self.opening = opening;
-        self.entries.clear();
+        self.cache.prepare(alloc, &mut self.opening)?;
+        let _left = self.opening.turn();
+        self.used = 0;
         self.turns += 1;
         Ok(())
     }
 
+    /// `call` on a new page, which begins at what the cache stands for. All memory is taken before the
+    /// call, and the page is turned after it, so a refusal changes nothing. The entries of the page
+    /// before stay until new ones take their places, one a call.
+    fn call_turning(
+        &mut self,
+        alloc: Global,
+        seat_no: usize,
+        now: Moment,
+        conn: u32,
+        command: &Command,
+        kept: Command,
+    ) -> Result<Called<C>, CallFault>
+        requires seat { seat_no < length self.old.counts }
+        requires copy { kept ≡ command.now }
+        requires some { 0 < length self.old.entries }
+        ensures slip { IfOk result (λ called. called.slip
+            ≡ slip_of (page_turned self.old) (entry_of self.old seat_no now conn command.now)) }
+        ensures entered { OnOk result (self.new ≡ after_call (page_turned self.old)
+            (entry_of self.old seat_no now conn command.now)) }
+        ensures worn { IfErr result (λ fault. (fault ≡ Worn → self.old.number ≡ 2 ^ 64 - 1)
+            × (fault ≢ NoUser)) }
+        ensures unchanged_on_err { OnErr result (self.new ≡ self.old) }
+    {
+        if self.number == u64::MAX {
+            return Err(CallFault::Worn);
+        }
+        let Ok(()) = self.cache.prepare(alloc, &mut self.opening) else {
+            return Err(CallFault::NoMemory);
+        };
+        let moment = self.moment.later(now);
+        let Ok((answer, outcome)) = self.cache.act(alloc, moment, command) else {
+            return Err(CallFault::NoMemory);
+        };
+        let left = self.opening.turn();
+        self.turns += 1;
+        self.moment = moment;
+        let (number, tally) = count_entry(&mut self.number, &mut self.counts, seat_no);
+        let entry = Entry {
+            seat: seat_no,
+            tally,
+            number,
+            moment,
+            conn,
+            command: kept,
+            outcome,
+        };
+        put(&mut self.entries, 0, entry);
+        self.used = 1;
+        let slip = Slip {
+            page: self.turns,
+            number,
+            tally,
+            moment,
+            outcome: answer,
+        };
+        Ok(Called {
+            slip,
+            left: Some(left),
+        })
+    }
+
     /// `call`, after a turn of the page where it has `journal` entries. A refusal of either changes
-    /// nothing, and of a turn the old opening comes back.
+    /// nothing.
     pub fn call_paged(
         &mut self,
         alloc: Global,
@@ -186,7 +270,7 @@ impl<C: Cache> Book<C> {
         conn: u32,
         command: &Command,
         kept: Command,
-    ) -> Result<Called, CallFault>
+    ) -> Result<Called<C>, CallFault>
         requires journal { 0 < journal }
         requires seat { seat_no < length self.old.counts }
         requires copy { kept ≡ command.now }
@@ -198,46 +282,11 @@ impl<C: Cache> Book<C> {
             × (fault ≢ NoUser)) }
         ensures unchanged_on_err { OnErr result (self.new ≡ self.old) }
     {
-        if self.entries.len() < journal {
+        if self.used < journal {
             let slip = self.call(alloc, seat_no, now, conn, command, kept)?;
-            return Ok(Called {
-                slip,
-                old_opening: None,
-            });
+            return Ok(Called { slip, left: None });
         }
-        let Ok(opening) = self.copy_settled(alloc) else {
-            return Err(CallFault::NoMemory);
-        };
-        let Ok(()) = self.make_room() else {
-            return Err(CallFault::NoMemory);
-        };
-        let mut slip = self.call(alloc, seat_no, now, conn, command, kept)?;
-        let old_opening = self.begin_page(opening);
-        slip.page = self.turns();
-        Ok(Called {
-            slip,
-            old_opening: Some(old_opening),
-        })
-    }
-
-    /// Makes room for one entry more than a page has, and for no other. The room stays from page to page.
-    fn make_room(&mut self) -> Result<(), NoMemory>
-        ensures { self.new ≡ self.old }
-    {
-        self.entries.reserve_exact(1)?;
-        Ok(())
-    }
-
-    /// Turns the page before its last entry: the new page begins with this state. It gives the old
-    /// page's opening.
-    fn begin_page(&mut self, opening: Plain) -> Plain
-        requires legal { IsBook (page_before_last opening self.old) }
-        ensures { self.new ≡ page_before_last opening self.old }
-    {
-        let old_opening = mem::replace(&mut self.opening, opening);
-        keep_last(&mut self.entries);
-        self.turns += 1;
-        old_opening
+        self.call_turning(alloc, seat_no, now, conn, command, kept)
     }
 
     /// The entry that was made last.
@@ -245,7 +294,7 @@ impl<C: Cache> Book<C> {
         requires { 0 < length self.now.entries }
         ensures { slice_get self.now.entries (length self.now.entries - 1) ≡ Some result.now }
     {
-        &self.entries[self.entries.len() - 1]
+        &self.entries[self.used - 1]
     }
 
     /// How many entries a seat made, over all pages.
@@ -262,8 +311,8 @@ impl<C: Cache> Book<C> {
             → number + length self.now.entries ≡ self.now.number + j + 1
             → IfSome result (λ x. x.now ≡ e) × IfNone result ⊥ }
     {
-        let before = self.number - self.entries.len() as u64;
-        if number <= before || number - before > self.entries.len() as u64 {
+        let before = self.number - self.used as u64;
+        if number <= before || number - before > self.used as u64 {
             return None;
         }
         Some(&self.entries[(number - before - 1) as usize])
@@ -276,12 +325,12 @@ impl<C: Cache> Book<C> {
         self.turns
     }
 
-    /// What the page began with. From there the commands of its entries give their outcomes.
-    pub fn opening(&self) -> &Plain
-        ensures opening { result.now ≡ self.now.opening }
+    /// What the page began with, as lists. From there the commands of its entries give their outcomes.
+    pub fn opening(&self, alloc: Global) -> Result<Plain, NoMemory>
+        ensures opening { IfOk result (λ plain. plain ≡ self.now.opening) }
         ensures legal { HasLegalPage self.now }
     {
-        &self.opening
+        self.opening.copy(alloc)
     }
 
     /// The entries of the page, in order.
@@ -289,6 +338,6 @@ impl<C: Cache> Book<C> {
         ensures entries { result.now ≡ self.now.entries }
         ensures legal { HasLegalPage self.now }
     {
-        self.entries.as_slice()
+        &self.entries[..self.used]
     }
 }

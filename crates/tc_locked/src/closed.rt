@@ -1,5 +1,5 @@
 //! A hall that has ended.
-ghost use Rattle.std.specs.Prelude.{◌≡◌, ◌<◌, length, IfSome, IfNone, option_map, option_copied};
+ghost use Rattle.std.specs.Prelude.{◌≡◌, ◌<◌, length, IfOk, IfSome, IfNone, option_map, option_copied};
 ghost use Rattle.tc_locked.specs.Calls.{IsUser};
 ghost use Rattle.tc_locked.specs.Closing.{IsBookOf, AllKept, AllTied, IsCountOf, HasNote, IsNoteOf, OnPage, TurnedPage, book_of};
 ghost use Rattle.tc_locked.specs.Closing.{HasLegalPage};
@@ -11,7 +11,9 @@ use crate::hall::Hall;
 use crate::naming::{Naming, TableSeat};
 use crate::receipt::Receipt;
 use crate::seat::Seat;
+use std::alloc::Global;
 use std::marker::{Model, PhantomData};
+use tc_item::NoMemory;
 use tc_plain::{Cache, Plain};
 use tc_users::UserNo;
 
@@ -93,17 +95,20 @@ impl<C: Cache, N: Naming> Closed<C, N> {
         shut.entry(receipt.slip.page, receipt.slip.number)
     }
 
-    /// What the last page of a user's book began with; `None` exactly where there is no such user.
-    pub fn opening(&self, user: UserNo) -> Option<&Plain>
-        ensures opening { option_copied result
-            ≡ option_map (λ book. book.opening) (book_of user self.now.books) }
-        ensures known { IfSome result (λ _. IsUser (length N.terms.begins) user) }
-        ensures unknown { IfNone result (IsUser (length N.terms.begins) user → ⊥) }
+    /// What the last page of a user's book began with, as lists; `None` exactly where there is no such
+    /// user.
+    pub fn opening(&self, alloc: Global, user: UserNo) -> Result<Option<Plain>, NoMemory>
+        ensures opening { IfOk result (λ opening. opening
+            ≡ option_map (λ book. book.opening) (book_of user self.now.books)) }
+        ensures known { IfOk result (λ opening. IfSome opening
+            (λ _. IsUser (length N.terms.begins) user)) }
+        ensures unknown { IfOk result (λ opening. IfNone opening
+            (IsUser (length N.terms.begins) user → ⊥)) }
         ensures legal { IfSome (book_of user self.now.books) HasLegalPage }
     {
         match self.find(user) {
-            Some(shut) => Some(shut.opening()),
-            None => None,
+            Some(shut) => Ok(Some(shut.opening(alloc)?)),
+            None => Ok(None),
         }
     }
 

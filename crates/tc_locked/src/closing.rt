@@ -1,5 +1,5 @@
 //! A hall's end: all seats become one, which knows what is tied.
-ghost use Rattle.std.specs.Prelude.{◌≡◌, ◌≢◌, ◌+◌, slice_get, Some, IfSome, IfNone, ℕ, ◌<◌, ◌≤◌, ◌++◌, ◌∷◌, [], length};
+ghost use Rattle.std.specs.Prelude.{◌≡◌, ◌≢◌, ◌+◌, slice_get, Some, IfOk, IfSome, IfNone, ℕ, ◌<◌, ◌≤◌, ◌++◌, ◌∷◌, [], length};
 ghost use Rattle.std.specs.Prelude.{slice_index, map, vec_len, vec_capacity};
 ghost use Rattle.tc_locked.specs.Views.{both_of, seat_view, book_view};
 ghost use Rattle.tc_locked.specs.Rule.{Tied, Apart};
@@ -13,8 +13,10 @@ use crate::kept::Kept;
 use crate::naming::{Naming, Shared, TableSeat};
 use crate::seat::Seat;
 use crate::view::{Compared, Together};
+use std::alloc::Global;
 use std::marker::Model;
 use std::sync::Mutex;
+use tc_item::NoMemory;
 use tc_plain::{Cache, Plain};
 use tc_users::UserNo;
 
@@ -63,12 +65,12 @@ impl<C: Cache> Shut<C> {
         self.book.entry(number)
     }
 
-    /// What the page began with.
-    pub fn opening(&self) -> &Plain
-        ensures opening { result.now ≡ self.now.book.opening }
+    /// What the page began with, as lists.
+    pub fn opening(&self, alloc: Global) -> Result<Plain, NoMemory>
+        ensures opening { IfOk result (λ plain. plain ≡ self.now.book.opening) }
         ensures legal { HasLegalPage self.now.book }
     {
-        self.book.opening()
+        self.book.opening(alloc)
     }
 
     /// The entries of the page.

@@ -12,7 +12,6 @@ use crate::closing::{Shut, compare, take_books, take_seats};
 use crate::kept::Kept;
 use crate::locking::{TRIES, lock_soon};
 use crate::naming::{HallTable, Naming};
-use crate::old_opening::let_go;
 use crate::receipt::Receipt;
 use crate::seat::Seat;
 use std::alloc::Global;
@@ -99,7 +98,7 @@ impl<C: Cache, N: Naming> Hall<C, N> {
             // A lock doesn't know which place it has. No hall is made so.
             return Err(CallFault::Worn);
         }
-        let Called { slip, old_opening } = kept.call(
+        let Called { slip, left } = kept.call(
             alloc,
             &self.table.shared,
             seat,
@@ -109,11 +108,9 @@ impl<C: Cache, N: Naming> Hall<C, N> {
             command,
             copy,
         )?;
-        // It may be large, and others wait for the lock.
+        // What is left over may be much, and others wait for the lock.
         drop(guard);
-        if let Some(opening) = old_opening {
-            let_go(opening);
-        }
+        drop(left);
         Ok(Receipt {
             user,
             slip,

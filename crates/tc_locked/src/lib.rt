@@ -33,8 +33,6 @@ mod kept;
 mod locking;
 pub mod naming;
 mod noting;
-mod old_entries;
-mod old_opening;
 mod opening;
 mod receipt;
 mod replay;

@@ -19,3 +19,4 @@ pub mod Awake
 pub mod Joined
 pub mod Copies
 pub mod Frozen
+pub mod Snapshots

@@ -28,6 +28,7 @@ ghost use Rattle.tc_partition.specs.Delayed.{settled_in, waits_by};
 
 use crate::freezing::replay;
 use crate::slot_cache::SlotCache;
+use crate::snapshot::SlotSnapshot;
 use std::alloc::Global;
 use std::hash::RandomState;
 use std::marker::Model;
@@ -167,6 +168,8 @@ impl Fast {
 }
 
 impl Cache for Fast {
+    type Snapshot = SlotSnapshot;
+
     ghost settled = { settled_in };
 
     /// Does one command, at this moment or at the cache's own where that is later. A refusal
@@ -235,5 +238,12 @@ impl Cache for Fast {
             last: self.cache.last,
             counters: self.cache.counters,
         })
+    }
+    fn snapshot(&mut self, alloc: Global) -> Result<SlotSnapshot, NoMemory> {
+        self.take_snapshot(alloc)
+    }
+
+    fn prepare(&mut self, alloc: Global, snapshot: &mut SlotSnapshot) -> Result<(), NoMemory> {
+        self.prepare_snapshot(alloc, snapshot)
     }
 }

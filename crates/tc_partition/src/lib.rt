@@ -9,7 +9,8 @@
 //!
 //! Lowest first: `parts` are steps on index, entries, lists and wheel; `Slots` joins these four;
 //! `LiveSlots` adds what else look-ups touch, `SlotCache` the rest of a user's cache, with each
-//! command done at once; `Fast` adds what waits. `freezing` does what waits to a copy.
+//! command done at once; `Fast` adds what waits. `freezing` does what waits to a copy. `snapshot` keeps
+//! by slot what a `Fast` stood for at some call, and brings that up to what it stands for.
 //!
 //! Nothing is said of time and of memory taken, nor that a call succeeds.
 #![tactic(auto)]
@@ -23,6 +24,8 @@ mod parts;
 mod reading;
 mod slot_cache;
 mod slots;
+mod snapshot;
 mod work;
 
 pub use fast::Fast;
+pub use snapshot::{Changes, SlotSnapshot};

@@ -1,5 +1,6 @@
 //! Steps on index, entries, lists and wheel, each of which is told what it needs of the others.
-ghost use Rattle.std.specs.Prelude.{◌≡◌, ℕ, IfOk, OnOk, IsSome, length, option_to_list, ◌++◌, ◌<◌, ◌≤◌, Some, None};
+ghost use Rattle.std.specs.Prelude.{◌≡◌, ℕ, true, IfOk, OnOk, IsSome, length, option_to_list, ◌++◌, ◌<◌, ◌≤◌, Some, None};
+ghost use Rattle.std.specs.Option.{option_copied};
 ghost use Rattle.std.specs.Str.{bytes_eq};
 ghost use Rattle.indexmap.specs.IndexMap.{get as index_get, spare};
 ghost use Rattle.slab.specs.Slab.{get as slab_get, slab_len, HasRoomFor};
@@ -10,8 +11,10 @@ ghost use Rattle.tc_wheel.specs.Dues.{due_at};
 ghost use Rattle.tc_partition.specs.Copied.{entries_at};
 ghost use Rattle.tc_partition.specs.Agreement.{set_at, due_by};
 ghost use Rattle.tc_partition.specs.Held.{seen_by, IsVacated, IsTaken, HasRoom};
+ghost use Rattle.tc_partition.specs.Snapshots.{at_slots, with_changes};
 
 use crate::reading::have_read;
+use crate::snapshot::Change;
 use indexmap::IndexMap;
 use slab::Slab;
 use std::alloc::Global;
@@ -228,4 +231,78 @@ pub fn copy_at(alloc: Global, entries: &Slab<Entry>, slots: &[Slot]) -> Result<V
         add_copy(alloc, entries, slot, &mut copied)?;
     }
     Ok(copied)
+}
+
+/// Whether two slots are known to hold the same.
+fn hold_same(held: Option<&Entry>, shown: Option<&Entry>) -> bool
+    ensures { result ≡ true → option_copied held.entry ≡ option_copied shown.entry }
+{
+    match (held, shown) {
+        (None, None) => true,
+        (Some(held), Some(shown)) => held.is_as(shown),
+        (Some(_), None) | (None, Some(_)) => false,
+    }
+}
+
+/// A copy of what a slot holds, over the same data.
+fn copy_held(alloc: Global, held: Option<&Entry>) -> Result<Option<Entry>, NoMemory>
+    ensures { IfOk result (λ copy. copy ≡ option_copied held.entry) }
+{
+    match held {
+        Some(entry) => Ok(Some(entry.copy(alloc)?)),
+        None => Ok(None),
+    }
+}
+
+/// Adds what is to change at a slot, so that it shows what is held there, if anything is.
+fn compare_at(
+    alloc: Global,
+    entries: &Slab<Entry>,
+    shown: &[Option<Entry>],
+    slot: usize,
+    changes: &mut Vec<Change>,
+) -> Result<(), NoMemory>
+    requires within { slot < length shown.now }
+    requires before { at_slots (with_changes changes.old.items shown.now) slot
+        ≡ at_slots shown.now slot }
+    ensures { OnOk result ((n : ℕ) → at_slots (with_changes changes.new.items shown.now) n
+        ≡ set_at slot (slab_get entries.now slot)
+        (at_slots (with_changes changes.old.items shown.now)) n) }
+{
+    let held = entries.get(slot);
+    if !hold_same(held, shown[slot].as_ref()) {
+        let entry = copy_held(alloc, held)?;
+        changes.push(Change { slot, entry })?;
+    }
+    Ok(())
+}
+
+/// What is to change, so that each slot shows what is held there.
+pub fn compare_all(
+    alloc: Global,
+    entries: &Slab<Entry>,
+    shown: &[Option<Entry>],
+) -> Result<Vec<Change>, NoMemory>
+    requires { (n : ℕ) → length shown.now ≤ n → slab_get entries.now n ≡ None }
+    ensures { IfOk result (λ changes. (n : ℕ)
+        → at_slots (with_changes changes.items shown.now) n ≡ slab_get entries.now n) }
+{
+    let mut changes = Vec::new(alloc);
+    for slot in 0..shown.len() {
+        compare_at(alloc, entries, shown, slot, &mut changes)?;
+    }
+    Ok(changes)
+}
+
+/// Shows so many slots at least; those that come hold nothing.
+pub fn show_more(shown: &mut Vec<Option<Entry>>, slots: usize) -> Result<(), NoMemory>
+    ensures kept { (n : ℕ) → at_slots shown.new.items n ≡ at_slots shown.old.items n }
+    ensures long { OnOk result (slots ≤ length shown.new.items) }
+{
+    let more = slots.saturating_sub(shown.len());
+    shown.reserve_exact(more)?;
+    for _slot in 0..more {
+        shown.push(None)?;
+    }
+    Ok(())
 }

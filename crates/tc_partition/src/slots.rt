@@ -27,13 +27,15 @@ ghost use Rattle.tc_plain.specs.EvictionState.{held, kept, no_entries, entries_o
 ghost use Rattle.tc_plain.specs.Placing.{without_key, at_front};
 ghost use Rattle.tc_plain.specs.declared.entry.Entry.{Entry};
 ghost use Rattle.tc_sketch.specs.Sketch.{hash};
-ghost use Rattle.tc_partition.specs.Agreement.{entry_or};
+ghost use Rattle.tc_partition.specs.Agreement.{entry_or, areas_by, stray};
 ghost use Rattle.tc_partition.specs.Held.{filled, IsFound, FindsSlot, DropsEntry};
+ghost use Rattle.tc_partition.specs.Snapshots.{at_slots, with_changes};
 
 use crate::parts::{
-    copy_at, drop_next, grow, put, put_due, reached, reached_by, take_in, take_out, time, vacate,
-    weight_at,
+    compare_all, copy_at, drop_next, grow, put, put_due, reached, reached_by, show_more, take_in,
+    take_out, time, vacate, weight_at,
 };
+use crate::snapshot::Change;
 use indexmap::IndexMap;
 use slab::Slab;
 use std::alloc::Global;
@@ -417,5 +419,34 @@ impl Slots {
             probation,
             protected,
         })
+    }
+    /// What is to change, so that each slot of a snapshot shows what is held there. The snapshot gets
+    /// slots that it lacks, which hold nothing.
+    pub fn compare(
+        &self,
+        alloc: Global,
+        shown: &mut Vec<Option<Entry>>,
+    ) -> Result<Vec<Change>, NoMemory>
+        ensures kept { (n : ℕ) → at_slots shown.new.items n ≡ at_slots shown.old.items n }
+        ensures changes { IfOk result (λ changes. (n : ℕ)
+            → at_slots (with_changes changes.items shown.new.items) n
+            ≡ at_slots self.now.slots n) }
+    {
+        let _ = &self.index;
+        show_more(shown, self.wheel.slots())?;
+        compare_all(alloc, &self.entries, shown)
+    }
+
+    /// The lists of slots, copied in one piece.
+    pub fn copy_lists(&self, alloc: Global) -> Result<Lists, NoMemory>
+        ensures limits { IfOk result (λ lists. lists.limits ≡ self.now.limits) }
+        ensures areas { IfOk result (λ lists. areas_by (at_slots self.now.slots) lists.areas
+            ≡ self.now.areas) }
+        ensures weighed { IfOk result (λ lists. total (stray (at_slots self.now.slots)) lists.areas
+            ≡ 0) }
+    {
+        let _ = &self.index;
+        let lists = self.lists.copy(alloc)?;
+        Ok(lists)
     }
 }

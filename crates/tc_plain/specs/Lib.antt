@@ -10,3 +10,4 @@ pub mod Freshness
 pub mod Soundness
 pub mod AreaLists
 pub mod Plans
+pub mod Snapshots

@@ -28,6 +28,7 @@ mod offers;
 mod plain;
 mod plans;
 mod settling;
+mod snapshot;
 
 pub use areas::Areas;
 pub use cache::Cache;
@@ -41,3 +42,4 @@ pub use limits::Limits;
 pub use offers::{Bid, Draft, offer};
 pub use plain::Plain;
 pub use plans::{Plan, plan_count, plan_item};
+pub use snapshot::{PlainSnapshot, Snapshot};

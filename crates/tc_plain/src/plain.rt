@@ -11,7 +11,7 @@ use crate::commands::{Commands, act};
 use crate::end::End;
 use crate::offers::{Bid, offer};
 use crate::plans::{Plan, plan_count, plan_item};
-use crate::{Areas, Cache, EvictionState, Limits};
+use crate::{Areas, Cache, EvictionState, Limits, PlainSnapshot};
 use std::alloc::Global;
 use std::marker::Model;
 use tc_grammar::{Command, Head, Way};
@@ -267,6 +267,8 @@ impl Commands for Plain {
 }
 
 impl Cache for Plain {
+    type Snapshot = PlainSnapshot;
+
     ghost settled = { λ p. p };
 
     fn act(
@@ -284,5 +286,18 @@ impl Cache for Plain {
 
     fn freeze(&self, alloc: Global) -> Result<Plain, NoMemory> {
         self.copy(alloc)
+    }
+
+    fn snapshot(&mut self, alloc: Global) -> Result<PlainSnapshot, NoMemory> {
+        Ok(PlainSnapshot {
+            shown: self.copy(alloc)?,
+            next: None,
+        })
+    }
+
+    fn prepare(&mut self, alloc: Global, snapshot: &mut PlainSnapshot) -> Result<(), NoMemory> {
+        let next = self.copy(alloc)?;
+        snapshot.next = Some(next);
+        Ok(())
     }
 }

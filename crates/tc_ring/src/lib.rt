@@ -5,8 +5,8 @@
 //! n + `MARKS`. A node takes 8 bytes, for its links of 32 bits each, and what is noted of its slot.
 //!
 //! `Ring` meets the links of `tc_model/specs/Ring.antt`. Callers see three lists by node, `next`, `prev`
-//! and `notes` (`specs/Links.antt`); the contracts are the equations of that file. Only `new` and
-//! `reserve` take memory. Nothing is said of which nodes are linked: that is what callers prove.
+//! and `notes` (`specs/Links.antt`); the contracts are the equations of that file. Only `new`,
+//! `copy` and `reserve` take memory. Nothing is said of which nodes are linked: that is what callers prove.
 #![tactic(auto)]
 
 mod ring;

@@ -57,6 +57,14 @@ impl<N: Copy, const MARKS: usize> Ring<N, MARKS> {
         Ok(ring)
     }
 
+    /// Equal nodes, of their own.
+    pub fn copy(&self, alloc: Global) -> Result<Ring<N, MARKS>, NoMemory>
+        ensures { IfOk result (λ ring. ring ≡ self.now) }
+    {
+        let nodes = Vec::from_slice(alloc, self.nodes.as_slice())?;
+        Ok(Ring { nodes })
+    }
+
     /// Room for all slots below this, which is refused beyond 2^32 nodes. A refusal changes nothing.
     pub fn reserve(&mut self, slots: usize, free: N) -> Result<(), NoMemory>
         ensures nodes { self.new ≡

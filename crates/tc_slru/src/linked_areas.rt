@@ -86,6 +86,17 @@ impl LinkedAreas {
         })
     }
 
+    /// Equal lists, of their own.
+    pub fn copy(&self, alloc: Global) -> Result<LinkedAreas, NoMemory>
+        ensures { IfOk result (λ l. l ≡ self.now) }
+    {
+        let nodes = self.nodes.copy(alloc)?;
+        Ok(LinkedAreas {
+            nodes,
+            sizes: self.sizes,
+        })
+    }
+
     /// Room for all slots below this. A refusal changes nothing.
     pub fn reserve(&mut self, slots: usize) -> Result<(), NoMemory>
         ensures reserved { self.new

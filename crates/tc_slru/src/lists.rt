@@ -58,6 +58,16 @@ impl Lists {
         })
     }
 
+    /// Equal lists, of their own, copied in one piece.
+    pub fn copy(&self, alloc: Global) -> Result<Lists, NoMemory>
+        ensures { IfOk result (λ l. l ≡ self.now) }
+    {
+        Ok(Lists {
+            limits: self.limits,
+            areas: self.areas.copy(alloc)?,
+        })
+    }
+
     /// Room for all slots below `slots`; never less than there was. A refusal changes nothing.
     pub fn reserve(&mut self, slots: usize) -> Result<(), NoMemory>
         ensures reserved { self.new

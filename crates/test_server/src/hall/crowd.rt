@@ -26,6 +26,8 @@ pub fn four_threads<
     N: Naming + Send + Sync,
     R: Threads + Wait + Abort + Sync,
 >(rt: &R, alloc: Global, hall: Hall<C, N>, seats: Vec<Seat<N>>, all: usize) -> Result<(), Fail>
+where
+    C::Snapshot: Send + Sync,
     requires { all ≡ N.terms.seats }
 {
     let seats = call_by_four(rt, alloc, &hall, seats)?;
@@ -40,7 +42,10 @@ fn call_by_four<C: Cache + Send + Sync, N: Naming + Send + Sync, R: Threads + Wa
     alloc: Global,
     hall: &Hall<C, N>,
     seats: Vec<Seat<N>>,
-) -> Result<Vec<Seat<N>>, Fail> {
+) -> Result<Vec<Seat<N>>, Fail>
+where
+    C::Snapshot: Send + Sync,
+{
     let set = set(alloc, b"abc")?;
     let called = thread::map_vec(
         rt,
@@ -96,7 +101,10 @@ pub fn eight_threads<
     C: Cache + Send + Sync,
     N: Naming + Send + Sync,
     R: Threads + Wait + Abort + Sync,
->(rt: &R, alloc: Global, hall: Hall<C, N>, seats: Vec<Seat<N>>) -> Result<(), Fail> {
+>(rt: &R, alloc: Global, hall: Hall<C, N>, seats: Vec<Seat<N>>) -> Result<(), Fail>
+where
+    C::Snapshot: Send + Sync,
+{
     let commands = five_commands(alloc)?;
     let works = beside_a_keeper(rt, alloc, &hall, seats, &commands)?;
     close_with_works(rt, alloc, hall, works, &commands)
@@ -122,7 +130,10 @@ fn beside_a_keeper<
     hall: &Hall<C, N>,
     seats: Vec<Seat<N>>,
     commands: &[Command],
-) -> Result<Vec<Work<N>>, AllocError> {
+) -> Result<Vec<Work<N>>, AllocError>
+where
+    C::Snapshot: Send + Sync,
+{
     let (works, ()) = thread::join(
         rt,
         || call_in_threads(rt, alloc, hall, seats, commands),
@@ -141,7 +152,10 @@ fn call_in_threads<
     hall: &Hall<C, N>,
     seats: Vec<Seat<N>>,
     commands: &[Command],
-) -> Result<Vec<Work<N>>, AllocError> {
+) -> Result<Vec<Work<N>>, AllocError>
+where
+    C::Snapshot: Send + Sync,
+{
     thread::map_vec(
         rt,
         seats,

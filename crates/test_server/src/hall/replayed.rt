@@ -17,9 +17,9 @@ pub fn has_page<C: Cache, N: Naming>(
     entries: usize,
 ) -> Result<bool, Fail> {
     let user = UserNo::new(user);
-    match (closed.opening(user), closed.page(user)) {
+    match (closed.opening(alloc, user)?, closed.page(user)) {
         (Some(opening), Some(page)) => {
-            Ok(page.len() == entries && replays(alloc, opening, page)?.is_none())
+            Ok(page.len() == entries && replays(alloc, &opening, page)?.is_none())
         }
         _ => Ok(false),
     }

@@ -4,4 +4,4 @@ use Rattle.tc_locked.proofs.Books.{legal_page}
 use Rattle.tc_locked.proofs.book.Book.opening.Goals as goal
 
 pub returns-clause-legal : goal.returns-clause-legal
-returns-clause-legal g c = subst HasLegalPage c.self.view_is (legal_page _ c.self.invariant)
+returns-clause-legal g c = subst HasLegalPage c.self.view_is (legal_page _ c.self.invariant.0)

@@ -1,9 +1,19 @@
-use Rattle.std.proofs.Common.{Some, None, ◌≡◌, ◌<◌, ◌==◌, ℕ, List, false, get_or, sym, ap, ◌∙◌, subst, take, length}
+use Rattle.std.proofs.Common.{Some, None, ◌≡◌, ◌≢◌, ◌⊎◌, inl, inr, true, ◌<◌, ◌==◌, ℕ, List, false, get_or, sym, ap, ◌∙◌, subst, take, length}
 use Rattle.std.specs.Prelude.{All}
-use Rattle.std.proofs.lemmas.List.{take_all}
+use Rattle.std.proofs.lemmas.List.{take_all, take_more}
+use Rattle.std.proofs.lemmas.List.Elements.{All-push}
+use Rattle.std.proofs.lemmas.Bool.Decides.{eqb_tells}
+use Rattle.std.proofs.Math.Dec.{eqb}
 use Rattle.tc_locked.specs.Closing.{ClosedState, ShutState, IsBookOf, HasUser, with_logs, book_of}
 use Rattle.tc_locked.proofs.ClosedHalls.{book_found, none_found, book_of-found, book_of-none, user_known}
 use Rattle.tc_locked.proofs.closed.Closed.find.Goals as goal
+
+eqb-apart : (a b : ℕ) → a ≢ b → eqb a b ≡ false
+eqb-apart a b apart = go (eqb_tells a b)
+  where
+    go : ((eqb a b ≡ true) × (a ≡ b)) ⊎ ((eqb a b ≡ false) × (a ≢ b)) → eqb a b ≡ false
+    go (inl h) = absurd (apart h.1)
+    go (inr h) = h.0
 
 pub returns-then-user-number-clause-some : goal.returns-then-user-number-clause-some
 returns-then-user-number-clause-some g c =
@@ -60,3 +70,12 @@ returns-clause-none g c =
     (take_all c.loop-shut.shut-index c.deref-shut-items.result.now c.loop-shut-test.false ∙ e) c.loop-shut.invariant)
     (subst (λ (u : ℕ). HasUser u (with_logs c.self.inside.books.items c.self.inside.all.me.0.books)) (sym c.number-number.ensures)
     (c.self.invariant.3 c.args.user is))
+
+pub loop-shut-preserved : goal.loop-shut-preserved
+loop-shut-preserved g c =
+    let xs = c.deref-shut-items.result.now in
+    let i = c.loop-shut.shut-index in
+    let x = c.shut-item.result in
+    let P = λ (s : ShutState). (s.user == c.number-number.result) ≡ false in
+    subst (All P) (sym (take_more xs i x c.loop-shut-test.true)) (All-push P (take i xs) (get_or xs i x) c.loop-shut.invariant
+    (subst P c.shut-item.is (eqb-apart _ _ (λ same. c.if-user-number.false (c.user.ensures ∙ same)))))
