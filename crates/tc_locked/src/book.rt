@@ -75,7 +75,8 @@ fn put(entries: &mut Vec<Entry>, used: usize, entry: Entry)
     requires within { used ≤ length entries.old.items }
     requires room { length entries.old.items ≤ used
         → vec_len entries.old < vec_capacity entries.old }
-    ensures entries { take (used + 1) entries.new.items ≡ take used entries.old.items ++ entry ∷ [] }
+    ensures entries { take (used + 1) entries.new.items
+        ≡ take used entries.old.items ++ entry ∷ [] }
     ensures within { used + 1 ≤ length entries.new.items }
 {
     if used < entries.len() {

@@ -151,6 +151,7 @@ shown_same slots others s h = ap (λ (k : UserCache). advance k s.moment) (base_
 -- what is advanced stays sound
 pub advanced_sound : (k : UserCache) (m : ℕ) → IsSound k → IsSound (advance k m)
 advanced_sound k m h =
-    sound_with k (advanced k.live m) h (limits-at_moment (max k.live.moment m) k.live) (width-at_moment (max k.live.moment m) k.live)
+    sound_with k (advanced k.live m) h (limits-at_moment (max k.live.moment m) k.live)
+    (width-at_moment (max k.live.moment m) k.live)
     (subst (λ (t : Limits). AreSound t (advanced k.live m).areas) (limits-at_moment (max k.live.moment m) k.live)
     (sound_come k.live m h.areas))

@@ -1,4 +1,5 @@
-use Rattle.std.proofs.Common.{Some, None, ◌≡◌, ◌≢◌, ◌⊎◌, inl, inr, true, ◌<◌, ◌==◌, ℕ, List, false, get_or, sym, ap, ◌∙◌, subst, take, length}
+use Rattle.std.proofs.Common.{Some, None, ◌≡◌, ◌≢◌, ◌⊎◌, inl, inr, true, ◌<◌, ◌==◌, ℕ, List, false, get_or, sym, ap, ◌∙◌, subst}
+use Rattle.std.proofs.Common.{take, length}
 use Rattle.std.specs.Prelude.{All}
 use Rattle.std.proofs.lemmas.List.{take_all, take_more}
 use Rattle.std.proofs.lemmas.List.Elements.{All-push}

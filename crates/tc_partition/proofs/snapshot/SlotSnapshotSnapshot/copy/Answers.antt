@@ -19,7 +19,7 @@ invariant_of-result c =
     let sketch = c.in_ok-copy.ensures in
     let live : live_of c.advance.new.self ≡ advanced base.live s.moment =
     c.advance.ensures.live
-    ∙ (λ i. advanced (record { limits = limits i; areas = areas i; sketch = sketch i; flush = s.flush; moment = s.base }) s.moment)
-    in
+    ∙ (λ i. advanced
+    (record { limits = limits i; areas = areas i; sketch = sketch i; flush = s.flush; moment = s.base }) s.moment) in
     subst (λ (l : EvictionState). IsSound (with_live base l)) (sym live)
     (advanced_sound base s.moment c.self.invariant.now.sound)
