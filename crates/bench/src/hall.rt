@@ -118,10 +118,7 @@ fn call_in_threads<C: Cache + Send + Sync, N: Naming + Send + Sync, R: Threads +
     seats: Vec<Seat<N>>,
     commands: &[Command],
     rounds: u32,
-) -> Result<Vec<Tally>, AllocError>
-where
-    C::Snapshot: Send + Sync,
-{
+) -> Result<Vec<Tally>, AllocError> {
     thread::map_vec(
         rt,
         seats,
@@ -147,10 +144,7 @@ fn time_calls<C: Cache + Send + Sync, N: Naming + Send + Sync, R: Threads + Wait
     mut seats: Vec<Seat<N>>,
     commands: &[Command],
     pages: Pages,
-) -> Result<Spent, Fault>
-where
-    C::Snapshot: Send + Sync,
-{
+) -> Result<Spent, Fault> {
     store_all(threads, rt.alloc(), hall, &mut seats, pages.items)?;
     let start = Instant::now(rt)?;
     let tallies = call_in_threads(threads, rt.alloc(), hall, seats, commands, pages.rounds)?;
@@ -175,8 +169,6 @@ fn call_hall<C: Cache + Send + Sync, N: Naming + Send + Sync, R: Threads + Wait 
     begun: (Opened, Vec<C>),
     asked: Asked,
 ) -> Result<Spent, Fault>
-where
-    C::Snapshot: Send + Sync,
     requires name { begun.0 ≡ N.table }
     requires begins { N.terms.begins ≡ map fresh_cache asked.users.now }
     requires caches { map C.settled begun.1.items ≡ map fresh_cache asked.users.now }
@@ -206,10 +198,7 @@ fn call_users<C: Kind + Send + Sync, R: Threads + Wait + Sync>(
     rt: &HostRuntime,
     threads: &R,
     asked: Asked,
-) -> Result<Spent, Fault>
-where
-    C::Snapshot: Send + Sync,
-{
+) -> Result<Spent, Fault> {
     if asked.shape.threads == 0 || asked.pages.journal == 0 {
         return Err(Fault::Unfit);
     }

@@ -12,7 +12,6 @@ use tc_grammar::Command;
 use tc_item::{Blob, LARGEST_BUDGET, Moment, NoMemory, RECORD_WEIGHT, SMALLEST_BUDGET};
 use tc_kinds::Kind;
 use tc_partition::Fast;
-use tc_plain::Snapshot;
 
 /// How many look-ups wait at most.
 const WAITING: u32 = 128;

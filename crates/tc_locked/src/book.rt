@@ -19,7 +19,7 @@ use tc_plain::{Cache, Plain, Snapshot};
 /// A cache and the calls that it did since its page began, seen as its state. It is always legal.
 #[derive(Drop)]
 pub struct Book<C: Cache> {
-    opening: C::Snapshot,
+    opening: Snapshot,
     /// The entries of the page, and behind them such of the page before it as are not replaced yet.
     entries: Vec<Entry>,
     /// How many entries the page has.
@@ -33,12 +33,13 @@ pub struct Book<C: Cache> {
 
 impl<C: Cache> Model for Book<C> {
     ghost use Rattle.std.specs.Prelude.{◌≤◌, length, take};
+    ghost use Rattle.tc_plain.specs.Showing.{shown_in};
     ghost use Rattle.tc_locked.specs.Books.{BookState, IsBook};
 
     ghost Value = { BookState };
 
     ghost view = { λ b. record {
-      opening = C.Snapshot.shown b.opening;
+      opening = shown_in b.opening;
       entries = take b.used b.entries.items;
       settled = C.settled b.cache;
       moment = b.moment;
@@ -48,7 +49,7 @@ impl<C: Cache> Model for Book<C> {
     } };
 
     ghost invariant = { λ b. IsBook (record {
-      opening = C.Snapshot.shown b.opening;
+      opening = shown_in b.opening;
       entries = take b.used b.entries.items;
       settled = C.settled b.cache;
       moment = b.moment;
@@ -210,7 +211,7 @@ impl<C: Cache> Book<C> {
         conn: u32,
         command: &Command,
         kept: Command,
-    ) -> Result<Called<C>, CallFault>
+    ) -> Result<Called, CallFault>
         requires seat { seat_no < length self.old.counts }
         requires copy { kept ≡ command.now }
         requires some { 0 < length self.old.entries }
@@ -271,7 +272,7 @@ impl<C: Cache> Book<C> {
         conn: u32,
         command: &Command,
         kept: Command,
-    ) -> Result<Called<C>, CallFault>
+    ) -> Result<Called, CallFault>
         requires journal { 0 < journal }
         requires seat { seat_no < length self.old.counts }
         requires copy { kept ≡ command.now }

@@ -57,7 +57,7 @@ impl<C: Cache, N: Naming> Kept<C, N> {
         conn: u32,
         command: &Command,
         kept: Command,
-    ) -> Result<Called<C>, CallFault>
+    ) -> Result<Called, CallFault>
         requires table { (table.now.table_id ≡ N.table) × (0 < table.now.table_id.words) }
         requires journal { (journal ≡ N.terms.journal) × (0 < journal) }
         requires copy { kept ≡ command.now }

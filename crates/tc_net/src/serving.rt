@@ -164,8 +164,6 @@ pub fn serve<
     affinity: Affinity,
     until: Option<u64>,
 ) -> Result<(), Unserved>
-where
-    C::Snapshot: Send + Sync,
     requires name { beginning.opened ≡ N.table }
     requires begins { N.terms.begins ≡ map fresh_cache beginning.settings.users }
     requires seats { N.terms.seats ≡ beginning.settings.workers }
@@ -211,10 +209,7 @@ fn run<
     crew: Vec<(Worker<Socket, N>, Queue<R>)>,
     listening: Listening,
     door: &Arc<Door, Global>,
-) -> Result<(), Unserved>
-where
-    C::Snapshot: Send + Sync,
-{
+) -> Result<(), Unserved> {
     let clock = Clock::new();
     // Commands that come before the keeper's first turn are done at the right moment.
     clock.advance(moment_now(rt));

@@ -11,7 +11,8 @@ use Rattle.tc_plain.specs.declared.entry.Entry.{Entry}
 use Rattle.tc_plain.specs.EvictionState.{no_entries}
 use Rattle.tc_slru.specs.SlotLists.{SlotLists, cleared}
 use Rattle.tc_wheel.specs.Dues.{Dues, due_at, cleared as untimed}
-use Rattle.tc_partition.specs.Agreement.{areas_by, Agree}
+use Rattle.tc_partition.specs.Agreement.{Agree}
+use Rattle.tc_plain.specs.BySlot.{areas_by}
 use Rattle.tc_partition.specs.Held.{room_in, AreWithin}
 use Rattle.tc_partition.proofs.Kept.{fresh_filled}
 use Rattle.tc_partition.proofs.Moves.{room_parts, room_whole}

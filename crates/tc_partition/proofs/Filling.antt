@@ -12,8 +12,10 @@ use Rattle.tc_plain.specs.declared.entry.Entry.{Entry}
 use Rattle.tc_plain.specs.Entries.{weight, has_key}
 use Rattle.tc_plain.specs.Placing.{without_key, at_front}
 use Rattle.tc_slru.specs.Slots.{Placed, placed, is_slot, without_slot}
-use Rattle.tc_partition.specs.Agreement.{set_at, set_key, key_of, count_of, at_slot, stray, stray_by, entry_at, entry_or}
-use Rattle.tc_partition.specs.Agreement.{areas_by, due_by, wheel_due, Agree}
+use Rattle.tc_partition.specs.Agreement.{set_at, set_key, key_of, count_of, at_slot}
+use Rattle.tc_plain.specs.BySlot.{stray, stray_by, entry_at, entry_or}
+use Rattle.tc_partition.specs.Agreement.{due_by, wheel_due, Agree}
+use Rattle.tc_plain.specs.BySlot.{areas_by}
 use Rattle.tc_partition.proofs.Away.{three, three_same, areas_away, total-stray_away}
 use Rattle.tc_partition.proofs.OneSlot.{IsLess}
 

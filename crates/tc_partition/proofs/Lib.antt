@@ -17,6 +17,5 @@ pub mod Draining
 pub mod Sought
 pub mod Awake
 pub mod Joined
-pub mod Copies
 pub mod Frozen
 pub mod Snapshots

@@ -19,7 +19,8 @@ use Rattle.tc_plain.specs.Placing.{without_key, at_front}
 use Rattle.tc_slru.specs.Slots.{Placed, weigh, holds, without_slot}
 use Rattle.tc_slru.specs.SlotLists.{SlotLists, pushed, removed}
 use Rattle.tc_wheel.specs.Dues.{Dues, due_at, removed as untimed_at}
-use Rattle.tc_partition.specs.Agreement.{set_at, key_of, stray, stray_by, entry_at, entry_or, areas_by, due_by, Agree}
+use Rattle.tc_partition.specs.Agreement.{set_at, key_of, due_by, Agree}
+use Rattle.tc_plain.specs.BySlot.{stray, stray_by, entry_at, entry_or, areas_by}
 use Rattle.tc_partition.specs.Held.{Held, room_in, HasRoom, IsVacated, IsTaken, IsFound, FindsSlot, AreWithin}
 use Rattle.tc_partition.proofs.Away.{not_held}
 use Rattle.tc_partition.proofs.OneSlot.{IsLess, without_slot_less, is_held}

@@ -1,7 +1,7 @@
 -- What slots hold after changes, and what a snapshot shows where its slots hold the same.
-use Rattle.std.specs.Prelude.{max, IsSome, slice_set, leb, Bool, true, false, cond}
+use Rattle.std.specs.Prelude.{IsSome, slice_set, leb, Bool, true, false, cond}
 use Rattle.std.proofs.Common.{◌≡◌, ◌≢◌, ℕ, zero, suc, ◌+◌, ◌<◌, ◌≤◌, List, [], ◌∷◌, ◌++◌, length, Option, Some, None, refl, sym}
-use Rattle.std.proofs.Common.{◌∙◌, ap, subst, arith, drop, get_or}
+use Rattle.std.proofs.Common.{◌∙◌, ap, subst, arith}
 use Rattle.std.proofs.Common.{◌⊎◌, inl, inr}
 use Rattle.std.proofs.Math.Dec.{eqb}
 use Rattle.std.proofs.lemmas.List.{length-set, get_or-set_same, get_or-set_other}
@@ -9,20 +9,10 @@ use Rattle.std.proofs.lemmas.Bool.{leb-true, leb-false, eq-eqb}
 use Rattle.std.proofs.lemmas.Bool.Decides.{eqb_tells}
 use mathlib.Core.Logic.{dite}
 use native.Mathlib.Decide.{ℕ_discrete}
-use Rattle.tc_model.specs.Areas.{total}
 use Rattle.tc_plain.specs.declared.entry.Entry.{Entry}
-use Rattle.tc_model.specs.Areas.{Limits}
-use Rattle.tc_plain.specs.UserCache.{UserCache, advance}
-use Rattle.tc_plain.specs.EvictionState.{advanced}
-use Rattle.tc_plain.specs.Soundness.{AreSound, IsSound}
-use Rattle.tc_plain.proofs.Advances.{limits-at_moment}
-use Rattle.tc_plain.proofs.Stays.{sound_with}
-use Rattle.tc_plain.proofs.Widths.{width-at_moment}
-use Rattle.tc_partition.specs.Agreement.{set_at, areas_by, stray}
-use Rattle.tc_partition.specs.declared.snapshot.Change.{Change}
-use Rattle.tc_partition.specs.declared.snapshot.Shell.{Shell}
-use Rattle.tc_partition.specs.Snapshots.{at_slots, with_changes, base_by, shown_by, AreShown}
-use Rattle.tc_partition.proofs.Draining.{sound_come}
+use Rattle.tc_partition.specs.Agreement.{set_at}
+use Rattle.tc_plain.specs.declared.slot_snapshot.Change.{Change}
+use Rattle.tc_plain.specs.Snapshots.{at_slots, with_changes}
 
 -- ---- a function with another value at a slot
 set_same : (s : ℕ) (f : ℕ → Option Entry) (o : Option Entry) → set_at s o f s ≡ o
@@ -83,15 +73,6 @@ changed_at cs c es lt n =
     ap (λ (xs : List (Option Entry)). at_slots xs n) (changes_push cs c es)
     ∙ at_set (with_changes cs es) c.slot c.entry (let same = changes_length cs es in omega (arith, lt, same)) n
 
--- the change at an index is made, and what was there stands in it
-pub swapped_more : (cs : List Change) (i : ℕ) (c d x : Change) (es all : List (Option Entry)) → i < length cs
-    → get_or cs i d ≡ c → with_changes (drop i cs) es ≡ all
-    → with_changes (drop (suc i) (slice_set cs i x)) (slice_set es c.slot c.entry) ≡ all
-swapped_more [] i c d x es all lt is h = absurd (omega (arith, lt))
-swapped_more (y ∷ cs) zero c d x es all lt is h =
-    ap (λ (k : Change). with_changes cs (slice_set es k.slot k.entry)) (sym is) ∙ h
-swapped_more (y ∷ cs) (suc i) c d x es all lt is h = swapped_more cs i c d x es all (omega (arith, lt)) is h
-
 -- the slots below a number show what is held, and the others what they showed
 abbrev pub AreCompared : ℕ → (ℕ → Option Entry) → (ℕ → Option Entry) → (ℕ → Option Entry) → Type 0
 AreCompared i held shown now = (n : ℕ) → (n < i → now n ≡ held n) × (i ≤ n → now n ≡ shown n)
@@ -118,40 +99,3 @@ compared_all i held now es h all none n = go (leb i n) refl
         let le : i ≤ n = leb-true i n e in
         (h n).1 le ∙ at_end es n (omega (arith, le, all)) ∙ sym (none n (omega (arith, le, all)))
     go false e = (h n).0 (leb-false i n e)
-
--- ---- what is shown
-pub base_same : (slots others : List (Option Entry)) (s : Shell) → ((n : ℕ) → at_slots slots n ≡ at_slots others n)
-    → base_by slots s ≡ base_by others s
-base_same slots others s h = λ i. record {
-  budget = s.budget;
-  largest = s.largest;
-  live = record {
-    limits = s.lists.limits;
-    areas = areas_by (λ n. h n i) s.lists.areas;
-    sketch = s.sketch;
-    flush = s.flush;
-    moment = s.base;
-  };
-  last = s.last;
-  counters = s.counters;
-}
-
--- a snapshot of a sound cache, whose slots show what is held
-pub shown_areas : (slots others : List (Option Entry)) (s : Shell) → ((n : ℕ) → at_slots slots n ≡ at_slots others n)
-    → AreShown others s → AreShown slots s
-shown_areas slots others s h good = record {
-  sound = subst IsSound (sym (base_same slots others s h)) good.sound;
-  weighed = ap (λ (S : ℕ → Option Entry). total (stray S) s.lists.areas) (λ i n. h n i) ∙ good.weighed;
-}
-
-pub shown_same : (slots others : List (Option Entry)) (s : Shell) → ((n : ℕ) → at_slots slots n ≡ at_slots others n)
-    → shown_by slots s ≡ shown_by others s
-shown_same slots others s h = ap (λ (k : UserCache). advance k s.moment) (base_same slots others s h)
-
--- what is advanced stays sound
-pub advanced_sound : (k : UserCache) (m : ℕ) → IsSound k → IsSound (advance k m)
-advanced_sound k m h =
-    sound_with k (advanced k.live m) h (limits-at_moment (max k.live.moment m) k.live)
-    (width-at_moment (max k.live.moment m) k.live)
-    (subst (λ (t : Limits). AreSound t (advanced k.live m).areas) (limits-at_moment (max k.live.moment m) k.live)
-    (sound_come k.live m h.areas))

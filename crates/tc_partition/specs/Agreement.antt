@@ -1,6 +1,6 @@
 -- How index, entries, lists and wheel agree, each seen as a function: a slot by key,
 -- an entry by slot, a due by slot. Source: this project's own.
-use Rattle.std.specs.Prelude.{◌≡◌, ℕ, ◌==◌, nat_lt, cond, List, [], Option, Some, None, option_map}
+use Rattle.std.specs.Prelude.{◌≡◌, ℕ, ◌==◌, nat_lt, cond, List, Option, Some, None, option_map}
 use Rattle.std.specs.Str.{bytes_eq}
 use Rattle.tc_model.specs.Areas.{Areas, total}
 use Rattle.tc_item.specs.Bounds.{moment_limit}
@@ -8,9 +8,8 @@ use Rattle.tc_item.specs.declared.moment.Due.{Due}
 use Rattle.tc_item.specs.declared.moment.Due.TheVariants.{Never, At}
 use Rattle.tc_item.specs.declared.slot.Slot.{Slot}
 use Rattle.tc_plain.specs.declared.entry.Entry.{Entry}
-use Rattle.tc_plain.specs.Entries.{weight}
 use Rattle.tc_slru.specs.Slots.{Placed, is_slot}
-use Rattle.tc_model.specs.Mapped.{map_areas}
+use Rattle.tc_plain.specs.BySlot.{stray}
 
 -- a function with another value at a slot
 abbrev pub set_at : {A : Type 0} → ℕ → A → (ℕ → A) → ℕ → A
@@ -29,11 +28,6 @@ abbrev pub count_of : Option Entry → ℕ
 count_of None = 0
 count_of (Some e) = 1
 
--- what a slot holds; where it holds nothing, an entry of no key
-abbrev pub entry_or : Option Entry → Entry
-entry_or None = record { key = []; item = record { flags = 0; due = Never; cas = 0; blob = [] } }
-entry_or (Some e) = e
-
 -- a due as the wheel keeps it: none for one that no moment reaches
 abbrev pub due_by : Due → Option ℕ
 due_by Never = None
@@ -47,23 +41,6 @@ wheel_due (Some e) = due_by e.item.due
 -- one for each place of a slot in the lists
 abbrev pub at_slot : ℕ → Placed → ℕ
 at_slot slot p = cond (is_slot slot p) 1 0
-
--- one where a slot of the lists holds nothing, or weighs something else
-abbrev pub stray_by : ℕ → Option Entry → ℕ
-stray_by w None = 1
-stray_by w (Some e) = cond (weight e == w) 0 1
-
--- the same, of a place in the lists
-abbrev pub stray : (ℕ → Option Entry) → Placed → ℕ
-stray S p = stray_by p.weight (S p.slot)
-
--- what a place in the lists stands for
-abbrev pub entry_at : (ℕ → Option Entry) → Placed → Entry
-entry_at S p = entry_or (S p.slot)
-
--- the entries of the lists
-abbrev pub areas_by : (ℕ → Option Entry) → Areas Placed → Areas Entry
-areas_by S a = map_areas (entry_at S) a
 
 -- index, entries and wheel agree with the lists
 pub record Agree (I : List ℕ → Option Slot) (S : ℕ → Option Entry) (D : ℕ → Option ℕ) (a : Areas Placed)

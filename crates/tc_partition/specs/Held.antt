@@ -14,7 +14,8 @@ use Rattle.tc_sketch.specs.Sketch.{Sketch, freq, hash}
 use Rattle.tc_plain.specs.declared.entry.Entry.{Entry}
 use Rattle.tc_slru.specs.SlotLists.{SlotLists}
 use Rattle.tc_wheel.specs.Dues.{Dues, due_at}
-use Rattle.tc_partition.specs.Agreement.{set_at, set_key, entry_or, areas_by, Agree}
+use Rattle.tc_partition.specs.Agreement.{set_at, set_key, Agree}
+use Rattle.tc_plain.specs.BySlot.{entry_or, areas_by}
 use Rattle.tc_partition.specs.declared.slots.Slots.TheInside.{Inside}
 
 -- the entries in three lists, what each slot holds, and whether one more fits with no memory taken

@@ -5,7 +5,7 @@ use Rattle.tc_readbuf.specs.declared.noted.Noted.{Noted}
 use Rattle.tc_readbuf.specs.declared.noted.Noted.TheVariants.{Hit as HitNoted, Miss as MissNoted}
 use Rattle.tc_plain.specs.declared.entry.Entry.{Entry}
 use Rattle.tc_plain.specs.EvictionState.{EvictionState, held}
-use Rattle.tc_partition.specs.Agreement.{entry_or}
+use Rattle.tc_plain.specs.BySlot.{entry_or}
 use Rattle.tc_partition.specs.Deferred.{Note, Hit, Miss, Waiting, Lazy, peeked}
 use Rattle.tc_partition.specs.LiveSlots.{live_of}
 use Rattle.tc_partition.specs.declared.live_slots.LiveSlots.{LiveSlots}

@@ -28,13 +28,12 @@ ghost use Rattle.tc_partition.specs.Delayed.{settled_in, waits_by};
 
 use crate::freezing::replay;
 use crate::slot_cache::SlotCache;
-use crate::snapshot::SlotSnapshot;
 use std::alloc::Global;
 use std::hash::RandomState;
 use std::marker::Model;
 use tc_grammar::Command;
 use tc_item::{Moment, NoMemory};
-use tc_plain::{Cache, Plain, act};
+use tc_plain::{Cache, Plain, Snapshot, act};
 use tc_readbuf::ReadBuf;
 use tc_stats::Outcome;
 
@@ -168,8 +167,6 @@ impl Fast {
 }
 
 impl Cache for Fast {
-    type Snapshot = SlotSnapshot;
-
     ghost settled = { settled_in };
 
     /// Does one command, at this moment or at the cache's own where that is later. A refusal
@@ -239,11 +236,19 @@ impl Cache for Fast {
             counters: self.cache.counters,
         })
     }
-    fn snapshot(&mut self, alloc: Global) -> Result<SlotSnapshot, NoMemory> {
-        self.take_snapshot(alloc)
+
+    fn snapshot(&mut self, alloc: Global) -> Result<Snapshot, NoMemory> {
+        Ok(Snapshot::Slots(self.take_snapshot(alloc)?))
     }
 
-    fn prepare(&mut self, alloc: Global, snapshot: &mut SlotSnapshot) -> Result<(), NoMemory> {
-        self.prepare_snapshot(alloc, snapshot)
+    fn prepare(&mut self, alloc: Global, snapshot: &mut Snapshot) -> Result<(), NoMemory> {
+        match snapshot {
+            Snapshot::Slots(slots) => self.prepare_snapshot(alloc, slots),
+            Snapshot::Lists(_, next) => {
+                let plain = self.freeze(alloc)?;
+                *next = Some(plain);
+                Ok(())
+            }
+        }
     }
 }

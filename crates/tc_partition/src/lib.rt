@@ -28,4 +28,3 @@ mod snapshot;
 mod work;
 
 pub use fast::Fast;
-pub use snapshot::{Changes, SlotSnapshot};

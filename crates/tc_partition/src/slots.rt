@@ -27,22 +27,21 @@ ghost use Rattle.tc_plain.specs.EvictionState.{held, kept, no_entries, entries_o
 ghost use Rattle.tc_plain.specs.Placing.{without_key, at_front};
 ghost use Rattle.tc_plain.specs.declared.entry.Entry.{Entry};
 ghost use Rattle.tc_sketch.specs.Sketch.{hash};
-ghost use Rattle.tc_partition.specs.Agreement.{entry_or, areas_by, stray};
+ghost use Rattle.tc_plain.specs.BySlot.{entry_or, areas_by, stray};
 ghost use Rattle.tc_partition.specs.Held.{filled, IsFound, FindsSlot, DropsEntry};
-ghost use Rattle.tc_partition.specs.Snapshots.{at_slots, with_changes};
+ghost use Rattle.tc_plain.specs.Snapshots.{at_slots, with_changes};
 
 use crate::parts::{
     compare_all, copy_at, drop_next, grow, put, put_due, reached, reached_by, show_more, take_in,
     take_out, time, vacate, weight_at,
 };
-use crate::snapshot::Change;
 use indexmap::IndexMap;
 use slab::Slab;
 use std::alloc::Global;
 use std::hash::RandomState;
 use std::marker::Model;
 use tc_item::{Due, Key, Moment, NoMemory, Slot};
-use tc_plain::{Areas, Entry, Limits};
+use tc_plain::{Areas, Change, Entry, Limits};
 use tc_sketch::{Sketch, hash};
 use tc_slru::{Area, Lists};
 use tc_wheel::Wheel;

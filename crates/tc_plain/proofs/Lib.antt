@@ -17,3 +17,5 @@ pub mod Shown
 pub mod Asked
 pub mod Planning
 pub mod Left
+pub mod Copies
+pub mod Snapshots

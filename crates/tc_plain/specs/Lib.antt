@@ -10,4 +10,6 @@ pub mod Freshness
 pub mod Soundness
 pub mod AreaLists
 pub mod Plans
+pub mod BySlot
 pub mod Snapshots
+pub mod Showing

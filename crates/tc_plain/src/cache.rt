@@ -2,6 +2,7 @@
 ghost use Rattle.std.specs.Prelude.{◌≡◌, IfOk, OnOk, OnErr};
 ghost use Rattle.tc_plain.specs.UserCache.{UserCache, advance};
 ghost use Rattle.tc_plain.specs.Doing.{act};
+ghost use Rattle.tc_plain.specs.Showing.{shown_in, next_in};
 
 use crate::{Plain, Snapshot};
 use std::alloc::Global;
@@ -11,9 +12,6 @@ use tc_stats::Outcome;
 
 /// One user's cache, however it is kept.
 pub trait Cache: Drop {
-    /// How what the cache stood for at some call is kept.
-    type Snapshot: Snapshot;
-
     /// The state that it stands for once all deferred work is done.
     ghost settled: { Self → UserCache };
 
@@ -41,14 +39,15 @@ pub trait Cache: Drop {
     fn freeze(&self, alloc: Global) -> Result<Plain, NoMemory>
         ensures settled { IfOk result (λ plain. plain ≡ settled self.now) };
     /// A snapshot of what the cache stands for. Deferred work is done first, which nobody sees.
-    fn snapshot(&mut self, alloc: Global) -> Result<Self::Snapshot, NoMemory>
+    fn snapshot(&mut self, alloc: Global) -> Result<Snapshot, NoMemory>
         ensures state { settled self.new ≡ settled self.old }
-        ensures shown { IfOk result (λ snapshot. Self.Snapshot.shown snapshot ≡ settled self.old) };
+        ensures shown { IfOk result (λ snapshot. shown_in snapshot ≡ settled self.old) };
 
     /// Takes the memory that a snapshot needs to show what the cache stands for; `Snapshot::turn` is
-    /// then the rest. A refusal leaves what it shows as it was, and so does this.
-    fn prepare(&mut self, alloc: Global, snapshot: &mut Self::Snapshot) -> Result<(), NoMemory>
+    /// then the rest. A refusal leaves what it shows as it was. A snapshot of another kind of cache may
+    /// be refused.
+    fn prepare(&mut self, alloc: Global, snapshot: &mut Snapshot) -> Result<(), NoMemory>
         ensures state { settled self.new ≡ settled self.old }
-        ensures shown { Self.Snapshot.shown snapshot.new ≡ Self.Snapshot.shown snapshot.old }
-        ensures next { OnOk result (Self.Snapshot.next snapshot.new ≡ settled self.old) };
+        ensures shown { shown_in snapshot.new ≡ shown_in snapshot.old }
+        ensures next { OnOk result (next_in snapshot.new ≡ settled self.old) };
 }

@@ -28,6 +28,7 @@ mod offers;
 mod plain;
 mod plans;
 mod settling;
+mod slot_snapshot;
 mod snapshot;
 
 pub use areas::Areas;
@@ -42,4 +43,5 @@ pub use limits::Limits;
 pub use offers::{Bid, Draft, offer};
 pub use plain::Plain;
 pub use plans::{Plan, plan_count, plan_item};
-pub use snapshot::{PlainSnapshot, Snapshot};
+pub use slot_snapshot::{Change, Changes, Shell, SlotSnapshot, swap_in};
+pub use snapshot::{LeftOver, Snapshot};

@@ -11,7 +11,7 @@ use crate::commands::{Commands, act};
 use crate::end::End;
 use crate::offers::{Bid, offer};
 use crate::plans::{Plan, plan_count, plan_item};
-use crate::{Areas, Cache, EvictionState, Limits, PlainSnapshot};
+use crate::{Areas, Cache, EvictionState, Limits, Snapshot};
 use std::alloc::Global;
 use std::marker::Model;
 use tc_grammar::{Command, Head, Way};
@@ -267,8 +267,6 @@ impl Commands for Plain {
 }
 
 impl Cache for Plain {
-    type Snapshot = PlainSnapshot;
-
     ghost settled = { λ p. p };
 
     fn act(
@@ -288,16 +286,19 @@ impl Cache for Plain {
         self.copy(alloc)
     }
 
-    fn snapshot(&mut self, alloc: Global) -> Result<PlainSnapshot, NoMemory> {
-        Ok(PlainSnapshot {
-            shown: self.copy(alloc)?,
-            next: None,
-        })
+    fn snapshot(&mut self, alloc: Global) -> Result<Snapshot, NoMemory> {
+        Ok(Snapshot::Lists(self.copy(alloc)?, None))
     }
 
-    fn prepare(&mut self, alloc: Global, snapshot: &mut PlainSnapshot) -> Result<(), NoMemory> {
-        let next = self.copy(alloc)?;
-        snapshot.next = Some(next);
-        Ok(())
+    fn prepare(&mut self, alloc: Global, snapshot: &mut Snapshot) -> Result<(), NoMemory> {
+        match snapshot {
+            Snapshot::Lists(_, next) => {
+                let plain = self.copy(alloc)?;
+                *next = Some(plain);
+                Ok(())
+            }
+            // No cache of lists made it.
+            Snapshot::Slots(_) => Err(NoMemory),
+        }
     }
 }

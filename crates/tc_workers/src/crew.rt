@@ -122,10 +122,7 @@ fn start_one<
     post: &'s Post<'s, R, C, N, G>,
     worker: Worker<W, N>,
     inlet: I,
-) -> Result<JoinHandle<Seat<N>>, Seat<N>>
-where
-    C::Snapshot: Send + Sync + 's,
-{
+) -> Result<JoinHandle<Seat<N>>, Seat<N>> {
     match scope.spawn(move || work(post, worker, inlet)) {
         Ok(handle) => Ok(handle),
         Err(refused) => {
@@ -152,8 +149,6 @@ fn start_all<
     handles: &mut Vec<JoinHandle<Seat<N>>>,
     seats: &mut Vec<Seat<N>>,
 ) -> Vec<(Worker<W, N>, I)>
-where
-    C::Snapshot: Send + Sync + 's,
     requires empty { (vec_len handles.old ≡ 0) × (vec_len seats.old ≡ 0) }
     requires room { (vec_len crew ≤ vec_capacity handles.old)
         × (vec_len crew ≤ vec_capacity seats.old) }
@@ -218,8 +213,6 @@ fn staff<
     roster: Roster<W, N, I>,
     source: S,
 ) -> Stood<W, N, I>
-where
-    C::Snapshot: Send + Sync + 's,
     ensures all { vec_len result.seats + vec_len result.rest ≡ vec_len roster.crew }
     ensures went { result.went ≡ true → vec_len result.rest ≡ 0 }
 {
@@ -264,8 +257,6 @@ pub fn run_crew<
     crew: Vec<(Worker<W, N>, I)>,
     source: S,
 ) -> Result<Vec<Seat<N>>, CrewFault<W, N, I>>
-where
-    C::Snapshot: Send + Sync,
     ensures ok { IfOk result (λ seats. vec_len seats ≡ vec_len crew) }
     ensures err { IfErr result (λ f. vec_len f.seats + vec_len f.rest ≡ vec_len crew) }
 {

@@ -155,7 +155,7 @@ fn go_on<C: Cache, D: Cache>(
 fn keeps_up<C: Cache>(
     alloc: Global,
     cache: &mut C,
-    snapshot: &mut C::Snapshot,
+    snapshot: &mut Snapshot,
 ) -> Result<bool, NoMemory> {
     let before = snapshot.copy(alloc)?;
     cache.prepare(alloc, snapshot)?;

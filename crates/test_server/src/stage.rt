@@ -108,8 +108,6 @@ fn perform<
     all: usize,
     scene: &Scene,
 ) -> Result<(), Fail>
-where
-    C::Snapshot: Send + Sync,
     requires { all ≡ N.terms.seats }
 {
     match scene {
@@ -144,8 +142,6 @@ fn perform_on<
     journal: usize,
     scene: &Scene,
 ) -> Result<(), Fail>
-where
-    C::Snapshot: Send + Sync,
     requires name { beginning.opened ≡ N.table }
     requires begins { N.terms.begins ≡ map fresh_cache beginning.users }
     requires seats { (seats ≡ N.terms.seats) × (0 < seats) }
@@ -169,8 +165,6 @@ fn play_over<C: Kind + Send + Sync, R: Threads + Wait + Abort + Time + Copy + Se
     journal: usize,
     scene: &Scene,
 ) -> Result<(), Fail>
-where
-    C::Snapshot: Send + Sync,
     requires { (0 < seats) × (0 < journal) }
 {
     let beginning = begin::<C>(alloc, hasher)?;

@@ -26,8 +26,6 @@ pub fn four_threads<
     N: Naming + Send + Sync,
     R: Threads + Wait + Abort + Sync,
 >(rt: &R, alloc: Global, hall: Hall<C, N>, seats: Vec<Seat<N>>, all: usize) -> Result<(), Fail>
-where
-    C::Snapshot: Send + Sync,
     requires { all ≡ N.terms.seats }
 {
     let seats = call_by_four(rt, alloc, &hall, seats)?;
@@ -42,10 +40,7 @@ fn call_by_four<C: Cache + Send + Sync, N: Naming + Send + Sync, R: Threads + Wa
     alloc: Global,
     hall: &Hall<C, N>,
     seats: Vec<Seat<N>>,
-) -> Result<Vec<Seat<N>>, Fail>
-where
-    C::Snapshot: Send + Sync,
-{
+) -> Result<Vec<Seat<N>>, Fail> {
     let set = set(alloc, b"abc")?;
     let called = thread::map_vec(
         rt,
@@ -101,10 +96,7 @@ pub fn eight_threads<
     C: Cache + Send + Sync,
     N: Naming + Send + Sync,
     R: Threads + Wait + Abort + Sync,
->(rt: &R, alloc: Global, hall: Hall<C, N>, seats: Vec<Seat<N>>) -> Result<(), Fail>
-where
-    C::Snapshot: Send + Sync,
-{
+>(rt: &R, alloc: Global, hall: Hall<C, N>, seats: Vec<Seat<N>>) -> Result<(), Fail> {
     let commands = five_commands(alloc)?;
     let works = beside_a_keeper(rt, alloc, &hall, seats, &commands)?;
     close_with_works(rt, alloc, hall, works, &commands)
@@ -130,10 +122,7 @@ fn beside_a_keeper<
     hall: &Hall<C, N>,
     seats: Vec<Seat<N>>,
     commands: &[Command],
-) -> Result<Vec<Work<N>>, AllocError>
-where
-    C::Snapshot: Send + Sync,
-{
+) -> Result<Vec<Work<N>>, AllocError> {
     let (works, ()) = thread::join(
         rt,
         || call_in_threads(rt, alloc, hall, seats, commands),
@@ -152,10 +141,7 @@ fn call_in_threads<
     hall: &Hall<C, N>,
     seats: Vec<Seat<N>>,
     commands: &[Command],
-) -> Result<Vec<Work<N>>, AllocError>
-where
-    C::Snapshot: Send + Sync,
-{
+) -> Result<Vec<Work<N>>, AllocError> {
     thread::map_vec(
         rt,
         seats,

@@ -280,10 +280,7 @@ fn run<
     gate: &G,
     crew: Crew<N, R>,
     source: Still<R>,
-) -> Vec<Seat<N>>
-where
-    C::Snapshot: Send + Sync,
-{
+) -> Vec<Seat<N>> {
     let clock = Clock::new();
     let keeper = Keeper::new();
     match run_crew(rt, alloc, hall, users, &clock, gate, keeper, crew, source) {
@@ -312,10 +309,7 @@ fn run_held<
     crew: Crew<N, R>,
     place: Place,
     sights: &Sights,
-) -> Result<(), Fail>
-where
-    C::Snapshot: Send + Sync,
-{
+) -> Result<(), Fail> {
     let gate = gate_of(rt, place, sights)?;
     let source = source_of(rt, &sights.signs)?;
     run(rt, alloc, hall, users, &gate, crew, source);
@@ -334,10 +328,7 @@ pub fn hold_alice<
     users: &Users,
     seats: &mut Vec<Seat<N>>,
     hold: Hold,
-) -> Result<(), Fail>
-where
-    C::Snapshot: Send + Sync,
-{
+) -> Result<(), Fail> {
     let sights = Sights::new(alloc)?;
     let crew = crew_of_two(rt, alloc, seats, hold.when, &sights)?;
     run_held(rt, alloc, hall, users, crew, hold.place, &sights)?;
@@ -381,10 +372,7 @@ fn run_counted<
     users: &Users,
     seats: Vec<Seat<N>>,
     sights: &Sights,
-) -> Result<Vec<Seat<N>>, Fail>
-where
-    C::Snapshot: Send + Sync,
-{
+) -> Result<Vec<Seat<N>>, Fail> {
     let crew = crew_of_all(rt, alloc, seats, &sights.signs, &sights.alice)?;
     let source = source_of(rt, &sights.signs)?;
     Ok(run(rt, alloc, hall, users, &Open, crew, source))
@@ -403,8 +391,6 @@ pub fn count<
     seats: Vec<Seat<N>>,
     all: usize,
 ) -> Result<(), Fail>
-where
-    C::Snapshot: Send + Sync,
     requires { all ≡ N.terms.seats }
 {
     let sights = Sights::new(alloc)?;

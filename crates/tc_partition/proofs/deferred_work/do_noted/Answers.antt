@@ -1,6 +1,6 @@
 use Rattle.std.specs.Prelude.{slice_index_or}
 use Rattle.std.proofs.Common.{None, sym, ◌∙◌, ap, subst}
-use Rattle.tc_partition.specs.Agreement.{entry_or}
+use Rattle.tc_plain.specs.BySlot.{entry_or}
 use Rattle.tc_partition.specs.LiveSlots.{live_of}
 use Rattle.tc_partition.specs.Deferred.{hit, do_note}
 use Rattle.tc_partition.specs.WaitingSlots.{note_at, IsPlaced}

@@ -1,5 +1,5 @@
 use Rattle.slab.specs.Slab.{get as slab_get}
-use Rattle.tc_partition.specs.Snapshots.{at_slots, with_changes}
+use Rattle.tc_plain.specs.Snapshots.{at_slots, with_changes}
 use Rattle.tc_partition.proofs.Snapshots.{AreCompared}
 use Rattle.tc_partition.proofs.parts.compare_all.Given as goal
 

@@ -1,8 +1,8 @@
-use Rattle.std.proofs.Common.{◌≡◌, List, Option, ap, ◌∙◌}
+use Rattle.std.proofs.Common.{List, Option, ap, ◌∙◌}
 use Rattle.tc_plain.specs.declared.entry.Entry.{Entry}
 use Rattle.tc_partition.specs.Agreement.{set_at}
-use Rattle.tc_partition.specs.declared.snapshot.Change.{Change}
-use Rattle.tc_partition.specs.Snapshots.{at_slots, with_changes}
+use Rattle.tc_plain.specs.declared.slot_snapshot.Change.{Change}
+use Rattle.tc_plain.specs.Snapshots.{at_slots, with_changes}
 use Rattle.tc_partition.proofs.Snapshots.{changed_at}
 use Rattle.tc_partition.proofs.parts.compare_at.Goals as goal
 

@@ -1,5 +1,5 @@
 use Rattle.slab.specs.Slab.{get as slab_get}
-use Rattle.tc_partition.proofs.Copies.{copied_step}
+use Rattle.tc_plain.proofs.Copies.{copied_step}
 use Rattle.tc_partition.proofs.parts.copy_at.Goals as goal
 
 pub loop-i-preserved : goal.loop-i-preserved

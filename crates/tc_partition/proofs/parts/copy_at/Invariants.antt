@@ -1,6 +1,6 @@
 use Rattle.std.proofs.Common.{◌≡◌, take}
 use Rattle.slab.specs.Slab.{get as slab_get}
-use Rattle.tc_partition.specs.Copied.{entries_at}
+use Rattle.tc_plain.specs.BySlot.{entries_at}
 use Rattle.tc_partition.proofs.parts.copy_at.Given as goal
 
 abbrev pub invariant-loop-i : goal.invariant-loop-i

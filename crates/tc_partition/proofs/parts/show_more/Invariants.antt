@@ -1,5 +1,5 @@
 use Rattle.std.proofs.Common.{◌≡◌, ℕ, ◌+◌, length}
-use Rattle.tc_partition.specs.Snapshots.{at_slots}
+use Rattle.tc_plain.specs.Snapshots.{at_slots}
 use Rattle.tc_partition.proofs.parts.show_more.Given as goal
 
 abbrev pub invariant-loop-slot : goal.invariant-loop-slot

@@ -20,6 +20,6 @@ invariant_of-self-2 g c =
         c.in-Ok-act.ensures.kept,
         c.later-moment.ensures,
       )
-      (book_call _ c.args.seat_no c.args.now c.args.conn c.args.command.now within c.self.invariant.0),
+          (book_call _ c.args.seat_no c.args.now c.args.conn c.args.command.now within c.self.invariant.0),
       c.put.ensures.within,
     )

@@ -23,6 +23,6 @@ invariant_of-self-2 g c =
         c.in-Ok.ensures.state,
         c.later-moment.ensures,
       )
-      (turned_call _ c.args.seat_no c.args.now c.args.conn c.args.command.now some within c.self.invariant.0),
+          (turned_call _ c.args.seat_no c.args.now c.args.conn c.args.command.now some within c.self.invariant.0),
       c.put.ensures.within,
     )

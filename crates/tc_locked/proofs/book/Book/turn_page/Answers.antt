@@ -8,7 +8,7 @@ invariant_of-self-2 g c =
     let used : 0 < c.self.inside.used = grind (arith, common_steps) in
     let some = take_some c.self.inside.used c.self.inside.entries.items used c.self.invariant.1 in (
       rw (c.turn-left.ensures, c.in_ok-prepare.ensures.next, c.in_ok-prepare.ensures.state)
-      (book_turn _ some c.self.invariant.0),
+          (book_turn _ some c.self.invariant.0),
       omega arith,
     )
 

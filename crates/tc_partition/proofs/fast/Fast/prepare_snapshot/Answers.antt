@@ -1,6 +1,6 @@
 use Rattle.std.proofs.Common.{ap, ◌∙◌}
-use Rattle.tc_partition.specs.Snapshots.{Showing}
-use Rattle.tc_partition.proofs.Snapshots.{shown_areas, shown_same}
+use Rattle.tc_plain.specs.Snapshots.{Showing}
+use Rattle.tc_plain.proofs.Snapshots.{shown_areas, shown_same}
 use Rattle.tc_partition.proofs.fast.Fast.prepare_snapshot.Goals as goal
 
 pub invariant_of-snapshot : goal.invariant_of-snapshot

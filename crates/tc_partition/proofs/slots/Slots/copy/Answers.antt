@@ -1,9 +1,9 @@
 use Rattle.std.proofs.Common.{◌∙◌, ap, arith}
 use Rattle.slab.specs.Slab.{get as slab_get}
 use Rattle.tc_partition.specs.Held.{Held}
-use Rattle.tc_partition.specs.Copied.{entries_at}
+use Rattle.tc_plain.specs.BySlot.{entries_at}
 use Rattle.tc_partition.proofs.Away.{three_same}
-use Rattle.tc_partition.proofs.Copies.{copied_all}
+use Rattle.tc_plain.proofs.Copies.{copied_all}
 use Rattle.tc_partition.proofs.slots.Slots.copy.Goals as goal
 
 pub returns : goal.returns

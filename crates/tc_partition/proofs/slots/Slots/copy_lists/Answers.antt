@@ -1,9 +1,9 @@
-use Rattle.std.proofs.Common.{◌≡◌, ap, sym, ◌∙◌}
+use Rattle.std.proofs.Common.{ap, sym, ◌∙◌}
 use Rattle.tc_model.specs.Areas.{total}
 use Rattle.tc_slru.specs.SlotLists.{SlotLists}
-use Rattle.tc_partition.specs.Agreement.{areas_by, stray}
+use Rattle.tc_plain.specs.BySlot.{areas_by, stray}
 use Rattle.tc_partition.specs.Held.{Held}
-use Rattle.tc_partition.specs.Snapshots.{at_slots}
+use Rattle.tc_plain.specs.Snapshots.{at_slots}
 use Rattle.tc_partition.proofs.slots.Slots.copy_lists.Goals as goal
 
 pub returns-clause-areas : goal.returns-clause-areas

@@ -5,7 +5,7 @@ use Rattle.indexmap.specs.IndexMap.{get as index_get}
 use Rattle.slab.specs.Slab.{get as slab_get}
 use Rattle.tc_plain.specs.EvictionState.{held}
 use Rattle.tc_wheel.specs.Dues.{due_at}
-use Rattle.tc_partition.specs.Agreement.{areas_by}
+use Rattle.tc_plain.specs.BySlot.{areas_by}
 use Rattle.tc_partition.specs.Held.{Held, IsFound}
 use Rattle.tc_partition.proofs.Looked.{held_filled}
 use Rattle.tc_partition.proofs.slots.Slots.is_of.Goals as goal

@@ -5,7 +5,7 @@ use Rattle.tc_plain.specs.declared.entry.Entry.{Entry}
 use Rattle.tc_plain.specs.EvictionState.{held}
 use Rattle.tc_plain.specs.Placing.{without_key}
 use Rattle.tc_slru.specs.SlotLists.{SlotLists}
-use Rattle.tc_partition.specs.Agreement.{areas_by}
+use Rattle.tc_plain.specs.BySlot.{areas_by}
 use Rattle.tc_partition.specs.Held.{Held, AreWithin}
 use Rattle.tc_partition.proofs.Moves.{holds_entry, long_cleared, within_vacated, slots_emptied, slots_emptied_areas, room_vacated}
 use Rattle.tc_partition.proofs.Moves.{slots_found, slots_missed}

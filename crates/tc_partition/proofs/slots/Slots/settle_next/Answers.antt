@@ -1,5 +1,5 @@
 use Rattle.std.specs.Prelude.{true, false}
-use Rattle.tc_partition.specs.Agreement.{areas_by}
+use Rattle.tc_plain.specs.BySlot.{areas_by}
 use Rattle.std.proofs.Common.{length, sym, ◌∙◌, ap, subst}
 use Rattle.slab.specs.Slab.{get as slab_get}
 use Rattle.tc_partition.specs.Held.{Held, DropsEntry, filled, AreWithin}

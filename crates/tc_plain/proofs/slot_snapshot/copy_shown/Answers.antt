@@ -1,6 +1,6 @@
-use Rattle.tc_partition.specs.Snapshots.{at_slots}
-use Rattle.tc_partition.proofs.Copies.{copied_step}
-use Rattle.tc_partition.proofs.snapshot.copy_shown.Goals as goal
+use Rattle.tc_plain.specs.Snapshots.{at_slots}
+use Rattle.tc_plain.proofs.Copies.{copied_step}
+use Rattle.tc_plain.proofs.slot_snapshot.copy_shown.Goals as goal
 
 pub loop-slot-preserved : goal.loop-slot-preserved
 loop-slot-preserved c =

@@ -1,6 +1,6 @@
 use Rattle.std.proofs.Common.{◌≡◌, drop}
-use Rattle.tc_partition.specs.Snapshots.{with_changes}
-use Rattle.tc_partition.proofs.snapshot.swap_in.Given as goal
+use Rattle.tc_plain.specs.Snapshots.{with_changes}
+use Rattle.tc_plain.proofs.slot_snapshot.swap_in.Given as goal
 
 -- what is left to change leads where all changes lead
 abbrev pub invariant-loop-change : goal.invariant-loop-change

@@ -1,8 +1,7 @@
 use Rattle.std.proofs.Common.{◌∙◌, arith}
-use Rattle.tc_partition.specs.Snapshots.{at_slots}
-use Rattle.tc_partition.proofs.Away.{three_same}
-use Rattle.tc_partition.proofs.Copies.{copied_all}
-use Rattle.tc_partition.proofs.snapshot.copy_areas.Goals as goal
+use Rattle.tc_plain.specs.Snapshots.{at_slots}
+use Rattle.tc_plain.proofs.Copies.{three_same, copied_all}
+use Rattle.tc_plain.proofs.slot_snapshot.copy_areas.Goals as goal
 
 pub returns : goal.returns
 returns c =

@@ -4,10 +4,10 @@ use Rattle.tc_plain.specs.AreaLists.{live_of}
 use Rattle.tc_plain.specs.EvictionState.{EvictionState, advanced}
 use Rattle.tc_plain.specs.Doing.{with_live}
 use Rattle.tc_plain.specs.Soundness.{IsSound}
-use Rattle.tc_partition.specs.Agreement.{areas_by}
-use Rattle.tc_partition.specs.Snapshots.{at_slots, base_by}
-use Rattle.tc_partition.proofs.Snapshots.{advanced_sound}
-use Rattle.tc_partition.proofs.snapshot.SlotSnapshotSnapshot.copy.Goals as goal
+use Rattle.tc_plain.specs.BySlot.{areas_by}
+use Rattle.tc_plain.specs.Snapshots.{at_slots, base_by}
+use Rattle.tc_plain.proofs.Snapshots.{advanced_sound}
+use Rattle.tc_plain.proofs.slot_snapshot.SlotSnapshot.copy.Goals as goal
 
 pub invariant_of-result : goal.invariant_of-result
 invariant_of-result c =
