@@ -9,15 +9,12 @@ use Rattle.std.proofs.lemmas.Bool.Decides.{nat_tests}
 use Rattle.tc_grammar.specs.declared.command.Command.{Command}
 use Rattle.tc_locked.specs.declared.entry.Entry.{Entry}
 use Rattle.tc_locked.specs.declared.view.Note.{Note}
-use Rattle.tc_model.specs.Connection.{user_at}
-use Rattle.tc_plain.specs.UserCache.{UserCache}
 use Rattle.tc_locked.specs.Views.{note, by_seat, of_user}
-use Rattle.tc_fresh.specs.Beginning.{IsEmptyCache}
 use Rattle.tc_locked.specs.Books.{first_start, Stands, AreNumbered, counts_after, entry_of, after_call, after_maintain}
-use Rattle.tc_locked.specs.Books.{page_turned, fresh_book}
+use Rattle.tc_locked.specs.Books.{page_turned}
 use Rattle.tc_locked.specs.KeptBooks.{Terms, KeptState, IsKept, ArePages, entries_in, on_page, kept_after}
 use Rattle.tc_locked.proofs.TableSteps.{by_same_seat}
-use Rattle.tc_locked.proofs.Books.{index-replicate, stands_fresh, stands_call, stands_maintain}
+use Rattle.tc_locked.proofs.Books.{index-replicate, stands_call, stands_maintain}
 
 -- each note stands on an earlier page
 abbrev pub AllBefore : ℕ → List Note → Type 0

@@ -1,4 +1,4 @@
-use Rattle.std.proofs.Common.{arith, ◌<◌, length, take}
+use Rattle.std.proofs.Common.{arith, ◌<◌}
 use Rattle.std.proofs.lemmas.Grind.{common_steps}
 use Rattle.tc_locked.proofs.Books.{book_turn, turned_is, take_some}
 use Rattle.tc_locked.proofs.book.Book.turn_page.Goals as goal
