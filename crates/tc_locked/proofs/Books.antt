@@ -1,9 +1,8 @@
 -- What calls, maintenance and page turns keep of a book.
-use Rattle.std.proofs.Common.{zero, suc, ◌≡◌, ℕ, ◌+◌, ◌<◌, ◌≤◌, max, Bool, cond, List, [], ◌∷◌, ◌++◌, length, refl, sym, ap, ◌∙◌}
+use Rattle.std.proofs.Common.{zero, suc, ◌≡◌, ℕ, ◌+◌, ◌<◌, ◌≤◌, max, List, [], ◌∷◌, ◌++◌, length, refl, sym, ap, ◌∙◌}
 use Rattle.std.proofs.Common.{subst, arith, replicate, length-append, take}
 use Rattle.std.specs.Prelude.{slice_index, slice_set}
 use Rattle.std.proofs.lemmas.List.{length-set, length-replicate, get_or-set_same, get_or-set_other, length-take-le}
-use Rattle.std.proofs.lemmas.Bool.{le-leb}
 use mathlib.Core.Logic.{dite}
 use native.Mathlib.Decide.{ℕ_discrete}
 use Rattle.tc_model.specs.Caching.{Replays, state_after}
@@ -15,9 +14,7 @@ use Rattle.tc_plain.specs.Laws.{user_caching}
 use Rattle.tc_locked.specs.declared.entry.Entry.{Entry}
 use Rattle.tc_fresh.specs.Beginning.{IsEmptyCache}
 use Rattle.tc_locked.specs.Books.{BookState, events_of, Start, first_start, moment_after, counts_after, IsNext, AreNumbered}
-use Rattle.tc_locked.specs.Books.{Stands, IsBook, entry_of, after_call, after_maintain, page_turned, turn_if, paged, fresh_book}
-use Rattle.tc_locked.specs.Books.{slip_of}
-use Rattle.tc_locked.specs.declared.entry.Slip.{Slip}
+use Rattle.tc_locked.specs.Books.{Stands, IsBook, entry_of, after_call, after_maintain, page_turned, turn_if, fresh_book}
 use Rattle.tc_locked.specs.Closing.{HasLegalPage}
 use Rattle.tc_plain.proofs.Left.{leaves_advanced, advance-earlier, advance-advance, act-advance, advance-empty}
 
@@ -196,18 +193,6 @@ turned_is v b is some = sym (turn_if-some v.entries v some) ∙ ap (λ (x : Book
 
 pub take_some : (n : ℕ) (xs : List Entry) → 0 < n → n ≤ length xs → 0 < length (take n xs)
 take_some n xs lt le = let same = length-take-le n xs le in omega (arith, same, lt)
-
--- a full page is turned for a call
-paged-full : (journal : ℕ) (b : BookState) → journal ≤ length b.entries → paged journal b ≡ page_turned b
-paged-full journal b many = ap (λ (t : Bool). cond t (page_turned b) b) (le-leb journal (length b.entries) many)
-
-pub paged_call : (journal : ℕ) (b called : BookState) (e : Entry) → journal ≤ length b.entries
-    → called ≡ after_call (page_turned b) e → called ≡ after_call (paged journal b) e
-paged_call journal b called e many is = is ∙ ap (λ (x : BookState). after_call x e) (sym (paged-full journal b many))
-
-pub paged_slip : (journal : ℕ) (b : BookState) (e : Entry) (slip : Slip) → journal ≤ length b.entries
-    → slip ≡ slip_of (page_turned b) e → slip ≡ slip_of (paged journal b) e
-paged_slip journal b e slip many is = is ∙ ap (λ (x : BookState). slip_of x e) (sym (paged-full journal b many))
 
 -- a turned page and a call on it
 pub turned_call : (b : BookState) (seat now conn : ℕ) (command : Command) → 0 < length b.entries → seat < length b.counts
