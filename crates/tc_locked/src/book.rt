@@ -10,6 +10,7 @@ ghost use Rattle.tc_locked.specs.declared.call_fault.CallFault.TheVariants.{Worn
 use crate::call_fault::CallFault;
 use crate::called::Called;
 use crate::entry::{Entry, Slip};
+use crate::old_entries::read_ahead;
 use std::alloc::Global;
 use std::marker::Model;
 use tc_grammar::Command;
@@ -81,6 +82,7 @@ fn put(entries: &mut Vec<Entry>, used: usize, entry: Entry)
     ensures within { used + 1 ≤ length entries.new.items }
 {
     if used < entries.len() {
+        read_ahead(entries.as_slice(), used);
         entries[used] = entry;
     } else {
         entries.push_reserved(entry);

@@ -33,6 +33,7 @@ mod kept;
 mod locking;
 pub mod naming;
 mod noting;
+mod old_entries;
 mod opening;
 mod receipt;
 mod replay;
