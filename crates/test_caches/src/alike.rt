@@ -11,7 +11,7 @@ use tc_grammar::Command;
 use tc_item::{Moment, NoMemory};
 use tc_kinds::Kind;
 use tc_partition::Fast;
-use tc_plain::{Cache, Entry, EvictionState, Plain, Snapshot};
+use tc_plain::{Cache, Entry, EvictionState, Plain};
 use tc_sketch::{Sketch, hash};
 use tc_stats::Outcome;
 
@@ -151,21 +151,7 @@ fn go_on<C: Cache, D: Cache>(
     Ok(())
 }
 
-/// Whether a snapshot shows what it showed until it is turned, and from then on what the cache stands for.
-fn keeps_up<C: Cache>(
-    alloc: Global,
-    cache: &mut C,
-    snapshot: &mut Snapshot,
-) -> Result<bool, NoMemory> {
-    let before = snapshot.copy(alloc)?;
-    cache.prepare(alloc, snapshot)?;
-    let prepared = snapshot.copy(alloc)?;
-    let _left = snapshot.turn();
-    let turned = snapshot.copy(alloc)?;
-    Ok(is_same(alloc, &before, &prepared)? && stands_for(alloc, cache, &turned)?)
-}
-
-/// Does one command after another on both, and looks at them and their snapshots behind each round.
+/// Does one command after another on both, and looks at them behind each round.
 fn expect_alike<C: Cache, D: Cache>(
     rt: &impl Abort,
     alloc: Global,
@@ -173,14 +159,10 @@ fn expect_alike<C: Cache, D: Cache>(
     second: &mut D,
 ) -> Result<(), NoMemory> {
     let mut draws = Draws::new();
-    let mut shown = first.snapshot(alloc)?;
-    let mut other = second.snapshot(alloc)?;
     for round in 0..ROUNDS {
         go_on(rt, alloc, first, second, &mut draws, round * ROUND)?;
         let alike = stands_alike(alloc, first, second)?;
         assert!(rt; alike, "round {round}");
-        let kept_up = keeps_up(alloc, first, &mut shown)? && keeps_up(alloc, second, &mut other)?;
-        assert!(rt; kept_up, "round {round}");
     }
     Ok(())
 }
