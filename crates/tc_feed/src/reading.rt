@@ -30,7 +30,7 @@ fn read_block(alloc: Global, head: Head, n: usize, bytes: &[u8]) -> Result<Reque
     ensures { IfOk result (λ request. request ≡ block_request head n bytes.now) }
 {
     if bytes[n] == b'\r' && bytes[n + 1] == b'\n' {
-        let blob = Blob::new(alloc, Vec::from_slice(alloc, &bytes[..n])?)?;
+        let blob = Blob::from_slice(alloc, &bytes[..n])?;
         Ok(Request::Ask(Command::Store(head, blob)))
     } else {
         Ok(Request::Refused {

@@ -1,3 +1,4 @@
+pub mod BlobBytes
 pub mod Bounds
 pub mod Expiry
 pub mod FewItems

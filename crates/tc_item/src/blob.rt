@@ -1,34 +1,93 @@
 //! Shared bytes: an item's data, which hits and the cache hold together.
-ghost use Rattle.std.specs.Prelude.{◌≡◌, [], length, IfOk, IsTrue, ◌↔◌};
+ghost use Rattle.std.specs.Prelude.{◌≡◌, ◌≤◌, [], length, IfOk, IsTrue, ◌↔◌};
 ghost use Rattle.std.specs.Str.{bytes_eq};
 ghost use Rattle.std.specs.Cmp.Rules.{comparing};
 ghost use Rattle.std.proofs.Common.{rules};
 
 use crate::NoMemory;
+use arrayvec::ArrayVec;
 use std::alloc::Global;
+use std::fmt;
 use std::marker::Model;
+use std::mem::size_of;
 use std::sync::Arc;
 
-/// Bytes that many hold and none changes.
-#[derive(Debug, Drop)]
+/// The most bytes that lie beside the count of their holders.
+const BESIDE: usize = 232;
+
+/// Bytes that many hold and none changes. Up to 232 lie in one block of memory with the count of
+/// their holders, of the least size of five in which they fit: to read them takes one way to memory,
+/// not two.
 pub struct Blob {
-    shared: Arc<Vec<u8>>,
+    shared: Shared,
 }
+
+/// The block that all holders share, by how many bytes it has room for.
+#[derive(Drop)]
+enum Shared {
+    UpTo8(Arc<ArrayVec<u8, 8>>),
+    UpTo40(Arc<ArrayVec<u8, 40>>),
+    UpTo104(Arc<ArrayVec<u8, 104>>),
+    UpTo232(Arc<ArrayVec<u8, 232>>),
+    Longer(Arc<Vec<u8>>),
+}
+
+const _: () = prove!(size_of::<Blob>() == 16);
 
 impl Model for Blob {
     ghost use Rattle.std.specs.Prelude.{ℕ, List};
+    ghost use Rattle.tc_item.specs.BlobBytes.{bytes_shared};
 
     ghost Value = { List ℕ };
 
-    ghost view = { λ b. b.shared.value.items };
+    ghost view = { λ b. bytes_shared b.shared };
+}
+
+impl Drop for Blob {
+    fn drop(self) {
+        let Blob { shared } = self;
+        drop(shared);
+    }
+}
+
+impl fmt::Debug for Blob {
+    fn fmt<W: fmt::Write>(&self, f: &mut fmt::Formatter<W>) -> fmt::Result {
+        self.as_slice().fmt(f)
+    }
+}
+
+/// A copy of these bytes beside the count of its holders.
+fn beside<const N: usize>(alloc: Global, bytes: &[u8]) -> Result<Arc<ArrayVec<u8, N>>, NoMemory>
+    requires { length bytes.now ≤ N }
+    ensures { IfOk result (λ shared. shared.value.items ≡ bytes.now) }
+{
+    let place = ArrayVec::try_from(bytes).unwrap();
+    Ok(Arc::new(alloc, place)?)
 }
 
 impl Blob {
-    /// These bytes, which are not copied.
+    /// These bytes. More than 232 are not copied.
     pub fn new(alloc: Global, bytes: Vec<u8>) -> Result<Blob, NoMemory>
         ensures { IfOk result (λ b. b ≡ bytes.items) }
     {
-        let shared = Arc::new(alloc, bytes)?;
+        if bytes.len() <= BESIDE {
+            return Blob::from_slice(alloc, &bytes);
+        }
+        let shared = Shared::Longer(Arc::new(alloc, bytes)?);
+        Ok(Blob { shared })
+    }
+
+    /// A copy of these bytes.
+    pub fn from_slice(alloc: Global, bytes: &[u8]) -> Result<Blob, NoMemory>
+        ensures { IfOk result (λ b. b ≡ bytes.now) }
+    {
+        let shared = match bytes.len() {
+            0..=8 => Shared::UpTo8(beside(alloc, bytes)?),
+            9..=40 => Shared::UpTo40(beside(alloc, bytes)?),
+            41..=104 => Shared::UpTo104(beside(alloc, bytes)?),
+            105..=BESIDE => Shared::UpTo232(beside(alloc, bytes)?),
+            _ => Shared::Longer(Arc::new(alloc, Vec::from_slice(alloc, bytes)?)?),
+        };
         Ok(Blob { shared })
     }
 
@@ -36,7 +95,13 @@ impl Blob {
     pub fn as_slice(&self) -> &[u8]
         ensures { result.now ≡ self.now }
     {
-        self.shared.as_slice()
+        match &self.shared {
+            Shared::UpTo8(bytes) => bytes.as_slice(),
+            Shared::UpTo40(bytes) => bytes.as_slice(),
+            Shared::UpTo104(bytes) => bytes.as_slice(),
+            Shared::UpTo232(bytes) => bytes.as_slice(),
+            Shared::Longer(bytes) => bytes.as_slice(),
+        }
     }
 
     /// How many bytes.
@@ -57,7 +122,13 @@ impl Blob {
     pub fn copy(&self) -> Result<Blob, NoMemory>
         ensures { IfOk result (λ b. b ≡ self.now) }
     {
-        let shared = self.shared.clone()?;
+        let shared = match &self.shared {
+            Shared::UpTo8(bytes) => Shared::UpTo8(bytes.clone()?),
+            Shared::UpTo40(bytes) => Shared::UpTo40(bytes.clone()?),
+            Shared::UpTo104(bytes) => Shared::UpTo104(bytes.clone()?),
+            Shared::UpTo232(bytes) => Shared::UpTo232(bytes.clone()?),
+            Shared::Longer(bytes) => Shared::Longer(bytes.clone()?),
+        };
         Ok(Blob { shared })
     }
 }

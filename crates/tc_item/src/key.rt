@@ -137,7 +137,7 @@ impl Key {
         let bytes = if bytes.len() <= IN_PLACE {
             KeyBytes::short(bytes)
         } else {
-            KeyBytes::Long(Blob::new(alloc, Vec::from_slice(alloc, bytes)?)?)
+            KeyBytes::Long(Blob::from_slice(alloc, bytes)?)
         };
         Ok(Key { bytes })
     }

@@ -419,6 +419,7 @@ impl Slots {
             protected,
         })
     }
+
     /// What is to change, so that each slot of a snapshot shows what is held there. The snapshot gets
     /// slots that it lacks, which hold nothing.
     pub fn compare(

@@ -268,6 +268,30 @@ fn a_blob_shows_the_bytes_that_it_was_made_of(rt: HostRuntime) -> Result<(), Fai
     Ok(())
 }
 
+/// Lengths at both ends of each block's room.
+const BLOCK_ENDS: [usize; 9] = [0, 8, 9, 40, 41, 104, 105, 232, 233];
+
+/// Whether a blob of so many bytes shows them, however it was made, and so does its copy.
+fn is_shown_whole(alloc: Global, length: usize) -> Result<bool, NoMemory> {
+    let mut bytes = vec![in alloc; b'a'; length]?;
+    if let Some(last) = bytes.last_mut() {
+        *last = b'z';
+    }
+    let blob = Blob::from_slice(alloc, &bytes)?;
+    let copy = blob.copy()?;
+    let shown = blob.as_slice() == bytes.as_slice() && blob.len() == length;
+    drop(blob);
+    Ok(shown && copy.as_slice() == bytes.as_slice() && copy == Blob::new(alloc, bytes)?)
+}
+
+#[test]
+fn a_blob_shows_its_bytes_in_whatever_block_they_lie(rt: HostRuntime) -> Result<(), Fail> {
+    for length in &BLOCK_ENDS {
+        assert!(rt; is_shown_whole(rt.alloc(), *length)?, "{length} bytes");
+    }
+    Ok(())
+}
+
 /// Whether a fault reads so.
 fn reads(alloc: Global, fault: KeyFault, wanted: &str) -> Result<bool, AllocError> {
     let text = format!(in alloc; "{fault}")?;
