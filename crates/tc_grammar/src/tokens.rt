@@ -4,6 +4,7 @@ ghost use Rattle.tc_grammar.specs.Tokens.{tokens};
 ghost use Rattle.tc_grammar.specs.Words.{word_length};
 
 use std::marker::Model;
+use tc_item::key_run;
 
 /// The tokens of a line that are still to be read.
 #[derive(Drop)]
@@ -34,8 +35,8 @@ fn space_length(bytes: &[u8]) -> usize
     bytes.len()
 }
 
-/// How many bytes stand before the first space.
-fn word_length(bytes: &[u8]) -> usize
+/// How many bytes stand before the first space, one by one.
+fn first_space(bytes: &[u8]) -> usize
     ensures value { result ≡ word_length bytes.now }
     ensures within { result ≤ length bytes.now }
 {
@@ -45,6 +46,16 @@ fn word_length(bytes: &[u8]) -> usize
         }
     }
     bytes.len()
+}
+
+/// How many bytes stand before the first space. Most words are of bytes that may stand in a key, and
+/// these are passed together.
+fn word_length(bytes: &[u8]) -> usize
+    ensures value { result ≡ word_length bytes.now }
+    ensures within { result ≤ length bytes.now }
+{
+    let run = key_run(bytes);
+    run + first_space(&bytes[run..])
 }
 
 impl<'a> Tokens<'a> {

@@ -10,6 +10,7 @@ ghost use Rattle.tc_item.specs.KeyBytes.{bytes_held, IsInPlace};
 ghost use Rattle.tc_item.specs.KeyFaults.{key_fault};
 ghost use Rattle.tc_item.specs.declared.key.KeyFault.TheVariants.{NoMemory as OutOfMemory};
 
+use crate::key_bytes::are_key_bytes;
 use crate::{Blob, Few, LONGEST_KEY, NoMemory, TryCopy};
 use std::alloc::Global;
 use std::error::Error;
@@ -76,18 +77,6 @@ impl Model for Key {
     ghost view = { λ k. bytes_held k.bytes };
 
     ghost invariant = { λ k. IsKept k.bytes };
-}
-
-fn is_key_byte(byte: u8) -> bool
-    ensures { result ≡ is_key_byte byte }
-{
-    byte > b' ' && byte != 127
-}
-
-fn are_key_bytes(bytes: &[u8]) -> bool
-    ensures { result ≡ list_all is_key_byte bytes.now }
-{
-    bytes.iter().all(|b| is_key_byte(*b))
 }
 
 /// Whether bytes are a key.

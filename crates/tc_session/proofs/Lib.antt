@@ -1,3 +1,4 @@
+mod LineEnds
 mod Logins
 pub mod Served
 mod Waiting

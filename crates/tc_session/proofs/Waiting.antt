@@ -1,9 +1,9 @@
--- What waits, as it is shared, written to, sent and taken back.
-use Rattle.std.proofs.Common.{◌≡◌, ℕ, ◌+◌, ◌-◌, ◌<◌, ◌≤◌, List, [], ◌++◌, length, take, drop, sym, ◌∙◌, ap, Option, None, Some}
+-- What waits, as it is shared, written to and sent.
+use Rattle.std.proofs.Common.{◌≡◌, ℕ, ◌+◌, ◌-◌, ◌<◌, ◌≤◌, List, [], ◌++◌, length, drop, sym, ◌∙◌, ap, Option, None, Some}
 use Rattle.std.proofs.Common.{arith, append_assoc, length-append, length-drop}
-use Rattle.std.proofs.Math.Seq.{drop-append-add, take-append-add}
+use Rattle.std.proofs.Math.Seq.{drop-append-add}
 use Rattle.std.proofs.Math.Nat.{add-sub_of_le}
-use Rattle.std.proofs.lemmas.List.{append-nil, drop-append-le, drop-take}
+use Rattle.std.proofs.lemmas.List.{append-nil, drop-append-le}
 use Rattle.tc_session.specs.Unsent.{waiting, fixed_of, AreParts}
 
 -- what stands behind shared data of which not all was sent waits whole
@@ -53,20 +53,6 @@ in_shared s f d b h k =
     sym (drop-append-le (s - length f) d b le)
     ∙ (sym (drop-append-add f (d ++ b) (s - length f)) ∙ ap (λ n. drop n (f ++ (d ++ b))) (add-sub_of_le h))
 
--- behind shared data some of what waits is taken back
-pub taken_behind : (s : ℕ) (f d b : List ℕ) (n : ℕ) → s ≤ length f + length d → length f + length d - s ≤ n
-    → drop s (f ++ (d ++ take (n - (length f + length d - s)) b)) ≡ take n (drop s (f ++ (d ++ b)))
-taken_behind s f d b n h k =
-    let fixed = length f + length d - s in
-    let x = drop s (f ++ d) in
-    let e : length x + (n - fixed) ≡ n = omega (arith, length-fixed s f d) in
-    parted s f d (take (n - fixed) b) h
-    ∙ (sym (take-append-add x b (n - fixed)) ∙ (ap (λ m. take m (x ++ b)) e ∙ ap (take n) (sym (parted s f d b h))))
-
--- some of a front is taken back
-pub taken_front : (s : ℕ) (f : List ℕ) (n : ℕ) → drop s (take (s + n) f ++ []) ≡ take n (drop s (f ++ []))
-taken_front s f n = alone s (take (s + n) f) ∙ (drop-take s n f ∙ ap (take n) (sym (alone s f)))
-
 -- once front and shared data are sent, what stands behind them waits
 pub let_go_all : (s : ℕ) (f d b : List ℕ) (n : ℕ) → s ≤ length f + length d
     → drop n (b ++ []) ≡ drop (length f + length d - s + n) (drop s (f ++ (d ++ b)))
@@ -78,21 +64,6 @@ let_go_all s f d b n h =
     ∙ (ap (λ m. drop m (x ++ b)) e ∙ ap (drop (length f + length d - s + n)) (sym (parted s f d b h))))
 
 -- the same of an output's parts
-
-pub front_taken : (o : Option (List ℕ)) (s front : ℕ) (f b : List ℕ) (n : ℕ) → o ≡ None → AreParts o s front b
-    → waiting s (take (s + n) f) o b ≡ take n (waiting s f o b)
-front_taken None s front f b n e k = rw k.1 (taken_front s f n)
-front_taken (Some d) s front f b n e k = cc
-
-pub back_taken : (o : Option (List ℕ)) (s front : ℕ) (f b d : List ℕ) (n : ℕ) → o ≡ Some d → front ≡ length f
-    → AreParts o s front b → fixed_of o front s ≤ n
-    → waiting s f o (take (n - (front + length d - s)) b) ≡ take n (waiting s f o b)
-back_taken None s front f b d n e l k h = cc
-back_taken (Some x) s front f b d n e l k h =
-    let same : x ≡ d = cc in
-    let le : s ≤ length f + length x = omega arith in
-    let fixed : length f + length x - s ≤ n = omega arith in
-    rw (l, ← same) (taken_behind s f x b n le fixed)
 
 pub gone : (o : Option (List ℕ)) (s front : ℕ) (f b : List ℕ) (n : ℕ) → front ≡ length f → 0 < fixed_of o front s
     → AreParts o s front b → drop n b ≡ drop (fixed_of o front s + n) (waiting s f o b)

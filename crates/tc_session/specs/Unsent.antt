@@ -2,7 +2,7 @@
 use Rattle.std.specs.Prelude.{ℕ, ◌+◌, ◌-◌, ◌^◌, ◌<◌, ◌≤◌, ◌≡◌, List, [], ◌++◌, length, drop, Option, None, Some}
 
 -- bytes that wait to be sent, and for how many more there is room
--- fixed: how many of them can't be taken back, those before the end of shared data; none where no data is shared
+-- fixed: how many of them stand before the end of shared data; none where no data is shared
 -- behind: for how many bytes there is room behind shared data, those that stand there among them
 pub record Unsent : Type 0 where
   pub bytes : List ℕ
@@ -10,8 +10,8 @@ pub record Unsent : Type 0 where
   pub fixed : ℕ
   pub behind : ℕ
 
--- what waits and the room beside it are together no less than they were, as many bytes can't be taken back,
--- and the room behind shared data is no less
+-- what waits and the room beside it are together no less than they were, as many bytes stand before the end of
+-- shared data, and the room behind it is no less
 abbrev pub KeepsSpace : Unsent → Unsent → Type 0
 KeepsSpace old new =
     (old.room + length old.bytes ≤ new.room + length new.bytes)
@@ -31,7 +31,7 @@ abbrev pub room_of : Option (List ℕ) → ℕ → ℕ → ℕ
 room_of None front behind = front
 room_of (Some blob) front behind = behind
 
--- how many of the waiting bytes can't be taken back, behind a front of this length
+-- how many of the waiting bytes stand before the end of shared data, behind a front of this length
 abbrev pub fixed_of : Option (List ℕ) → ℕ → ℕ → ℕ
 fixed_of None front sent = 0
 fixed_of (Some blob) front sent = front + length blob - sent

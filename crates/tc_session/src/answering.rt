@@ -7,7 +7,7 @@ ghost use Rattle.tc_session.specs.Texts.{fault_line, unless_quiet};
 ghost use Rattle.tc_session.specs.Replies.{is_quiet, is_refusal, is_store_end, can_end, form_of, reply_of, render, is_long};
 
 use crate::output::Output;
-use crate::reply::{is_quiet, write_fault, write_stats, write_values, write_version};
+use crate::reply::{is_quiet, write_fault, write_values, write_version};
 use tc_grammar::{Command, Fault, Form, StoreKind};
 use tc_item::NoMemory;
 use tc_stats::Outcome;
@@ -69,13 +69,11 @@ fn form_of(command: &Command) -> Form
     }
 }
 
-/// Writes the reply to an outcome. Where memory is refused, what waited before is still in front.
+/// Writes the reply to an outcome. A refusal changes nothing.
 fn write_outcome(out: &mut Output, form: Form, outcome: &Outcome) -> Result<(), NoMemory>
     requires { reply_room ≤ out.old.room }
     ensures bytes { OnOk result (out.new.bytes ≡ out.old.bytes ++ reply_of form outcome.now) }
-    ensures front_on_err { OnErr result (take (length out.old.bytes) out.new.bytes
-        ≡ out.old.bytes) }
-    ensures longer_on_err { OnErr result (length out.old.bytes ≤ length out.new.bytes) }
+    ensures unchanged_on_err { OnErr result (out.new.bytes ≡ out.old.bytes) }
     ensures space_on_err { OnErr result (KeepsSpace out.old out.new) }
     ensures short { is_long outcome.now ≡ false → IsOk result }
 {
@@ -92,7 +90,7 @@ fn write_outcome(out: &mut Output, form: Form, outcome: &Outcome) -> Result<(), 
         }
         Outcome::Values(hits) => return write_values(out, form, hits.as_slice()),
         Outcome::Done => out.write(b"OK\r\n"),
-        Outcome::Stats(statistics) => return write_stats(out, statistics.counters()),
+        Outcome::Stats(statistics) => return out.write_stats(statistics.counters()),
         Outcome::Version => write_version(out),
         Outcome::TooLarge => write_fault(out, Fault::TooLarge),
         Outcome::NotNumeric => write_fault(out, Fault::NotNumeric),
@@ -128,9 +126,7 @@ pub(crate) fn write_reply(
     if is_quiet(command) {
         return Ok(());
     }
-    let mark = out.len();
     if write_outcome(out, form_of(command), outcome).is_err() {
-        out.truncate(mark);
         write_refusal(out, command);
         return Err(NoMemory);
     }

@@ -11,6 +11,7 @@ mod output;
 mod parts;
 mod reply;
 mod session;
+mod values;
 mod want;
 
 pub use answering::can_end;

@@ -1,16 +1,17 @@
 //! Bytes that wait to be sent.
 ghost use Rattle.std.specs.Prelude.{◌≡◌, ◌+◌, ◌^◌, ◌<◌, ◌≤◌, ◌++◌, [], decimal, drop, take, length, vec_len};
 ghost use Rattle.std.specs.Prelude.{OnOk, OnErr, IsTrue};
-ghost use Rattle.tc_stats.specs.StatsRows.{stats_rows};
+ghost use Rattle.tc_session.specs.Replies.{value_line, values_text, stats_text};
 ghost use Rattle.tc_session.specs.Unsent.{Unsent, KeepsSpace};
 
 use crate::parts::Parts;
-use itoa::Buffer;
+use crate::values::{append_number, append_stats, append_value_line, append_values};
 use std::alloc::Global;
 use std::marker::Model;
 use std::mem::swap;
+use tc_grammar::Form;
 use tc_item::{Blob, LARGEST_ITEM, NoMemory};
-use tc_stats::Counters;
+use tc_stats::{Counters, Hit};
 
 /// The most room that is kept once all bytes are sent.
 const KEPT_ROOM: usize = 65_536;
@@ -128,24 +129,51 @@ impl Output {
     pub fn write_number(&mut self, number: u64)
         requires { 20 ≤ self.old.room }
         ensures bytes { self.new.bytes ≡ self.old.bytes ++ decimal number }
-        ensures longer { length self.new.bytes ≤ length self.old.bytes + 20 }
         ensures room { self.old.room ≤ self.new.room + 20 }
         ensures space { KeepsSpace self.old self.new }
     {
-        let mut buffer = Buffer::new();
-        let text = buffer.format(number);
-        self.write(text.as_bytes());
+        match self.shared {
+            None => append_number(&mut self.front, number),
+            Some(_) => append_number(&mut self.back, number),
+        }
     }
 
-    /// Puts the rows of counters at the end. A refusal changes nothing.
-    pub fn write_rows(&mut self, counters: &Counters) -> Result<(), NoMemory>
-        ensures bytes { OnOk result (self.new.bytes ≡ self.old.bytes ++ stats_rows counters.now) }
+    /// Puts a VALUE line at the end, for which there is room.
+    pub fn write_value_line(&mut self, form: Form, hit: &Hit)
+        requires { length hit.now.key + 71 ≤ self.old.room }
+        ensures bytes { self.new.bytes ≡ self.old.bytes ++ value_line form hit.now }
+        ensures longer { length self.new.bytes
+            ≤ length self.old.bytes + (length hit.now.key + 71) }
+        ensures space { KeepsSpace self.old self.new }
+    {
+        match self.shared {
+            None => append_value_line(&mut self.front, form, hit),
+            Some(_) => append_value_line(&mut self.back, form, hit),
+        }
+    }
+
+    /// Puts all hits at the end, and END. A refusal changes nothing.
+    pub fn write_values(&mut self, form: Form, hits: &[Hit]) -> Result<(), NoMemory>
+        ensures bytes { OnOk result (self.new.bytes
+            ≡ self.old.bytes ++ values_text form hits.now) }
         ensures unchanged_on_err { OnErr result (self.new.bytes ≡ self.old.bytes) }
         ensures space { KeepsSpace self.old self.new }
     {
         match self.shared {
-            None => counters.render(&mut self.front),
-            Some(_) => counters.render(&mut self.back),
+            None => append_values(&mut self.front, form, hits),
+            Some(_) => append_values(&mut self.back, form, hits),
+        }
+    }
+
+    /// Puts the rows of counters at the end, and END. A refusal changes nothing.
+    pub fn write_stats(&mut self, counters: &Counters) -> Result<(), NoMemory>
+        ensures bytes { OnOk result (self.new.bytes ≡ self.old.bytes ++ stats_text counters.now) }
+        ensures unchanged_on_err { OnErr result (self.new.bytes ≡ self.old.bytes) }
+        ensures space { KeepsSpace self.old self.new }
+    {
+        match self.shared {
+            None => append_stats(&mut self.front, counters),
+            Some(_) => append_stats(&mut self.back, counters),
         }
     }
 
@@ -199,22 +227,6 @@ impl Output {
         match &self.shared {
             None => self.front.len() - self.sent,
             Some(data) => self.front.len() + data.len() - self.sent + self.back.len(),
-        }
-    }
-
-    /// Takes back all but the first so many bytes, which are no fewer than can't be taken back.
-    pub fn truncate(&mut self, n: usize)
-        requires within { n ≤ length self.old.bytes }
-        requires fixed { self.old.fixed ≤ n }
-        ensures bytes { self.new.bytes ≡ take n self.old.bytes }
-        ensures room { self.old.room + length self.old.bytes ≤ self.new.room + n }
-    {
-        match &self.shared {
-            None => self.front.truncate(self.sent + n),
-            Some(data) => {
-                let fixed = self.front.len() + data.len() - self.sent;
-                self.back.truncate(n - fixed);
-            }
         }
     }
 

@@ -7,7 +7,7 @@ use std::collections::HashMap;
 use std::test::Fail;
 use tc_item::exptime::due;
 use tc_item::{
-    Blob, Due, Item, KeptDue, Key, KeyFault, Keys, Moment, NoMemory, alive, is_key, weight,
+    Blob, Due, Item, KeptDue, Key, KeyFault, Keys, Moment, NoMemory, alive, is_key, key_run, weight,
 };
 
 /// The moment of so many seconds, or the last one.
@@ -76,6 +76,28 @@ fn a_long_key_is_too_long_before_it_has_a_bad_byte(rt: HostRuntime) -> Result<()
 }
 
 /// A moment, an exptime and the due that it then means.
+/// Bytes, and how many stand before the first that may not stand in a key: sixteen are looked at
+/// together.
+const RUNS: [(&[u8], usize); 10] = [
+    (b"", 0),
+    (b" ", 0),
+    (b"key\r", 3),
+    (b"0123456789abcde f", 15),
+    (b"0123456789abcdef", 16),
+    (b"0123456789abcdef g", 16),
+    (b"0123456789abcdef0123\x7f0123456789abcdef", 20),
+    (b"0123456789abcdef0123456789abcde\x00", 31),
+    (b"0123456789abcdef0123456789abcdef012 ", 35),
+    (b"\x21\x7e\x80\xff\x20", 4),
+];
+
+#[test]
+fn a_run_of_key_bytes_ends_before_the_first_other(rt: HostRuntime) {
+    for (bytes, wanted) in &RUNS {
+        assert!(rt; key_run(bytes) == *wanted, "{bytes:?}");
+    }
+}
+
 const EXPTIMES: [(u64, i64, Due); 8] = [
     (1_000, i64::MIN, Due::At(1_000)),
     (1_000, -1, Due::At(1_000)),
