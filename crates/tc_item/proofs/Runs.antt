@@ -1,10 +1,12 @@
 -- Runs of bytes that pass a test, one by one and sixteen at a time.
-use Rattle.std.proofs.Common.{◌≡◌, ◌≢◌, ◌⊎◌, ℕ, suc, ◌+◌, ◌%◌, ◌^◌, ◌<◌, ◌≤◌, eqb, Bool, true, false, not, ◌&&◌, cond, List, [], ◌∷◌}
-use Rattle.std.proofs.Common.{map, length, get_or, take, drop, Fits, w8, w64, refl, sym, ap, ap₂, ◌∙◌, arith, inl, inr}
-use Rattle.std.proofs.lemmas.Bool.{agree_below, agree_below_at, cases_eq, eq-eqb, ne_eqb, cond-true, cond-false}
+use Rattle.std.proofs.Common.{◌≡◌, ◌≢◌, ◌⊎◌, ℕ, suc, ◌+◌, ◌-◌, ◌%◌, ◌^◌, ◌<◌, ◌≤◌, eqb, Bool, true, false, not, ◌&&◌, cond, List, [], ◌∷◌}
+use Rattle.std.proofs.Common.{map, length, get_or, take, drop, Fits, w8, w64, refl, sym, ap, ap₂, ◌∙◌, subst, arith, inl, inr}
+use Rattle.std.proofs.lemmas.Bool.{agree_below, agree_below_at, cases_eq, cases_lt, eq-eqb, ne_eqb, cond-true, cond-false}
 use Rattle.std.proofs.lemmas.Simd.{map-map, mask_l-mod, length-chunk, get_or-chunk, leading_from_mask_l, trailing_mask_l}
 use Rattle.std.proofs.lemmas.List.{length-map, length-take-le, take-append-drop, length-drop, drop-drop}
-use Rattle.std.proofs.lemmas.List.Folds.{prefix_len-append}
+use Rattle.std.proofs.lemmas.List.Folds.{prefix_len-append, list_all_at}
+use Rattle.std.proofs.lemmas.List.Elements.{All-from_get_or}
+use Rattle.std.proofs.lemmas.List.Sums.{list_all-from_AllPass, prefix_len-le-length, prefix_len_passes, prefix_len_stops}
 use Rattle.std.specs.Int.{trailing_zeros}
 use Rattle.std.specs.List.{prefix_len, list_all}
 use lib.Lanes.{chunk, zip2, mask_l, top}
@@ -81,3 +83,35 @@ through_all q (x ∷ xs) = go (q x) (cases_eq (prefix_len q xs) (length xs)) (th
     go true (inl same) h = eq-eqb _ _ (omega arith) ∙ (sym (eq-eqb _ _ same) ∙ h)
     go true (inr other) h = ne_eqb _ _ (λ e. other (omega arith)) ∙ (sym (ne_eqb _ _ other) ∙ h)
     go false cases h = ne_eqb 0 (suc (length xs)) (λ e. omega arith)
+
+-- the elements of a run through n elements pass
+pub run_passes : (q : ℕ → Bool) (d : List ℕ) (at n : ℕ) → at + n ≤ length d → prefix_len q (take n (drop at d)) ≡ n
+    → (k : ℕ) → at ≤ k → k < at + n → q (get_or d k 0) ≡ true
+run_passes q d at n room all k from to =
+    let back : at + (k - at) ≡ k = omega arith in
+    let here = get_or-chunk at n d (k - at) 0 (omega arith) ∙ ap (λ j. get_or d j 0) back in
+    subst (λ x. q x ≡ true) here (prefix_len_passes q (take n (drop at d)) (k - at) 0 (omega (arith, all)))
+
+-- one that ends among them shows an element that fails
+pub run_fails : (q : ℕ → Bool) (d : List ℕ) (at n : ℕ) → at + n ≤ length d → prefix_len q (take n (drop at d)) < n → list_all q d ≡ false
+run_fails q d at n room few =
+    let r = prefix_len q (take n (drop at d)) in
+    let long = length-chunk at n d room in
+    let here = get_or-chunk at n d r 0 few in
+    list_all_at q d (at + r) 0 (omega arith) (subst (λ x. q x ≡ false) here (prefix_len_stops q (take n (drop at d)) 0 (omega (arith, long))))
+
+-- the last n elements decide, where those before some of them are known to pass
+pub last_decides : (q : ℕ → Bool) (d : List ℕ) (at n seen : ℕ) → at + n ≡ length d → at ≤ seen
+    → ((k : ℕ) → k < seen → q (get_or d k 0) ≡ true) → eqb (prefix_len q (take n (drop at d))) n ≡ list_all q d
+last_decides q d at n seen whole overlaps front =
+    let room : at + n ≤ length d = omega arith in
+    let few : prefix_len q (take n (drop at d)) ≤ n = omega (arith, prefix_len-le-length q (take n (drop at d)), length-chunk at n d room) in
+    elim (cases_eq (prefix_len q (take n (drop at d))) n) [
+      | inl all ↦
+          eq-eqb _ _ all
+          ∙ sym (list_all-from_AllPass q d (All-from_get_or (λ x. q x ≡ true) d 0 (λ k inside. elim (cases_lt k seen) [
+            | inl early ↦ front k early
+            | inr late ↦ run_passes q d at n room all k (omega arith) (omega arith)
+          ])))
+      | inr other ↦ ne_eqb _ _ other ∙ sym (run_fails q d at n room (omega arith))
+    ]

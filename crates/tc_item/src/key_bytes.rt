@@ -15,13 +15,16 @@ fn is_key_byte(byte: u8) -> bool
     byte > b' ' && byte != 127
 }
 
-/// The place of the lowest bit that is set, or 16.
+/// How many of a load's bytes are looked at where there are fewer.
+const HALF_LANES: usize = 8;
+
+/// The place of the lowest bit that is set, or how many lanes there are.
 #[inline(always)]
-fn lowest_set(mask: u64) -> usize
-    ensures { result ≡ (if mask == 0 then 16 else trailing_zeros w64 mask) }
+fn lowest_set(mask: u64, lanes: usize) -> usize
+    ensures { result ≡ (if mask == 0 then lanes else trailing_zeros w64 mask) }
 {
     if mask == 0 {
-        LANES
+        lanes
     } else {
         mask.trailing_zeros() as usize
     }
@@ -36,10 +39,22 @@ fn run_in_lanes(bytes: &[u8], at: usize) -> usize
 {
     let lanes = u8x16::from_slice(&bytes[at..]);
     let stops = lanes.simd_lt(u8x16::splat(b'!')) | lanes.simd_eq(u8x16::splat(127));
-    lowest_set(stops.to_bitmask())
+    lowest_set(stops.to_bitmask(), LANES)
 }
 
-/// The same, of fewer bytes and one by one.
+/// The same of 8 bytes.
+#[inline(always)]
+fn run_in_half(bytes: &[u8], at: usize) -> usize
+    requires { at + 8 ≤ length bytes.now }
+    ensures value { result ≡ prefix_len is_key_byte (take 8 (drop at bytes.now)) }
+    ensures within { result ≤ 8 }
+{
+    let lanes = u8x8::from_slice(&bytes[at..]);
+    let stops = lanes.simd_lt(u8x8::splat(b'!')) | lanes.simd_eq(u8x8::splat(127));
+    lowest_set(stops.to_bitmask(), HALF_LANES)
+}
+
+/// The same of few bytes, one by one.
 fn run_of_few(bytes: &[u8]) -> usize
     ensures value { result ≡ prefix_len is_key_byte bytes.now }
     ensures within { result ≤ length bytes.now }
@@ -68,9 +83,38 @@ pub fn key_run(bytes: &[u8]) -> usize
     at + run_of_few(&bytes[at..])
 }
 
+/// Whether all bytes may stand in a key, where there are 8 to 16. The last 8 overlap the first.
+fn are_few_key_bytes(bytes: &[u8]) -> bool
+    requires least { 8 ≤ length bytes.now }
+    requires most { length bytes.now ≤ 16 }
+    ensures { result ≡ list_all is_key_byte bytes.now }
+{
+    run_in_half(bytes, 0) == HALF_LANES
+        && run_in_half(bytes, bytes.len() - HALF_LANES) == HALF_LANES
+}
+
+/// Whether all bytes may stand in a key, where there are 16 or more. The last 16 overlap those before.
+fn are_many_key_bytes(bytes: &[u8]) -> bool
+    requires { 16 ≤ length bytes.now }
+    ensures { result ≡ list_all is_key_byte bytes.now }
+{
+    let mut at = 0;
+    while bytes.len() - at > LANES {
+        if run_in_lanes(bytes, at) < LANES {
+            return false;
+        }
+        at += LANES;
+    }
+    run_in_lanes(bytes, bytes.len() - LANES) == LANES
+}
+
 /// Whether all bytes may stand in a key.
 pub(crate) fn are_key_bytes(bytes: &[u8]) -> bool
     ensures { result ≡ list_all is_key_byte bytes.now }
 {
-    key_run(bytes) == bytes.len()
+    match bytes.len() {
+        0..HALF_LANES => run_of_few(bytes) == bytes.len(),
+        HALF_LANES..LANES => are_few_key_bytes(bytes),
+        _ => are_many_key_bytes(bytes),
+    }
 }

@@ -228,6 +228,9 @@ impl<C: Cache> Book<C> {
         if self.number == u64::MAX {
             return Err(CallFault::Worn);
         }
+        let Ok(mut left) = Vec::with_capacity(alloc, 1) else {
+            return Err(CallFault::NoMemory);
+        };
         let Ok(()) = self.cache.prepare(alloc, &mut self.opening) else {
             return Err(CallFault::NoMemory);
         };
@@ -235,7 +238,9 @@ impl<C: Cache> Book<C> {
         let Ok((answer, outcome)) = self.cache.act(alloc, moment, command) else {
             return Err(CallFault::NoMemory);
         };
-        let left = self.opening.turn();
+        let over = self.opening.turn();
+        // Without room it would be given back here.
+        let _ = left.push(over);
         self.turns += 1;
         self.moment = moment;
         let (number, tally) = count_entry(&mut self.number, &mut self.counts, seat_no);
@@ -257,10 +262,7 @@ impl<C: Cache> Book<C> {
             moment,
             outcome: answer,
         };
-        Ok(Called {
-            slip,
-            left: Some(left),
-        })
+        Ok(Called { slip, left })
     }
 
     /// `call`, after a turn of the page where it has `journal` entries. A refusal of either changes
@@ -288,7 +290,10 @@ impl<C: Cache> Book<C> {
     {
         if self.used < journal {
             let slip = self.call(alloc, seat_no, now, conn, command, kept)?;
-            return Ok(Called { slip, left: None });
+            return Ok(Called {
+                slip,
+                left: Vec::new(alloc),
+            });
         }
         self.call_turning(alloc, seat_no, now, conn, command, kept)
     }

@@ -6,7 +6,8 @@ use tc_plain::LeftOver;
 #[derive(Drop)]
 pub struct Called {
     pub slip: Slip,
-    /// What the turn of a page left over. That may be much memory, so it is given back once no lock is
-    /// held.
-    pub left: Option<LeftOver>,
+    /// What the turn of a page left over, if one was turned. That may be much memory, so it is given
+    /// back once no lock is held. It is large itself, and lies in a list, so that calls that turn no
+    /// page don't move its room about.
+    pub left: Vec<LeftOver>,
 }

@@ -9,7 +9,7 @@ invariant_of-self-2 g c =
     subst (λ (b : BookState). c.args.seat_no < length b.counts) (sym c.self.view_is) c.requires.seat in
     let some = subst (λ (b : BookState). 0 < length b.entries) (sym c.self.view_is) c.requires.some in (
       rw (
-        c.turn-left.ensures,
+        c.turn-over.ensures,
         c.in-Ok.ensures.next,
         c.put.ensures.entries,
         c.in-Ok-act.ensures.state,
