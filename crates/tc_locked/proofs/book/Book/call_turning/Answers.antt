@@ -10,7 +10,7 @@ invariant_of-self-2 g c =
     let some = subst (λ (b : BookState). 0 < length b.entries) (sym c.self.view_is) c.requires.some in (
       rw (
         c.turn-over.ensures,
-        c.in-Ok.ensures.next,
+        c.in-Ok-prepare.ensures.next,
         c.put.ensures.entries,
         c.in-Ok-act.ensures.state,
         c.count_entry-number.ensures.number.0,
@@ -20,7 +20,7 @@ invariant_of-self-2 g c =
         c.later-moment.ensures,
         c.requires.copy,
         c.in-Ok-act.ensures.kept,
-        c.in-Ok.ensures.state,
+        c.in-Ok-prepare.ensures.state,
         c.later-moment.ensures,
       )
           (turned_call _ c.args.seat_no c.args.now c.args.conn c.args.command.now some within c.self.invariant.0),
