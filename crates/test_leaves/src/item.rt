@@ -75,7 +75,6 @@ fn a_long_key_is_too_long_before_it_has_a_bad_byte(rt: HostRuntime) -> Result<()
     Ok(())
 }
 
-/// A moment, an exptime and the due that it then means.
 /// Bytes, and how many stand before the first that may not stand in a key: sixteen are looked at
 /// together.
 const RUNS: [(&[u8], usize); 10] = [
@@ -98,6 +97,7 @@ fn a_run_of_key_bytes_ends_before_the_first_other(rt: HostRuntime) {
     }
 }
 
+/// A moment, an exptime and the due that it then means.
 const EXPTIMES: [(u64, i64, Due); 8] = [
     (1_000, i64::MIN, Due::At(1_000)),
     (1_000, -1, Due::At(1_000)),
