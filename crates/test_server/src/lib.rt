@@ -1,13 +1,8 @@
-//! Tests of a whole server: streams of bytes, scripts, what connections are sent, halls that many
-//! threads call, workers and sockets.
+//! Tests of a server that runs in threads: halls that many threads call, workers and sockets.
 #![tactic(auto)]
 
 #[cfg(test)]
 mod hall;
-#[cfg(test)]
-mod script;
-#[cfg(test)]
-mod server;
 #[cfg(test)]
 mod serving;
 #[cfg(test)]

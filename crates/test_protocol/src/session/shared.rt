@@ -132,18 +132,6 @@ fn expect_sent(rt: &impl Abort, session: &mut Session) {
     }
 }
 
-#[test]
-fn large_data_is_sent_from_where_it_lies(rt: HostRuntime) -> Result<(), Fail> {
-    let users = users(rt.alloc())?;
-    let mut session = opened(rt.alloc(), &users, true)?;
-    let outcome = found(rt.alloc(), &["k"], 16_384)?;
-    for _ in 0..2 {
-        ask(&rt, &mut session, &users, "get k\r\n", &outcome)?;
-        expect_sent(&rt, &mut session);
-    }
-    Ok(())
-}
-
 /// Whether a reply of so many bytes waits in one slice, from a line to an end.
 fn expect_copied(rt: &impl Abort, session: &Session, line: &[u8], size: u64, end: &[u8]) {
     let parts = session.parts();
@@ -151,28 +139,6 @@ fn expect_copied(rt: &impl Abort, session: &Session, line: &[u8], size: u64, end
     assert!(rt; first.starts_with(line) && first.ends_with(end));
     assert!(rt; second.is_empty() && third.is_empty());
     expect_number(rt, first.len() as u64, size, "copied");
-}
-
-#[test]
-fn data_of_a_byte_less_is_copied(rt: HostRuntime) -> Result<(), Fail> {
-    let users = users(rt.alloc())?;
-    let mut session = opened(rt.alloc(), &users, true)?;
-    let outcome = found(rt.alloc(), &["k"], 16_383)?;
-    ask(&rt, &mut session, &users, "get k\r\n", &outcome)?;
-    let line = b"VALUE k 7 16383\r\n";
-    expect_copied(&rt, &session, line, 17 + 16_383 + 7, END);
-    Ok(())
-}
-
-#[test]
-fn data_of_several_hits_is_copied(rt: HostRuntime) -> Result<(), Fail> {
-    let users = users(rt.alloc())?;
-    let mut session = opened(rt.alloc(), &users, true)?;
-    let outcome = found(rt.alloc(), &["k", "l"], 16_384)?;
-    ask(&rt, &mut session, &users, "get k l\r\n", &outcome)?;
-    let size = 17 + 16_384 + 19 + 16_384 + 7;
-    expect_copied(&rt, &session, VALUE, size, END);
-    Ok(())
 }
 
 /// Whether a reply's data is shared, and the next one's stands behind its end.
@@ -186,16 +152,98 @@ fn expect_second(rt: &impl Abort, session: &Session) {
     expect_number(rt, third.len() as u64, 7 + 19 + 16_384 + 7, "third");
 }
 
-#[test]
-fn large_data_is_copied_while_other_waits(rt: HostRuntime) -> Result<(), Fail> {
+/// What is asked on a connection of alice's, one line or two, and what waits then.
+#[derive(Clone, Copy)]
+enum Case {
+    /// Data of 16,384 bytes is sent bit by bit, twice.
+    Shared,
+    /// Data of a byte less.
+    Less,
+    /// Data of two hits.
+    Several,
+    /// Data while other data waits.
+    Behind,
+}
+
+impl Case {
+    /// The keys that are found, and how many bytes each holds.
+    fn found(self) -> (&'static [&'static str], usize) {
+        match self {
+            Case::Shared | Case::Behind => (&["k"], 16_384),
+            Case::Less => (&["k"], 16_383),
+            Case::Several => (&["k", "l"], 16_384),
+        }
+    }
+
+    /// What is asked, in order.
+    fn lines(self) -> &'static [&'static str] {
+        match self {
+            Case::Shared | Case::Less => &["get k\r\n"],
+            Case::Several => &["get k l\r\n"],
+            Case::Behind => &["get k\r\n", "gets k\r\n"],
+        }
+    }
+}
+
+/// Whether what was asked is answered so.
+fn expect_case(rt: &impl Abort, session: &mut Session, case: Case) {
+    match case {
+        Case::Shared => expect_sent(rt, session),
+        Case::Less => expect_copied(rt, session, b"VALUE k 7 16383\r\n", 17 + 16_383 + 7, END),
+        Case::Several => {
+            expect_copied(rt, session, VALUE, 17 + 16_384 + 19 + 16_384 + 7, END);
+        }
+        Case::Behind => {
+            expect_second(rt, session);
+            session.sent(17 + 16_384 + 7);
+            expect_copied(rt, session, b"VALUE k 7 16384 1\r\n", 19 + 16_384 + 7, END);
+        }
+    }
+}
+
+/// Asks line after line.
+fn ask_all(
+    rt: &(impl AllocGlobal + Abort),
+    session: &mut Session,
+    users: &Users,
+    lines: &[&str],
+    outcome: &Outcome,
+) -> Result<(), NoMemory> {
+    for line in lines {
+        ask(rt, session, users, line, outcome)?;
+    }
+    Ok(())
+}
+
+/// Asks so often on one connection of alice's, and looks each time.
+fn expect_cases(rt: &(impl AllocGlobal + Abort), case: Case, times: u32) -> Result<(), Fail> {
     let users = users(rt.alloc())?;
     let mut session = opened(rt.alloc(), &users, true)?;
-    let outcome = found(rt.alloc(), &["k"], 16_384)?;
-    ask(&rt, &mut session, &users, "get k\r\n", &outcome)?;
-    ask(&rt, &mut session, &users, "gets k\r\n", &outcome)?;
-    expect_second(&rt, &session);
-    session.sent(17 + 16_384 + 7);
-    let line = b"VALUE k 7 16384 1\r\n";
-    expect_copied(&rt, &session, line, 19 + 16_384 + 7, END);
+    let (names, size) = case.found();
+    let outcome = found(rt.alloc(), names, size)?;
+    for _ in 0..times {
+        ask_all(rt, &mut session, &users, case.lines(), &outcome)?;
+        expect_case(rt, &mut session, case);
+    }
     Ok(())
+}
+
+#[test]
+fn large_data_is_sent_from_where_it_lies(rt: HostRuntime) -> Result<(), Fail> {
+    expect_cases(&rt, Case::Shared, 2)
+}
+
+#[test]
+fn data_of_a_byte_less_is_copied(rt: HostRuntime) -> Result<(), Fail> {
+    expect_cases(&rt, Case::Less, 1)
+}
+
+#[test]
+fn data_of_several_hits_is_copied(rt: HostRuntime) -> Result<(), Fail> {
+    expect_cases(&rt, Case::Several, 1)
+}
+
+#[test]
+fn large_data_is_copied_while_other_waits(rt: HostRuntime) -> Result<(), Fail> {
+    expect_cases(&rt, Case::Behind, 1)
 }

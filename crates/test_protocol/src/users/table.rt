@@ -9,7 +9,8 @@ fields\n\
 # are passed over.\n\n\
 # Where the server listens: an IP address and a port. Names are not resolved.\n\
 listen = \"127.0.0.1:11211\"\n\n\
-# How many threads serve connections: 1 to 64.\n\
+# How many threads serve connections: 1 to 64. Users are dealt out to them in the order below, so\n\
+# that one thread serves all connections of a user; `serve --spread` has all threads serve each user.\n\
 workers = 4\n\n\
 # How many entries a page of the journal holds before it is turned: 16 to 65536.\n\
 journal = 4096\n\n\
