@@ -18,6 +18,7 @@
 mod deferred_work;
 mod fast;
 mod freezing;
+mod hints;
 mod live_slots;
 mod looking;
 mod parts;

@@ -18,6 +18,7 @@ ghost use Rattle.tc_partition.specs.Deferred.{Miss, hit, do_note, peeked};
 ghost use Rattle.tc_partition.specs.WaitingSlots.{SeeksSlot, placed_in};
 ghost use Rattle.tc_partition.specs.LiveSlots.{live_of, plan_of, IsKeyed, IsFree};
 
+use crate::hints::Hints;
 use crate::slots::Slots;
 use crate::work::Work;
 use std::alloc::Global;
@@ -31,6 +32,8 @@ use tc_stats::Counters;
 pub struct LiveSlots {
     /// The entries held.
     pub held: Slots,
+    /// Where keys were found last.
+    pub hints: Hints,
     /// How often each key was seen of late.
     pub sketch: Sketch,
     /// The second at which all entries go, if that was asked for.
@@ -88,7 +91,37 @@ impl LiveSlots {
         requires { AreSound self.now.held.limits self.now.held.areas }
         ensures { SeeksSlot result moment key.now self.now }
     {
-        self.seek_from(None, key, moment)
+        self.seek_from(self.hint(key), key, moment)
+    }
+
+    /// Where a key may be.
+    fn hint(&self, key: &Key) -> Option<Slot> {
+        self.hints.slot(hash(key.as_bytes()))
+    }
+
+    /// The same, and how often such a key was seen of late, so that memory is read which a look-up of
+    /// it will change.
+    pub(crate) fn hint_ahead(&self, key: &Key) -> (Option<Slot>, u8) {
+        let hash = hash(key.as_bytes());
+        (self.hints.slot(hash), self.sketch.freq(hash))
+    }
+
+    /// Where what a key will hold at the moment is, which may be where the hint at the key's place in the
+    /// order asked says, if there are hints.
+    pub(crate) fn seek_by(
+        &self,
+        hints: &[Option<Slot>],
+        i: usize,
+        key: &Key,
+        moment: Moment,
+    ) -> Option<Slot>
+        requires { AreSound self.now.held.limits self.now.held.areas }
+        ensures { SeeksSlot result moment key.now self.now }
+    {
+        match hints.get(i) {
+            Some(hint) => self.seek_from(*hint, key, moment),
+            None => self.seek(key, moment),
+        }
     }
 
     /// The same, of a key that was found at this place: where it is still there, the index is not
@@ -186,7 +219,9 @@ impl LiveSlots {
         ensures slots { self.new.held.slots ≡ self.old.held.slots }
     {
         self.held.owning();
-        self.sketch.record(self.held.hash_at(slot));
+        let hash = self.held.hash_at(slot);
+        self.sketch.record(hash);
+        self.hints.note(hash, slot);
         self.held.access_at(slot);
     }
 
@@ -208,7 +243,8 @@ impl LiveSlots {
         requires room { self.old.held.has_room ≡ true }
         ensures live { live_of self.new ≡ used entry (live_of self.old) }
     {
-        self.sketch.record(hash(key.as_bytes()));
+        let hash = hash(key.as_bytes());
+        self.sketch.record(hash);
         let alive = alive(&entry.item, self.moment);
         match self.held.find_again(place, &key) {
             Some(slot) => {
@@ -220,7 +256,8 @@ impl LiveSlots {
             }
             None => {
                 if alive {
-                    self.held.fill(key, entry);
+                    let slot = self.held.fill(key, entry);
+                    self.hints.note(hash, slot);
                 }
             }
         }
@@ -252,7 +289,9 @@ impl LiveSlots {
         ensures live { live_of self.new ≡ live_of self.old }
         ensures room { OnOk result (self.new.held.has_room ≡ true) }
     {
-        self.held.make_room()
+        self.held.make_room()?;
+        self.hints.fit(self.held.count());
+        Ok(())
     }
 
     /// Takes all entries out, at once or so many seconds from its moment.

@@ -39,6 +39,24 @@ impl<'a> FoundEntries for Sought<'a> {
     }
 }
 
+/// Where keys may be, in the order asked; nowhere for one alone. Reads what their look-ups will read
+/// and change.
+fn hints_of(alloc: Global, live: &LiveSlots, keys: &[Key]) -> Result<Places, NoMemory> {
+    let mut hints = SmallVec::new(alloc);
+    if keys.len() < 2 {
+        return Ok(hints);
+    }
+    hints.reserve(keys.len())?;
+    let mut sum: u64 = 0;
+    for key in keys {
+        let (hint, seen) = live.hint_ahead(key);
+        hints.push(hint)?;
+        sum = sum.wrapping_add(u64::from(seen));
+    }
+    have_read(sum);
+    Ok(hints)
+}
+
 /// Where keys are found that will hold something at the moment, in the order asked.
 fn seek_all(
     alloc: Global,
@@ -50,15 +68,17 @@ fn seek_all(
     ensures { IfOk result (λ places. map (placed_in live.now.held.slots) places.items
         ≡ found_in moment keys.now (live_of live.now)) }
 {
+    let hints = hints_of(alloc, live, keys)?;
+    read_ahead(live, hints.as_slice());
     let mut places = SmallVec::new(alloc);
     places.reserve(keys.len())?;
-    for key in keys {
-        places.push(live.seek(key, moment))?;
+    for (i, key) in keys.iter().enumerate() {
+        places.push(live.seek_by(hints.as_slice(), i, key, moment))?;
     }
     Ok(places)
 }
 
-/// Reads the data in slots, where there are several, and does nothing with it. To show an item is to
+/// Reads what slots hold, where there are several, and does nothing with it. To show an item is to
 /// wait for its data, whose holders are counted by an atomic that no later read overtakes.
 fn read_ahead(live: &LiveSlots, places: &[Option<Slot>]) {
     if places.len() < 2 {
@@ -66,10 +86,8 @@ fn read_ahead(live: &LiveSlots, places: &[Option<Slot>]) {
     }
     let mut sum: u64 = 0;
     for place in places {
-        if let Some(entry) = live.held_at(*place)
-            && let Some(byte) = entry.item.blob.as_slice().first()
-        {
-            sum = sum.wrapping_add(u64::from(*byte));
+        if let Some(slot) = place {
+            sum = sum.wrapping_add(live.held.read(*slot));
         }
     }
     have_read(sum);
@@ -96,7 +114,6 @@ pub(crate) fn seek_hits(
         live,
         places: places.as_slice(),
     };
-    read_ahead(live, found.places);
     let hits = show_all(alloc, keys, &found, moment, due)?;
     Ok((hits, places))
 }

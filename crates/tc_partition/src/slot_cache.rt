@@ -17,6 +17,7 @@ ghost use Rattle.tc_partition.specs.LiveSlots.{live_of, plan_of, IsKeyed, IsFree
 ghost use Rattle.tc_partition.specs.SlotCaches.{cache_of, IsSlotCache};
 ghost use Rattle.tc_partition.specs.WaitingSlots.{SeeksSlot};
 
+use crate::hints::Hints;
 use crate::live_slots::LiveSlots;
 use crate::looking::{look_all, seek_hits};
 use crate::slots::Slots;
@@ -58,6 +59,7 @@ impl SlotCache {
         let limits = Limits::of(budget);
         let live = LiveSlots {
             held: Slots::new(alloc, hasher, limits)?,
+            hints: Hints::new(alloc),
             sketch: Sketch::new(alloc, width_of(budget))?,
             flush: None,
             moment: Moment::FIRST,

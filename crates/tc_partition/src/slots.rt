@@ -150,6 +150,19 @@ impl Slots {
         self.entries.get(slot.0)
     }
 
+    /// Reads what a look-up of what a slot holds waits for: the entry, both ends of its data, and its
+    /// node in the lists. What that comes to says nothing.
+    pub fn read(&self, slot: Slot) -> u64 {
+        let node = u64::from(self.lists.holds(slot));
+        let Some(entry) = self.entries.get(slot.0) else {
+            return node;
+        };
+        match entry.item.blob.as_slice() {
+            [first, .., last] => node + u64::from(*first) + u64::from(*last),
+            _ => node,
+        }
+    }
+
     /// The key of what a slot holds; no bytes where it holds nothing.
     pub fn key_at(&self, slot: Slot) -> &[u8]
         ensures { result.now ≡ (entry_or (slice_index_or self.now.slots slot.0 None)).key }
@@ -204,9 +217,9 @@ impl Slots {
         self.lists.heaviest()
     }
 
-    /// Puts an entry at the front of the window, whose key holds nothing; `key` is a copy of that
-    /// key.
-    pub fn fill(&mut self, key: Key, entry: Entry)
+    /// Puts an entry at the front of the window, whose key holds nothing, and says in which slot; `key`
+    /// is a copy of that key.
+    pub fn fill(&mut self, key: Key, entry: Entry) -> Slot
         requires room { self.old.has_room ≡ true }
         requires key { key ≡ entry.key }
         requires free { held entry.key self.old.areas ≡ None }
@@ -220,6 +233,7 @@ impl Slots {
         let slot = take_in(&mut self.index, &mut self.entries, key, entry);
         self.lists.push_window(slot, weight);
         time(&mut self.wheel, slot, due);
+        slot
     }
 
     /// Puts an entry in the place of what its key holds in this slot: an access.

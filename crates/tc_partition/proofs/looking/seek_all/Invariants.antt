@@ -5,6 +5,6 @@ use Rattle.tc_partition.specs.LiveSlots.{live_of}
 use Rattle.tc_partition.specs.WaitingSlots.{placed_in}
 use Rattle.tc_partition.proofs.looking.seek_all.Given as goal
 
-abbrev pub invariant-loop-key : goal.invariant-loop-key
-invariant-loop-key l =
-    map (placed_in l.live.held.slots) l.places.items ≡ found_in l.moment (take l.key-index l.keys) (live_of l.live)
+abbrev pub invariant-loop-i : goal.invariant-loop-i
+invariant-loop-i l =
+    map (placed_in l.live.held.slots) l.places.items ≡ found_in l.moment (take l.i l.keys) (live_of l.live)

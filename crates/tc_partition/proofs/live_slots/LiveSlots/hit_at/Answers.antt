@@ -26,4 +26,4 @@ returns-clause-live c = λ e h.
       sketch = c.record.new.self;
     } in n)) c.access_at.ensures.limits
     ∙ hit_by l e c.access_at.new.self.areas c.record.new.self (c.requires.alive e h) (c.owning.ensures c.args.slot.0 e h)
-    (c.access_at.ensures.areas e h) (c.record.ensures.recorded ∙ ap (recorded l.sketch) (c.hash_at.ensures e h))
+    (c.access_at.ensures.areas e h) (c.record.ensures.recorded ∙ ap (recorded l.sketch) (c.hash_at-hash.ensures e h))
