@@ -8,6 +8,7 @@ pub mod Outranked
 pub mod Put
 pub mod Read
 pub mod Reserved
+pub mod Sinking
 pub mod Standing
 pub mod Taken
 pub mod Walked

@@ -4,7 +4,7 @@ ghost use Rattle.tc_model.specs.Areas.{total, main_weight, shortest, from_tail};
 ghost use Rattle.tc_slru.specs.Slots.{placed, weigh};
 ghost use Rattle.tc_slru.specs.Victims.{Counts};
 ghost use Rattle.tc_slru.specs.SlotLists.{DropsNext, AreLight};
-ghost use Rattle.tc_slru.specs.Dropping.{IsMainsLast, ranks_above, verdict_of, held_to, with_limits};
+ghost use Rattle.tc_slru.specs.Dropping.{IsMainsLast, IsSunk, ranks_above, held_to, with_limits};
 
 use crate::area::Area;
 use crate::linked_areas::{Held, LinkedAreas};
@@ -16,17 +16,6 @@ pub struct Limits {
     pub window: u64,
     pub main: u64,
     pub protected: u64,
-}
-
-/// What becomes of the window's last where the window weighs too much.
-#[derive(Clone, Copy)]
-pub enum Verdict {
-    /// To the front of probation: main has room for it, or is rid of its victims without reaching it.
-    Enters,
-    /// It stays until the last of main, which is its first victim, is gone.
-    Waits,
-    /// It is dropped.
-    Refused,
 }
 
 /// Holds protected to its limit: its last goes to the front of probation while it weighs too much.
@@ -57,13 +46,24 @@ fn drop_last(areas: &mut LinkedAreas) -> Slot
     last.slot
 }
 
-/// Whether all victims were seen less often than `level`: the shortest run from main's tail that
-/// weighs `need`.
-fn outranks<F: Fn(Slot) -> u8>(areas: &LinkedAreas, freq: &F, level: u8, need: u64) -> bool
-    requires { F.IsAlwaysCallable freq.now }
-    ensures { (seen : ℕ → ℕ) → Counts (F.post freq.now) seen
-        → result ≡ ranks_above seen level (shortest weigh need (from_tail areas.now.areas)) }
+/// What a candidate's victims have to weigh: what main would weigh too much with it.
+fn room_to_make(areas: &LinkedAreas, limit: u64, candidate: Held) -> u64
+    requires { main_weight weigh areas.now.areas + candidate.weight < 2 ^ 64 }
+    ensures { result ≡ main_weight weigh areas.now.areas + candidate.weight - limit }
 {
+    let sizes = areas.sizes();
+    let main = sizes.probation.weight + sizes.protected.weight;
+    (main + candidate.weight as u64).saturating_sub(limit)
+}
+
+/// Whether the candidate was seen more often than each of its victims: the shortest run from main's
+/// tail that weighs `need`.
+fn outranks<F: Fn(Slot) -> u8>(areas: &LinkedAreas, freq: &F, candidate: Slot, need: u64) -> bool
+    requires { F.IsAlwaysCallable freq.now }
+    ensures { (seen : ℕ → ℕ) → Counts (F.post freq.now) seen → result
+        ≡ ranks_above seen (seen candidate.0) (shortest weigh need (from_tail areas.now.areas)) }
+{
+    let level = freq(candidate);
     match areas.shortfall(Area::Probation, freq, level, need) {
         Some(rest) => areas
             .shortfall(Area::Protected, freq, level, rest)
@@ -72,26 +72,18 @@ fn outranks<F: Fn(Slot) -> u8>(areas: &LinkedAreas, freq: &F, level: u8, need: u
     }
 }
 
-/// What becomes of the candidate.
-fn judge<F>(areas: &LinkedAreas, limits: Limits, freq: &F, candidate: Held) -> Verdict
-where
-    F: Fn(Slot) -> u8,
-    requires callable { F.IsAlwaysCallable freq.now }
-    requires fits { main_weight weigh areas.now.areas + candidate.weight < 2 ^ 64 }
-    ensures verdict { (seen : ℕ → ℕ) → Counts (F.post freq.now) seen → result
-        ≡ verdict_of seen limits areas.now.areas (placed candidate.slot.0 candidate.weight) }
-    ensures waits { result ≡ Verdict.Waits → sum_by weigh areas.now.areas.probation
-        < main_weight weigh areas.now.areas + candidate.weight - limits.main }
+/// Brings all victims into probation: protected's last goes to its front while it weighs less than
+/// `need`. So a candidate that enters then stands before its victims, which are still main's last.
+fn sink(areas: &mut LinkedAreas, need: u64)
+    requires enough { need ≤ main_weight weigh areas.old.areas }
+    requires fits { total weigh areas.old.areas < 2 ^ 64 }
+    ensures slots { areas.new.slots ≡ areas.old.slots }
+    ensures sunk { IsSunk need areas.old.areas areas.new.areas }
+    ensures room { need ≤ sum_by weigh areas.new.areas.probation }
 {
-    let sizes = areas.sizes();
-    let main = sizes.probation.weight + sizes.protected.weight;
-    let need = (main + candidate.weight as u64).saturating_sub(limits.main);
-    if !outranks(areas, freq, freq(candidate.slot), need) {
-        Verdict::Refused
-    } else if need <= sizes.probation.weight {
-        Verdict::Enters
-    } else {
-        Verdict::Waits
+    while areas.sizes().probation.weight < need {
+        let last = areas.last(Area::Protected);
+        areas.move_to(Area::Probation, last);
     }
 }
 
@@ -111,14 +103,13 @@ where
 {
     while is_main_within(areas, limits.main) && areas.sizes().window.weight > limits.window {
         let candidate = areas.last(Area::Window);
-        match judge(areas, limits, freq, candidate) {
-            Verdict::Enters => areas.move_to(Area::Probation, candidate),
-            Verdict::Waits => return Some(drop_last(areas)),
-            Verdict::Refused => {
-                areas.take(candidate.slot);
-                return Some(candidate.slot);
-            }
+        let need = room_to_make(areas, limits.main, candidate);
+        if !outranks(areas, freq, candidate.slot, need) {
+            areas.take(candidate.slot);
+            return Some(candidate.slot);
         }
+        sink(areas, need);
+        areas.move_to(Area::Probation, candidate);
     }
     if is_main_within(areas, limits.main) {
         None
