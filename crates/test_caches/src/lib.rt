@@ -12,4 +12,6 @@ mod rows;
 #[cfg(test)]
 mod table;
 #[cfg(test)]
+mod traces;
+#[cfg(test)]
 mod waiting;

@@ -222,6 +222,41 @@ fn victims_in_probation_leave_protected_alone(rt: HostRuntime) -> Result<(), Fai
     play(&rt, rt.alloc(), 10, 100, 80, &VICTIMS_IN_PROBATION)
 }
 
+/// Slots 0 to 2 were accessed, in this order, so 3, 0 and 1 are the last of main.
+const VICTIMS_IN_PROTECTED: [Move; 24] = [
+    Move::Push(0, 25),
+    Move::Settle(None),
+    Move::Push(1, 25),
+    Move::Settle(None),
+    Move::Push(2, 25),
+    Move::Settle(None),
+    Move::Push(3, 25),
+    Move::Settle(None),
+    Move::Access(0, 25),
+    Move::Access(1, 25),
+    Move::Access(2, 25),
+    Move::Weigh(0, 25, 75),
+    // slot 1 was seen as often as 4, which is dropped
+    Move::Seen(4, 2),
+    Move::Seen(1, 2),
+    Move::Push(4, 60),
+    Move::Settle(Some(4)),
+    Move::Weigh(0, 25, 75),
+    // and now less often: three victims that weigh 75 make room for 60
+    Move::Seen(4, 3),
+    Move::Push(4, 60),
+    Move::Settle(Some(3)),
+    Move::Settle(Some(0)),
+    Move::Settle(Some(1)),
+    Move::Settle(None),
+    Move::Weigh(0, 60, 25),
+];
+
+#[test]
+fn victims_in_protected_go_after_those_in_probation(rt: HostRuntime) -> Result<(), Fail> {
+    play(&rt, rt.alloc(), 10, 100, 80, &VICTIMS_IN_PROTECTED)
+}
+
 /// Slot 1 was seen as often as the candidate, slot 3.
 const SEEN_AS_OFTEN: [Move; 12] = [
     Move::Seen(1, 3),
