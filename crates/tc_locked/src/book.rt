@@ -15,6 +15,7 @@ use crate::entry::{Entry, Slip};
 use crate::old_entries::read_ahead;
 use std::alloc::Global;
 use std::marker::Model;
+use std::mem;
 use tc_grammar::Command;
 use tc_item::{Moment, NoMemory};
 use tc_plain::{Cache, LeftOver, Plain, Snapshot};
@@ -86,7 +87,7 @@ fn put(entries: &mut Vec<Entry>, used: usize, entry: Entry)
 {
     if used < entries.len() {
         read_ahead(entries.as_slice(), used);
-        entries[used] = entry;
+        drop(mem::replace(&mut entries[used], entry));
     } else {
         entries.push_reserved(entry);
     }
@@ -319,7 +320,7 @@ impl<C: Cache> Book<C> {
             return Ok(());
         }
         self.cache.prepare(alloc, &mut self.opening)?;
-        let _left = self.opening.turn();
+        drop(self.opening.turn());
         self.used = 0;
         self.turns += 1;
         Ok(())
