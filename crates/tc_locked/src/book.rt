@@ -3,6 +3,8 @@ ghost use Rattle.std.specs.Prelude.{◌≡◌, ◌≢◌, ℕ, ◌+◌, ◌-◌,
 ghost use Rattle.std.specs.Prelude.{slice_index, slice_set, take, ◌++◌, ◌∷◌, [], vec_len, vec_capacity, Some, IfSome, IfNone};
 ghost use Rattle.tc_locked.specs.declared.entry.Entry.{Entry};
 ghost use Rattle.tc_fresh.specs.Beginning.{IsEmptyCache};
+ghost use Rattle.tc_plain.specs.Doing.{act};
+ghost use Rattle.tc_plain.specs.Showing.{shown_in, next_in};
 ghost use Rattle.tc_locked.specs.Books.{entry_of, after_call, slip_of, after_maintain, page_turned, turn_if, paged, fresh_book};
 ghost use Rattle.tc_locked.specs.Closing.{HasLegalPage};
 ghost use Rattle.tc_locked.specs.declared.call_fault.CallFault.TheVariants.{Worn, NoUser};
@@ -13,9 +15,11 @@ use crate::entry::{Entry, Slip};
 use crate::old_entries::read_ahead;
 use std::alloc::Global;
 use std::marker::Model;
+use std::mem;
 use tc_grammar::Command;
 use tc_item::{Moment, NoMemory};
-use tc_plain::{Cache, Plain, Snapshot};
+use tc_plain::{Cache, LeftOver, Plain, Snapshot};
+use tc_stats::Outcome;
 
 /// A cache and the calls that it did since its page began, seen as its state. It is always legal.
 #[derive(Drop)]
@@ -83,7 +87,7 @@ fn put(entries: &mut Vec<Entry>, used: usize, entry: Entry)
 {
     if used < entries.len() {
         read_ahead(entries.as_slice(), used);
-        entries[used] = entry;
+        drop(mem::replace(&mut entries[used], entry));
     } else {
         entries.push_reserved(entry);
     }
@@ -105,14 +109,139 @@ fn count_entry(number: &mut u64, counts: &mut Vec<u64>, seat_no: usize) -> (u64,
     (*number, tally)
 }
 
+/// Enters a call that the cache did: counts it, puts its entry behind the first `used`, and gives what
+/// its caller is told.
+fn enter(
+    entries: &mut Vec<Entry>,
+    used: usize,
+    number: &mut u64,
+    counts: &mut Vec<u64>,
+    page: u64,
+    seat_no: usize,
+    moment: Moment,
+    conn: u32,
+    kept: Command,
+    outcomes: (Outcome, Outcome),
+) -> Slip
+    requires within { used ≤ length entries.old.items }
+    requires room { length entries.old.items ≤ used
+        → vec_len entries.old < vec_capacity entries.old }
+    requires seat { seat_no < length counts.old.items }
+    requires number { number.old + 1 < 2 ^ 64 }
+    requires tally { slice_index counts.old.items seat_no + 1 < 2 ^ 64 }
+    ensures entries { take (used + 1) entries.new.items ≡ take used entries.old.items ++ record {
+      seat = seat_no;
+      tally = slice_index counts.old.items seat_no + 1;
+      number = number.old + 1;
+      moment = moment;
+      conn = conn;
+      command = kept;
+      outcome = outcomes.1;
+    } ∷ [] }
+    ensures within { used + 1 ≤ length entries.new.items }
+    ensures number { number.new ≡ number.old + 1 }
+    ensures counts { counts.new.items
+        ≡ slice_set counts.old.items seat_no (slice_index counts.old.items seat_no + 1) }
+    ensures slip { result ≡ record {
+      page = page;
+      number = number.old + 1;
+      tally = slice_index counts.old.items seat_no + 1;
+      moment = moment;
+      outcome = outcomes.0;
+    } }
+{
+    let (number, tally) = count_entry(number, counts, seat_no);
+    let (answer, outcome) = outcomes;
+    let entry = Entry {
+        seat: seat_no,
+        tally,
+        number,
+        moment,
+        conn,
+        command: kept,
+        outcome,
+    };
+    put(entries, used, entry);
+    Slip {
+        page,
+        number,
+        tally,
+        moment,
+        outcome: answer,
+    }
+}
+
+/// What can fail of a call: room for its entry behind the first `used`, and what the cache does. Its
+/// outcome is given twice, one to answer and one to keep.
+fn act_on_page<C: Cache>(
+    alloc: Global,
+    cache: &mut C,
+    entries: &mut Vec<Entry>,
+    used: usize,
+    number: u64,
+    moment: Moment,
+    command: &Command,
+) -> Result<(Outcome, Outcome), CallFault>
+    ensures answer { IfOk result (λ r. r.0 ≡ (act (C.settled cache.old) moment command.now).0) }
+    ensures kept { IfOk result (λ r. r.1 ≡ (act (C.settled cache.old) moment command.now).0) }
+    ensures state { OnOk result (C.settled cache.new
+        ≡ (act (C.settled cache.old) moment command.now).1) }
+    ensures entries { entries.new.items ≡ entries.old.items }
+    ensures room { OnOk result (length entries.new.items ≤ used
+        → vec_len entries.new < vec_capacity entries.new) }
+    ensures number { OnOk result (number + 1 < 2 ^ 64) }
+    ensures worn { IfErr result (λ fault. (fault ≡ Worn → number ≡ 2 ^ 64 - 1)
+        × (fault ≢ NoUser)) }
+    ensures unchanged_on_err { OnErr result (C.settled cache.new ≡ C.settled cache.old) }
+{
+    if number == u64::MAX {
+        return Err(CallFault::Worn);
+    }
+    make_room(entries, used)?;
+    Ok(cache.act(alloc, moment, command)?)
+}
+
+/// The same of a call on a new page: the next opening is prepared, and there is room for what the turn
+/// leaves over.
+fn act_on_next<C: Cache>(
+    alloc: Global,
+    cache: &mut C,
+    opening: &mut Snapshot,
+    left: &mut Vec<LeftOver>,
+    number: u64,
+    moment: Moment,
+    command: &Command,
+) -> Result<(Outcome, Outcome), CallFault>
+    ensures answer { IfOk result (λ r. r.0 ≡ (act (C.settled cache.old) moment command.now).0) }
+    ensures kept { IfOk result (λ r. r.1 ≡ (act (C.settled cache.old) moment command.now).0) }
+    ensures state { OnOk result (C.settled cache.new
+        ≡ (act (C.settled cache.old) moment command.now).1) }
+    ensures shown { shown_in opening.new ≡ shown_in opening.old }
+    ensures next { OnOk result (next_in opening.new ≡ C.settled cache.old) }
+    ensures room { OnOk result (vec_len left.new < vec_capacity left.new) }
+    ensures number { OnOk result (number + 1 < 2 ^ 64) }
+    ensures worn { IfErr result (λ fault. (fault ≡ Worn → number ≡ 2 ^ 64 - 1)
+        × (fault ≢ NoUser)) }
+    ensures unchanged_on_err { OnErr result (C.settled cache.new ≡ C.settled cache.old) }
+{
+    if number == u64::MAX {
+        return Err(CallFault::Worn);
+    }
+    let Ok(()) = left.reserve(1) else {
+        return Err(CallFault::NoMemory);
+    };
+    cache.prepare(alloc, opening)?;
+    Ok(cache.act(alloc, moment, command)?)
+}
+
 impl<C: Cache> Book<C> {
     /// The book of an empty cache, with a count for each of so many seats.
     pub fn open(alloc: Global, mut cache: C, seats: usize) -> Result<Book<C>, NoMemory>
         requires empty { IsEmptyCache (C.settled cache) }
         ensures { IfOk result (λ book. book ≡ fresh_book (C.settled cache) seats) }
     {
-        let opening = cache.snapshot(alloc)?;
         let counts = vec![in alloc; 0u64; seats]?;
+        let opening = cache.snapshot(alloc)?;
         Ok(Book {
             opening,
             entries: Vec::new(alloc),
@@ -146,36 +275,31 @@ impl<C: Cache> Book<C> {
             × (fault ≢ NoUser)) }
         ensures unchanged_on_err { OnErr result (self.new ≡ self.old) }
     {
-        if self.number == u64::MAX {
-            return Err(CallFault::Worn);
-        }
-        let Ok(()) = make_room(&mut self.entries, self.used) else {
-            return Err(CallFault::NoMemory);
-        };
         let moment = self.moment.later(now);
-        let Ok((answer, outcome)) = self.cache.act(alloc, moment, command) else {
-            return Err(CallFault::NoMemory);
-        };
-        self.moment = moment;
-        let (number, tally) = count_entry(&mut self.number, &mut self.counts, seat_no);
-        let entry = Entry {
-            seat: seat_no,
-            tally,
-            number,
+        let outcomes = act_on_page(
+            alloc,
+            &mut self.cache,
+            &mut self.entries,
+            self.used,
+            self.number,
+            moment,
+            command,
+        )?;
+        let slip = enter(
+            &mut self.entries,
+            self.used,
+            &mut self.number,
+            &mut self.counts,
+            self.turns,
+            seat_no,
             moment,
             conn,
-            command: kept,
-            outcome,
-        };
-        put(&mut self.entries, self.used, entry);
+            kept,
+            outcomes,
+        );
+        self.moment = moment;
         self.used += 1;
-        Ok(Slip {
-            page: self.turns,
-            number,
-            tally,
-            moment,
-            outcome: answer,
-        })
+        Ok(slip)
     }
 
     /// Deferred work of the cache, at most `limit` pieces of it.
@@ -196,7 +320,7 @@ impl<C: Cache> Book<C> {
             return Ok(());
         }
         self.cache.prepare(alloc, &mut self.opening)?;
-        let _left = self.opening.turn();
+        drop(self.opening.turn());
         self.used = 0;
         self.turns += 1;
         Ok(())
@@ -225,43 +349,33 @@ impl<C: Cache> Book<C> {
             × (fault ≢ NoUser)) }
         ensures unchanged_on_err { OnErr result (self.new ≡ self.old) }
     {
-        if self.number == u64::MAX {
-            return Err(CallFault::Worn);
-        }
-        let Ok(mut left) = Vec::with_capacity(alloc, 1) else {
-            return Err(CallFault::NoMemory);
-        };
-        let Ok(()) = self.cache.prepare(alloc, &mut self.opening) else {
-            return Err(CallFault::NoMemory);
-        };
         let moment = self.moment.later(now);
-        let Ok((answer, outcome)) = self.cache.act(alloc, moment, command) else {
-            return Err(CallFault::NoMemory);
-        };
-        let over = self.opening.turn();
-        // Without room it would be given back here.
-        let _ = left.push(over);
+        let mut left = Vec::new(alloc);
+        let outcomes = act_on_next(
+            alloc,
+            &mut self.cache,
+            &mut self.opening,
+            &mut left,
+            self.number,
+            moment,
+            command,
+        )?;
+        left.push_reserved(self.opening.turn());
         self.turns += 1;
-        self.moment = moment;
-        let (number, tally) = count_entry(&mut self.number, &mut self.counts, seat_no);
-        let entry = Entry {
-            seat: seat_no,
-            tally,
-            number,
+        let slip = enter(
+            &mut self.entries,
+            0,
+            &mut self.number,
+            &mut self.counts,
+            self.turns,
+            seat_no,
             moment,
             conn,
-            command: kept,
-            outcome,
-        };
-        put(&mut self.entries, 0, entry);
+            kept,
+            outcomes,
+        );
+        self.moment = moment;
         self.used = 1;
-        let slip = Slip {
-            page: self.turns,
-            number,
-            tally,
-            moment,
-            outcome: answer,
-        };
         Ok(Called { slip, left })
     }
 

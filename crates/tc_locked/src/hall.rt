@@ -96,6 +96,7 @@ impl<C: Cache, N: Naming> Hall<C, N> {
         let kept = &mut *guard;
         if kept.user() != number {
             // A lock doesn't know which place it has. No hall is made so.
+            drop(copy);
             return Err(CallFault::Worn);
         }
         let Called { slip, left } = kept.call(

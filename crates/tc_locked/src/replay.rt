@@ -18,6 +18,20 @@ fn gives(alloc: Global, cache: &mut Plain, entry: &Entry) -> Result<bool, NoMemo
     Ok(outcome.is(&entry.outcome))
 }
 
+/// Does the commands of entries again, each at its moment: the number of the first entry whose outcome
+/// differs, or `None` where each outcome is the one that is kept.
+fn first_odd(alloc: Global, cache: &mut Plain, entries: &[Entry]) -> Result<Option<u64>, NoMemory>
+    ensures { IfOk result (λ odd. MatchOption odd (Gives cache.old entries.now)
+        (λ number. IsFirstOdd cache.old entries.now number)) }
+{
+    for entry in entries {
+        if !gives(alloc, cache, entry)? {
+            return Ok(Some(entry.number));
+        }
+    }
+    Ok(None)
+}
+
 /// Does the commands of entries again, each at its moment, on a copy of this cache: the number of the
 /// first entry whose outcome differs, or `None` where each outcome is the one that is kept.
 pub fn replays(alloc: Global, opening: &Plain, entries: &[Entry]) -> Result<Option<u64>, NoMemory>
@@ -25,10 +39,5 @@ pub fn replays(alloc: Global, opening: &Plain, entries: &[Entry]) -> Result<Opti
         (λ number. IsFirstOdd opening.now entries.now number)) }
 {
     let mut cache = opening.freeze(alloc)?;
-    for entry in entries {
-        if !gives(alloc, &mut cache, entry)? {
-            return Ok(Some(entry.number));
-        }
-    }
-    Ok(None)
+    first_odd(alloc, &mut cache, entries)
 }

@@ -8,18 +8,16 @@ invariant_of-self-2 g c =
     let within : c.args.seat_no < length c.self.inside.counts.items =
     subst (λ (b : BookState). c.args.seat_no < length b.counts) (sym c.self.view_is) c.requires.seat in (
       rw (
-        c.put.ensures.entries,
-        c.in-Ok.ensures.entries,
-        c.in-Ok-act.ensures.state,
-        c.count_entry-number.ensures.number.0,
-        c.count_entry-number.ensures.number.1,
-        c.count_entry-number.ensures.counts,
-        c.count_entry-number.ensures.tally,
+        c.enter-slip.ensures.entries,
+        c.in_ok-outcomes.ensures.entries,
+        c.in_ok-outcomes.ensures.state,
+        c.enter-slip.ensures.number,
+        c.enter-slip.ensures.counts,
         c.later-moment.ensures,
         c.requires.copy,
-        c.in-Ok-act.ensures.kept,
+        c.in_ok-outcomes.ensures.kept,
         c.later-moment.ensures,
       )
           (book_call _ c.args.seat_no c.args.now c.args.conn c.args.command.now within c.self.invariant.0),
-      c.put.ensures.within,
+      c.enter-slip.ensures.within,
     )

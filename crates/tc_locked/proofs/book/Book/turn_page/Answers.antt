@@ -7,7 +7,7 @@ pub invariant_of-self-2 : goal.invariant_of-self-2
 invariant_of-self-2 g c =
     let used : 0 < c.self.inside.used = grind (arith, common_steps) in
     let some = take_some c.self.inside.used c.self.inside.entries.items used c.self.invariant.1 in (
-      rw (c.turn-left.ensures, c.in_ok-prepare.ensures.next, c.in_ok-prepare.ensures.state)
+      rw (c.turn.ensures, c.in_ok-prepare.ensures.next, c.in_ok-prepare.ensures.state)
           (book_turn _ some c.self.invariant.0),
       omega arith,
     )
@@ -16,5 +16,5 @@ pub returns-clause-turned : goal.returns-clause-turned
 returns-clause-turned g c =
     let used : 0 < c.self.inside.used = grind (arith, common_steps) in
     let some = take_some c.self.inside.used c.self.inside.entries.items used c.self.invariant.1 in
-    rw (c.turn-left.ensures, c.in_ok-prepare.ensures.next, c.in_ok-prepare.ensures.state)
+    rw (c.turn.ensures, c.in_ok-prepare.ensures.next, c.in_ok-prepare.ensures.state)
     (turned_is _ _ c.self.view_is some)
