@@ -10,7 +10,11 @@ reply is checked in full, and a load with an unexpected one is not used. With --
     --beside 'memcached -l 127.0.0.1 -p {port} -U 0 -t 4 -m 1024 -c 4096 -Y {authfile}'
 
 another server runs beside it, and both are loaded in turns, so that what else the machine does meets
-both; the ratios are this server's to the other's. Numbers are medians of the rounds."""
+both; the ratios are this server's to the other's. Numbers are medians of the rounds.
+
+On a virtual machine the host may take processors away, which Linux counts as stolen. With --steal P a
+round in which it took more than P per cent of the processors' time is not counted, whatever came of it,
+and made again; how many were, and what was stolen in those that count, is printed."""
 import argparse
 import json
 import os
@@ -105,6 +109,18 @@ def measured(load, server, words, asked):
     return dict(run, cpu=(server.seconds() - before) * 1e6 / served, mib=server.resident())
 
 
+def machine_time():
+    """What the host stole of the processors' time, and all of that time."""
+    ticks = [int(word) for word in Path("/proc/stat").read_text().splitlines()[0].split()[1:9]]
+    return ticks[7], sum(ticks)
+
+
+def stolen(since):
+    """The per cent of the processors' time that the host took since then."""
+    (steal, time_), (steal_then, then) = machine_time(), since
+    return 100 * (steal - steal_then) / max(time_ - then, 1)
+
+
 def median(runs, measure):
     return statistics.median(run[measure] for run in runs)
 
@@ -126,17 +142,26 @@ def run_load(load, name, asked):
     """Fills the servers, and loads them in turns."""
     about, words = LOADS[name]
     servers = [Server(command, asked) for command in (f"{asked.program} serve --config {{config}}", asked.beside) if command]
-    runs = [[] for _ in servers]
+    runs, steals, again = [[] for _ in servers], [], 0
     try:
         for server in servers:
             ask(load, server, words, asked, "-n", "1", "-w", "0")
-        for turn in range(asked.rounds):
-            pairs = list(zip(servers, runs))
-            for server, kept in pairs if turn % 2 == 0 else reversed(pairs):
-                kept.append(measured(load, server, words, asked))
+        while len(steals) < asked.rounds:
+            order, since = range(len(servers)), machine_time()
+            results = {at: measured(load, servers[at], words, asked)
+                       for at in (order if (len(steals) + again) % 2 == 0 else reversed(order))}
+            share = stolen(since)
+            if share > asked.steal:
+                again += 1
+                continue
+            steals.append(share)
+            for at, kept in enumerate(runs):
+                kept.append(results[at])
     finally:
         for server in servers:
             server.stop()
+    if asked.steal < 100:
+        print(f"{name}: {max(steals):.1f} % stolen at most, {again} rounds made again", file=sys.stderr, flush=True)
     show(about, runs[0])
     if asked.beside:
         show(shlex.split(asked.beside)[0], runs[1])
@@ -150,6 +175,7 @@ def main():
     words.add_argument("--loads", default="single,pipelined", help="of " + ", ".join(LOADS) + "; default: %(default)s")
     words.add_argument("--rounds", type=int, default=3)
     words.add_argument("--seconds", type=float, default=3)
+    words.add_argument("--steal", type=float, default=100, help="per cent of a round that the host may take; default: all")
     words.add_argument("--threads", type=int, default=2, help="of clients")
     words.add_argument("--workers", type=int, default=4)
     words.add_argument("--journal", type=int, default=65536)

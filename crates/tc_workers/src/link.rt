@@ -47,7 +47,7 @@ enum Owner {
 /// A connection: its wire, and what came on it.
 #[derive(Drop)]
 pub struct Link<W> {
-    conn: u32,
+    pub(crate) conn: u32,
     wire: W,
     session: Session,
     /// No request was asked for yet, or the last one that was asked for isn't whole.

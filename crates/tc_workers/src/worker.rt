@@ -23,6 +23,13 @@ const FIRST_ROOM: usize = 16;
 /// The most keys that are taken from the inlet before a turn.
 const MOST_WOKEN: u32 = 1_024;
 
+/// A connection that is served in the next turn: its number, and under which key it stands here.
+#[derive(Clone, Copy, Debug)]
+struct Listed {
+    conn: u32,
+    key: usize,
+}
+
 /// A connection that another worker is to serve: under which key it stands here, and that worker.
 #[derive(Clone, Copy, Debug)]
 struct Leaving {
@@ -38,8 +45,8 @@ pub struct Worker<W: Wire + Drop, N: Naming> {
     seat: Seat<N>,
     homes: Homes,
     links: Slab<Link<W>>,
-    /// The keys of the connections that are served in the next turn, each once.
-    listed: Vec<usize>,
+    /// The connections that are served in the next turn, each once.
+    listed: Vec<Listed>,
     /// The connections of the last turn that another worker is to serve. They are not listed.
     leaving: Vec<Leaving>,
     /// What is read, before a session takes it.
@@ -159,7 +166,14 @@ impl<W: Wire + Drop, N: Naming> Worker<W, N> {
     fn list(&mut self, key: usize)
         ensures { self.new.seat ≡ self.old.seat }
     {
-        if self.listed.push(key).is_err() {
+        let Some(link) = self.links.get(key) else {
+            return;
+        };
+        let listed = Listed {
+            conn: link.conn,
+            key,
+        };
+        if self.listed.push(listed).is_err() {
             let _ = self.links.try_remove(key);
         }
     }
@@ -206,8 +220,8 @@ impl<W: Wire + Drop, N: Naming> Worker<W, N> {
         }
     }
 
-    /// Goes over the listed connections: each reads and does requests, and once all did, each writes.
-    /// Those that are done are dropped; those that another worker is to serve wait for `pass_on`. How
+    /// Goes over the listed connections, in the order in which they came to the server: each reads and does
+    /// requests, and once all did, each writes. Those that are done are dropped; those that another worker is to serve wait for `pass_on`. How
     /// long the inlet may then wait: not at all where one gets on, and a moment where one is to be tried
     /// again. Each command of a connection is one call of the hall, and a connection has 16 at most.
     pub fn turn<R: Wait, C: Cache, G: Gate>(
@@ -228,8 +242,18 @@ impl<W: Wire + Drop, N: Naming> Worker<W, N> {
             clock,
             gate,
         };
+        self.order();
         self.take_all_in(&service);
         self.give_all_out(clock.now())
+    }
+
+    /// Orders the listed connections by their numbers. A client's connections mostly came one after the
+    /// other, so that replies to it follow one another, and a thread of it that sleeps is woken once for
+    /// several.
+    fn order(&mut self)
+        ensures { self.new ≡ self.old }
+    {
+        self.listed.sort_unstable_by_key(|listed| listed.conn);
     }
 
     /// The first half of the turn of each listed connection.
@@ -237,7 +261,7 @@ impl<W: Wire + Drop, N: Naming> Worker<W, N> {
         ensures wrote { WritesAtMost (16 * self.old.due) self.old.seat self.new.seat }
     {
         for at in 0..self.listed.len() {
-            let key = self.listed[at];
+            let key = self.listed[at].key;
             self.take_in(service, key);
         }
     }
@@ -252,7 +276,7 @@ impl<W: Wire + Drop, N: Naming> Worker<W, N> {
             if at >= self.listed.len() {
                 break;
             }
-            let key = self.listed[at];
+            let key = self.listed[at].key;
             match self.give_out(now, key) {
                 Onward::GoesOn(Pace::GetsOn) => {
                     one_got_on = true;

@@ -107,6 +107,24 @@ pub const RESTS: Plan = Plan {
     expects: NOTHING,
 };
 
+/// Stores one byte.
+pub const STORES: Plan = Plan {
+    sends: b"set a 0 0 9\r\nalice one\r\nset k 0 0 1\r\na\r\n",
+    fill: 0,
+    cut: Cut::At(0),
+    ending: Ending::Rests,
+    expects: b"STORED\r\nSTORED\r\n",
+};
+
+/// Appends one to it, and asks for both.
+pub const APPENDS: Plan = Plan {
+    sends: b"set a 0 0 9\r\nalice one\r\nappend k 0 0 1\r\nb\r\nget k\r\n",
+    fill: 0,
+    cut: Cut::At(0),
+    ending: Ending::Rests,
+    expects: b"STORED\r\nSTORED\r\nVALUE k 0 2\r\nab\r\nEND\r\n",
+};
+
 /// Ends two bytes into a block of three.
 pub const ENDS_SHORT: Plan = Plan {
     sends: b"set a 0 0 9\r\nalice one\r\nset k 5 0 3\r\nab",

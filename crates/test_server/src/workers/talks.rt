@@ -1,7 +1,8 @@
 //! Two connections of one worker, one after the other.
 
 use super::table::{
-    ENDS_SHORT, Failing, LONG_LINE, NOTHING, READS, RESTS, ROWS, SILENT, WRITES, asking, first_over,
+    APPENDS, ENDS_SHORT, Failing, LONG_LINE, NOTHING, READS, RESTS, ROWS, SILENT, STORES, WRITES,
+    asking, first_over,
 };
 use super::wires::{Cut, Ending, Memory, Plan, Seen};
 use crate::stage::{Scene, play};
@@ -121,6 +122,37 @@ pub fn rest<C: Cache, N: Naming, R: Wait + Abort>(
     rest_once(rt, alloc, hall, users, &mut worker)
 }
 
+/// A connection of this number, over a wire of this plan.
+fn join<N: Naming, R: Abort>(
+    rt: &R,
+    worker: &mut Worker<Memory, N>,
+    number: u32,
+    plan: &Plan,
+    seen: &Arc<Seen, Global>,
+) -> Result<(), Fail> {
+    let wire = Memory::new(*plan, Arc::try_clone(seen)?);
+    assert!(rt; worker.add(number, wire).is_ok());
+    Ok(())
+}
+
+/// The second connection comes to the worker before the first, and both have one turn.
+pub fn take_turns<C: Cache, N: Naming, R: Wait + Abort>(
+    rt: &R,
+    alloc: Global,
+    hall: &Hall<C, N>,
+    users: &Users,
+    seats: &mut Vec<Seat<N>>,
+) -> Result<(), Fail> {
+    let mut worker = worker_of(rt, alloc, seats);
+    let second = Arc::new(alloc, Seen::new())?;
+    join(rt, &mut worker, 2, &APPENDS, &second)?;
+    let first = Arc::new(alloc, Seen::new())?;
+    join(rt, &mut worker, 1, &STORES, &first)?;
+    worker.turn(rt, hall, users, &Clock::new(), &Open);
+    assert!(rt; first.has_heard(&STORES) && second.has_heard(&APPENDS));
+    Ok(())
+}
+
 /// Two connections on a hall of their own, over each kind of cache.
 fn expect<R: Threads + Wait + Abort + Time + RandomSource + Copy + Send + Sync + Drop>(
     rt: &R,
@@ -174,6 +206,11 @@ fn a_wire_that_has_nothing_yet_is_kept_and_asked_each_turn(rt: HostRuntime) -> R
 #[test]
 fn a_watched_wire_rests_in_the_turn_that_answers_it(rt: HostRuntime) -> Result<(), Fail> {
     play(&rt, rt.alloc(), 1, 16, Scene::Rests)
+}
+
+#[test]
+fn a_turn_goes_by_the_numbers_of_connections(rt: HostRuntime) -> Result<(), Fail> {
+    play(&rt, rt.alloc(), 1, 16, Scene::TakesTurns)
 }
 
 #[test]
