@@ -11,6 +11,10 @@ use tc_item::{NoMemory, Slot};
 /// The most nodes, so that 32 bits count all of them.
 const MOST_NODES: usize = 1 << 32;
 
+/// So many nodes of 16 bytes are a block of 32 MiB, which glibc gives back to the system as soon as it is
+/// let go (mallopt(3), M_MMAP_THRESHOLD). Smaller ones may stay with the process.
+const GIVEN_BACK: usize = 2_097_152;
+
 /// A place in the ring, and what is noted of the slot there.
 #[derive(Clone, Copy)]
 pub struct Node<N> {
@@ -57,11 +61,23 @@ impl<N: Copy, const MARKS: usize> Ring<N, MARKS> {
         Ok(ring)
     }
 
+    /// Room for a copy: for all nodes, and where they are many for so many that it is given back at once
+    /// when the copy is let go. What isn't written takes no memory.
+    fn room_for_copy(&self) -> usize {
+        let nodes = self.nodes.len();
+        if nodes < GIVEN_BACK / 2 {
+            nodes
+        } else {
+            nodes.max(GIVEN_BACK)
+        }
+    }
+
     /// Equal nodes, of their own.
     pub fn copy(&self, alloc: Global) -> Result<Ring<N, MARKS>, NoMemory>
         ensures { IfOk result (λ ring. ring ≡ self.now) }
     {
-        let nodes = Vec::from_slice(alloc, self.nodes.as_slice())?;
+        let mut nodes = Vec::with_capacity(alloc, self.room_for_copy())?;
+        nodes.extend_from_slice(self.nodes.as_slice())?;
         Ok(Ring { nodes })
     }
 
