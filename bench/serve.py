@@ -99,7 +99,14 @@ def ask(load, server, words, asked, *more):
     return json.loads(run.stdout)
 
 
+def fill(load, server, words, asked):
+    """Sets every item of a load."""
+    ask(load, server, words, asked, "-n", "1", "-w", "0")
+
+
 def measured(load, server, words, asked):
+    if asked.refill:
+        fill(load, server, words, asked)
     before = server.seconds()
     run = ask(load, server, words, asked, "-F", "-w", "0.5", "-d", str(asked.seconds))
     if not run["good"]:
@@ -145,7 +152,7 @@ def run_load(load, name, asked):
     runs, steals, again = [[] for _ in servers], [], 0
     try:
         for server in servers:
-            ask(load, server, words, asked, "-n", "1", "-w", "0")
+            fill(load, server, words, asked)
         while len(steals) < asked.rounds:
             order, since = range(len(servers)), machine_time()
             results = {at: measured(load, servers[at], words, asked)
@@ -175,6 +182,7 @@ def main():
     words.add_argument("--loads", default="single,pipelined", help="of " + ", ".join(LOADS) + "; default: %(default)s")
     words.add_argument("--rounds", type=int, default=3)
     words.add_argument("--seconds", type=float, default=3)
+    words.add_argument("--refill", action="store_true", help="set every item anew before each round")
     words.add_argument("--steal", type=float, default=100, help="per cent of a round that the host may take; default: all")
     words.add_argument("--threads", type=int, default=2, help="of clients")
     words.add_argument("--workers", type=int, default=4)

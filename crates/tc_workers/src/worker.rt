@@ -220,10 +220,11 @@ impl<W: Wire + Drop, N: Naming> Worker<W, N> {
         }
     }
 
-    /// Goes over the listed connections, in the order in which they came to the server: each reads and does
-    /// requests, and once all did, each writes. Those that are done are dropped; those that another worker is to serve wait for `pass_on`. How
-    /// long the inlet may then wait: not at all where one gets on, and a moment where one is to be tried
-    /// again. Each command of a connection is one call of the hall, and a connection has 16 at most.
+    /// Goes over the listed connections, in the order in which they came to the server: each reads and
+    /// does requests, and once all did, each writes. Those that are done are dropped; those that another
+    /// worker is to serve wait for `pass_on`. How long the inlet may then wait: not at all where one gets
+    /// on, and a moment where one is to be tried again. Each command of a connection is one call of the
+    /// hall, and a connection has 16 at most.
     pub fn turn<R: Wait, C: Cache, G: Gate>(
         &mut self,
         rt: &R,
