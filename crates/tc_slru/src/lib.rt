@@ -7,10 +7,10 @@
 //! victims and protected's demotions apart, a fixed number of steps.
 //!
 //! How many steps a settle can take: each demotion, entry and drop is a fixed number. A candidate
-//! is compared with its k victims in one walk from main's tail, which ends at the first that was
-//! seen as often. Where they all stand in probation it then enters at once, and they go as what
-//! main is too heavy by: k comparisons. Where they reach into protected it waits, and each call
-//! walks those that are left: at most k * (k + 1) / 2.
+//! is compared once with its k victims, in one walk from main's tail, which ends at the first that
+//! was seen as often: at most k comparisons. Where they reach into protected, protected's last go to
+//! probation's front before the candidate enters, so that it stands before them all; they then go as
+//! what main is too heavy by, and no walk is made again.
 //!
 //! Nothing is said of how often a closure is asked, nor of a closure that answers two ways for one slot.
 #![tactic(auto)]
