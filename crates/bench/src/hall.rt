@@ -136,7 +136,7 @@ fn sum_of(tallies: &[Tally]) -> Tally {
     sum
 }
 
-/// The same once each user holds what is asked for, and what it takes.
+/// Calls in threads once each user holds what is asked for, and what that takes.
 fn time_calls<C: Cache + Send + Sync, N: Naming + Send + Sync, R: Threads + Wait + Sync>(
     rt: &HostRuntime,
     threads: &R,

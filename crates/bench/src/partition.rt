@@ -30,7 +30,7 @@ pub(crate) struct Size {
     pub(crate) part: &'static str,
     pub(crate) beside: &'static str,
     pub(crate) held: u32,
-    /// How often each held key is asked for.
+    /// How often each held key is asked for, and set, and how many turns are timed.
     pub(crate) rounds: u32,
     /// How many keys that are not held are asked for, and then set.
     pub(crate) others: u32,

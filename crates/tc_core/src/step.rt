@@ -18,8 +18,9 @@ pub enum Happening<'a> {
     Shut,
 }
 
-/// A step. Connections are numbered by the caller, users from 1. A step on an unknown, closed or
-/// already opened connection, or on an unknown user, does nothing.
+/// A step. Connections are numbered by the caller, users from 1. A step on a connection that is not
+/// open does nothing, but for opening one that never was; nor does opening one again, or a step on an
+/// unknown user.
 #[derive(Clone, Copy, Debug)]
 pub enum Step<'a> {
     /// Something comes to a connection.

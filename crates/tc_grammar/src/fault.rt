@@ -13,7 +13,7 @@ pub enum Fault {
     BadChunk,
     /// A line of more than 65,536 bytes.
     LineTooLong,
-    /// A block over the limit, or an item too heavy.
+    /// A block over the limit, or an item with too much data or too heavy.
     TooLarge,
     /// Memory was refused.
     NoMemory,

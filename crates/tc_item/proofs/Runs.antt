@@ -1,5 +1,6 @@
 -- Runs of bytes that pass a test, one by one and sixteen at a time.
-use Rattle.std.proofs.Common.{◌≡◌, ◌≢◌, ◌⊎◌, ℕ, suc, ◌+◌, ◌-◌, ◌%◌, ◌^◌, ◌<◌, ◌≤◌, eqb, Bool, true, false, not, ◌&&◌, cond, List, [], ◌∷◌}
+use Rattle.std.proofs.Common.{◌≡◌, ◌≢◌, ◌⊎◌, ℕ, suc, ◌+◌, ◌-◌, ◌%◌, ◌^◌, ◌<◌, ◌≤◌, eqb}
+use Rattle.std.proofs.Common.{Bool, true, false, not, ◌&&◌, cond, List, [], ◌∷◌}
 use Rattle.std.proofs.Common.{map, length, get_or, take, drop, Fits, w8, w64, refl, sym, ap, ap₂, ◌∙◌, subst, arith, inl, inr}
 use Rattle.std.proofs.lemmas.Bool.{agree_below, agree_below_at, cases_eq, cases_lt, eq-eqb, ne_eqb, cond-true, cond-false}
 use Rattle.std.proofs.lemmas.Simd.{map-map, mask_l-mod, length-chunk, get_or-chunk, leading_from_mask_l, trailing_mask_l}
@@ -16,7 +17,8 @@ zip2-map h f g [] = refl
 zip2-map h f g (x ∷ xs) = ap (λ r. h (f x) (g x) ∷ r) (zip2-map h f g xs)
 
 -- an operation on two vectors that were computed lane by lane from v
-pub joined : (h : ℕ → ℕ → ℕ) (f g : ℕ → ℕ) (v : List ℕ) {a b : List ℕ} → a ≡ map f v → b ≡ map g v → zip2 h a b ≡ map (λ x. h (f x) (g x)) v
+pub joined : (h : ℕ → ℕ → ℕ) (f g : ℕ → ℕ) (v : List ℕ) {a b : List ℕ} → a ≡ map f v → b ≡ map g v
+    → zip2 h a b ≡ map (λ x. h (f x) (g x)) v
 joined h f g v p q = ap₂ (zip2 h) p q ∙ zip2-map h f g v
 
 -- the lowest bit that is set is that of the first element that passes
@@ -29,7 +31,8 @@ lowest_is p v n long few =
     ]
 
 -- two tests that agree on each element
-agreeing : (p q : ℕ → Bool) (v : List ℕ) → ((k : ℕ) → k < length v → p (get_or v k 0) ≡ q (get_or v k 0)) → prefix_len p v ≡ prefix_len q v
+agreeing : (p q : ℕ → Bool) (v : List ℕ) → ((k : ℕ) → k < length v → p (get_or v k 0) ≡ q (get_or v k 0))
+    → prefix_len p v ≡ prefix_len q v
 agreeing p q [] h = refl
 agreeing p q (x ∷ xs) h =
     ap₂ (λ b n. cond b (1 + n) 0) (h 0 (omega arith)) (agreeing p q xs (λ k below. h (suc k) (omega arith)))
@@ -44,11 +47,13 @@ run_in q d i n r z room few fits found f lanes all =
     let v = chunk i n d in
     let stops : ℕ → Bool = λ x. top 7 (f x) in
     let long = length-chunk i n d room in
-    let mask = ap (λ l. mask_l l % 2 ^ 64) (ap (map (top 7)) lanes ∙ map-map (top 7) f v) ∙ mask_l-mod (map stops v) 64 (omega (arith, length-map v stops, long)) in
+    let mask = ap (λ l. mask_l l % 2 ^ 64) (ap (map (top 7)) lanes ∙ map-map (top 7) f v)
+    ∙ mask_l-mod (map stops v) 64 (omega (arith, length-map v stops, long)) in
     found ∙ ap (λ m. cond (eqb m 0) n (trailing_zeros w64 m)) mask ∙ lowest_is stops v n long few
     ∙ agreeing (λ x. not (stops x)) q v (λ k below.
     let at = get_or-chunk i n d k 0 (omega (arith, long)) in
-    ap (λ x. not (stops x)) at ∙ (agree_below_at (λ x. not (stops x)) q 256 (get_or d (i + k) 0) all (fits (i + k)).fits ∙ ap q (sym at)))
+    ap (λ x. not (stops x)) at
+    ∙ (agree_below_at (λ x. not (stops x)) q 256 (get_or d (i + k) 0) all (fits (i + k)).fits ∙ ap q (sym at)))
 
 -- a run through the first n elements goes on behind them, and one that ends there ends for all
 pub run_on : (q : ℕ → Bool) (xs : List ℕ) (n : ℕ) → n ≤ length xs
@@ -71,14 +76,16 @@ run_past q xs at n room all =
 pub run_ends : (q : ℕ → Bool) (xs : List ℕ) (at n : ℕ) → at + n ≤ length xs → prefix_len q (take n (drop at xs)) < n
     → prefix_len q (drop at xs) ≡ prefix_len q (take n (drop at xs))
 run_ends q xs at n room few =
-    run_on q (drop at xs) n (omega (arith, length-drop at xs)) ∙ cond-false _ _ _ (ne_eqb _ _ (λ (e : prefix_len q (take n (drop at xs)) ≡ n). omega arith))
+    run_on q (drop at xs) n (omega (arith, length-drop at xs))
+    ∙ cond-false _ _ _ (ne_eqb _ _ (λ (e : prefix_len q (take n (drop at xs)) ≡ n). omega arith))
 
 -- a run through all elements
 pub through_all : (q : ℕ → Bool) (xs : List ℕ) → eqb (prefix_len q xs) (length xs) ≡ list_all q xs
 through_all q [] = refl
 through_all q (x ∷ xs) = go (q x) (cases_eq (prefix_len q xs) (length xs)) (through_all q xs)
   where
-    go : (b : Bool) → (prefix_len q xs ≡ length xs) ⊎ (prefix_len q xs ≢ length xs) → eqb (prefix_len q xs) (length xs) ≡ list_all q xs
+    go : (b : Bool) → (prefix_len q xs ≡ length xs) ⊎ (prefix_len q xs ≢ length xs)
+        → eqb (prefix_len q xs) (length xs) ≡ list_all q xs
         → eqb (cond b (1 + prefix_len q xs) 0) (suc (length xs)) ≡ (b && list_all q xs)
     go true (inl same) h = eq-eqb _ _ (omega arith) ∙ (sym (eq-eqb _ _ same) ∙ h)
     go true (inr other) h = ne_eqb _ _ (λ e. other (omega arith)) ∙ (sym (ne_eqb _ _ other) ∙ h)
@@ -93,19 +100,22 @@ run_passes q d at n room all k from to =
     subst (λ x. q x ≡ true) here (prefix_len_passes q (take n (drop at d)) (k - at) 0 (omega (arith, all)))
 
 -- one that ends among them shows an element that fails
-pub run_fails : (q : ℕ → Bool) (d : List ℕ) (at n : ℕ) → at + n ≤ length d → prefix_len q (take n (drop at d)) < n → list_all q d ≡ false
+pub run_fails : (q : ℕ → Bool) (d : List ℕ) (at n : ℕ) → at + n ≤ length d
+    → prefix_len q (take n (drop at d)) < n → list_all q d ≡ false
 run_fails q d at n room few =
     let r = prefix_len q (take n (drop at d)) in
     let long = length-chunk at n d room in
     let here = get_or-chunk at n d r 0 few in
-    list_all_at q d (at + r) 0 (omega arith) (subst (λ x. q x ≡ false) here (prefix_len_stops q (take n (drop at d)) 0 (omega (arith, long))))
+    list_all_at q d (at + r) 0 (omega arith)
+    (subst (λ x. q x ≡ false) here (prefix_len_stops q (take n (drop at d)) 0 (omega (arith, long))))
 
 -- the last n elements decide, where those before some of them are known to pass
 pub last_decides : (q : ℕ → Bool) (d : List ℕ) (at n seen : ℕ) → at + n ≡ length d → at ≤ seen
     → ((k : ℕ) → k < seen → q (get_or d k 0) ≡ true) → eqb (prefix_len q (take n (drop at d))) n ≡ list_all q d
 last_decides q d at n seen whole overlaps front =
     let room : at + n ≤ length d = omega arith in
-    let few : prefix_len q (take n (drop at d)) ≤ n = omega (arith, prefix_len-le-length q (take n (drop at d)), length-chunk at n d room) in
+    let few : prefix_len q (take n (drop at d)) ≤ n =
+    omega (arith, prefix_len-le-length q (take n (drop at d)), length-chunk at n d room) in
     elim (cases_eq (prefix_len q (take n (drop at d))) n) [
       | inl all ↦
           eq-eqb _ _ all

@@ -16,7 +16,7 @@ use std::sync::Arc;
 const BESIDE: usize = 232;
 
 /// Bytes that many hold and none changes. Up to 232 lie in one block of memory with the count of
-/// their holders, of the least size of five in which they fit: to read them takes one way to memory,
+/// their holders, of the least of four sizes in which they fit: to read them takes one way to memory,
 /// not two.
 pub struct Blob {
     shared: Shared,

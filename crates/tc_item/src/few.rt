@@ -1,4 +1,4 @@
-//! Lists of few items, which take no memory for none or one.
+//! Lists of few items, which take no memory for none or one, unless room was made for more.
 ghost use Rattle.std.specs.Prelude.{◌≡◌, ◌∷◌, ◌++◌, [], length, IfOk, OnOk, OnErr, IsTrue, ◌↔◌, Decides};
 ghost use Rattle.std.specs.Cmp.Lexicographic.{pointwise, lists_per, lists_equiv};
 

@@ -9,7 +9,7 @@ use std::mem::size_of;
 /// How many seconds one of the high word stands for.
 const LOW: u64 = 1 << 32;
 
-/// A due in 12 bytes, so that an entry has 56; a `Due` alone has 16.
+/// A due in 12 bytes, so that an entry has 64; a `Due` alone has 16.
 #[derive(Drop)]
 pub struct KeptDue {
     high: u32,

@@ -15,7 +15,7 @@ fn is_key_byte(byte: u8) -> bool
     byte > b' ' && byte != 127
 }
 
-/// How many of a load's bytes are looked at where there are fewer.
+/// How many are looked at together where there are fewer than `LANES`.
 const HALF_LANES: usize = 8;
 
 /// The place of the lowest bit that is set, or how many lanes there are.
@@ -83,7 +83,7 @@ pub fn key_run(bytes: &[u8]) -> usize
     at + run_of_few(&bytes[at..])
 }
 
-/// Whether all bytes may stand in a key, where there are 8 to 16. The last 8 overlap the first.
+/// Whether all bytes may stand in a key, where there are 8 to 16. The last 8 may overlap the first.
 fn are_few_key_bytes(bytes: &[u8]) -> bool
     requires least { 8 ≤ length bytes.now }
     requires most { length bytes.now ≤ 16 }

@@ -11,8 +11,8 @@ use tc_plain::{Cache, Plain};
 
 /// A kind of cache that users can begin with.
 pub trait Kind: Cache {
-    /// An empty cache of this budget, whose items have at most `largest` bytes of data. A kind that has
-    /// an index hashes its keys by `hasher`.
+    /// An empty cache of this budget, whose storage commands store at most `largest` bytes of data. A
+    /// kind that has an index hashes its keys by `hasher`.
     fn begin(
         alloc: Global,
         budget: u64,

@@ -326,8 +326,8 @@ impl<C: Cache> Book<C> {
         Ok(())
     }
 
-    /// `call` on a new page, which begins at what the cache stands for. All memory is taken before the
-    /// call, and the page is turned after it, so a refusal changes nothing. The entries of the page
+    /// `call` on a new page, which begins at what the cache stands for. The turn's memory is taken before
+    /// the call, and the page is turned after it, so a refusal changes nothing. The entries of the page
     /// before stay until new ones take their places, one a call.
     fn call_turning(
         &mut self,

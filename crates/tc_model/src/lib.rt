@@ -1,10 +1,11 @@
 //! The definitions that several crates speak of, and the theorems on them: a crate with no code.
 //!
-//! - `specs/Caching.antt`, `History.antt`: what a cache is to the server, and a history of its commands.
+//! - `specs/Caching.antt`: what a cache is to the server, and a history of its calls.
 //! - `specs/Connection.antt`: a connection by its own bytes and the users' table.
 //! - `specs/Server.antt`: the machine of many users, over any cache and any reader of requests.
 //! - `specs/Laws.antt`: isolation and its companions, proved in `proofs/` for every lawful machine.
-//! - `specs/Areas.antt`, `Within.antt`: window, probation and protected, access and settle.
+//! - `specs/Areas.antt`, `Within.antt`, `Mapped.antt`: window, probation and protected, access and settle,
+//!   and areas of one kind of thing seen as areas of another.
 //! - `specs/Ring.antt`, `Chains.antt`: lists linked by index, in one ring with a mark before each.
 //! - `specs/Place.antt`: the first place whose item passes a test, for search loops.
 //!

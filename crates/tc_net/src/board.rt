@@ -72,10 +72,6 @@ impl Board {
         }
     }
 
-    pub(crate) fn is_taken(&self, at: usize) -> bool {
-        self.has(at, TAKEN)
-    }
-
     pub(crate) fn set(&self, at: usize, bits: u64) {
         if let Some(place) = self.places.get(at) {
             place.said.fetch_or(bits, SeqCst);

@@ -137,7 +137,7 @@ fn another_each(alloc: Global, outlets: &mut Vec<Outlet>) -> Result<Vec<Outlet>,
 }
 
 /// Deals users out to so many workers.
-fn settle<N: Naming, R: Wait + Drop>(
+fn deal_out<N: Naming, R: Wait + Drop>(
     alloc: Global,
     staff: &mut Staff<N, R>,
     workers: usize,
@@ -189,7 +189,7 @@ pub fn serve<
     };
     let mut staff = hire_all(rt, alloc, &door, seats)?;
     if affinity == Affinity::ByUser {
-        settle(alloc, &mut staff, workers)?;
+        deal_out(alloc, &mut staff, workers)?;
     }
     let Staff { crew, outlets } = staff;
     let listening = Listening::new(rt, address, outlets, shared(&door)?, until)?;

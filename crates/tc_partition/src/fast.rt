@@ -16,8 +16,8 @@
 //! A look-up changes neither what a key holds nor when it goes, so a `get` shows the same whether
 //! those before it wait or are done. What they do change, the places in the lists and the sketch,
 //! only a settle asks about, and a command that settles drains first. A pending flush that is due
-//! is done by the next command that drains, behind the look-ups before it; until then a look-up
-//! finds nothing under any key.
+//! is done with the first look-up that was noted since its second, or by the next command that
+//! drains, behind the look-ups before it; until then a look-up finds nothing under any key.
 ghost use Rattle.std.specs.Prelude.{◌≡◌, ◌≤◌, [], length, drop, IfOk, OnOk, OnErr};
 ghost use Rattle.tc_item.specs.Bounds.{smallest_budget, largest_budget, largest_item};
 ghost use Rattle.tc_stats.specs.UserCounters.{noted as counted_noted};
@@ -84,7 +84,7 @@ fn keys_are_short(command: &Command)
 }
 
 impl Fast {
-    /// An empty cache of this budget, whose items have at most `largest` bytes of data.
+    /// An empty cache of this budget, whose storage commands store at most `largest` bytes of data.
     pub fn new(
         alloc: Global,
         budget: u64,
@@ -206,7 +206,8 @@ impl Cache for Fast {
     }
 
     /// Comes to the moment, and does at most `limit` pieces of work: look-ups that wait, the first
-    /// first; once none waits, entries that are not alive are taken out. A pending flush is left to
+    /// first, each with all that is due by its moment; once none waits, entries that are not alive are
+    /// taken out. A pending flush is left to the first look-up that was noted since its second, or to
     /// the next command that drains. Nothing of what the cache stands for changes but its moment.
     fn maintain(&mut self, now: Moment, limit: u32)
         ensures advanced { settled_in self.new ≡ advance (settled_in self.old) now }

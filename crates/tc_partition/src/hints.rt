@@ -6,7 +6,7 @@
 use std::alloc::Global;
 use tc_item::Slot;
 
-/// Hints for each slot, at least. With more places fewer keys share one.
+/// Places for each slot that room is made for. With more places fewer keys share one.
 const PLACES_A_SLOT: usize = 2;
 
 /// A slot for each of 2^n places, one of which each hash has; or no place, while there is no room.
@@ -28,7 +28,8 @@ impl Hints {
         (hash ^ (hash >> 32)) as usize & self.slots.len().wrapping_sub(1)
     }
 
-    /// Where a key of this hash was found last, if no other key has its place since.
+    /// Where a key of this hash was found last, if no other key has its place since; slot 0 where none
+    /// was noted, and `None` while there is no place.
     pub fn slot(&self, hash: u64) -> Option<Slot> {
         let slot = self.slots.get(self.place(hash))?;
         Some(Slot(*slot as usize))
@@ -42,8 +43,8 @@ impl Hints {
         }
     }
 
-    /// Makes places for so many slots. What was noted is mostly lost where there are to be more; where
-    /// memory is refused, all stays as it was.
+    /// Makes places for so many slots. About half of what was noted is lost where there are to be twice
+    /// as many; where memory is refused, all stays as it was.
     pub fn fit(&mut self, slots: usize) {
         let wanted = slots.saturating_mul(PLACES_A_SLOT);
         if wanted <= self.slots.len() {

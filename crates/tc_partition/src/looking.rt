@@ -21,7 +21,7 @@ use tc_readbuf::{Noted, PLACES, ReadBuf};
 use tc_sketch::hash;
 use tc_stats::Hits;
 
-/// Where keys were found, in the order asked. A few take no memory.
+/// Where keys were found, or may be found, in the order asked. A few take no memory.
 type Places = SmallVec<Option<Slot>, 4>;
 
 /// What the slots hold in which keys were found.

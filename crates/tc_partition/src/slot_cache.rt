@@ -42,7 +42,7 @@ pub struct SlotCache {
 }
 
 impl SlotCache {
-    /// An empty cache of this budget, whose items have at most `largest` bytes of data.
+    /// An empty cache of this budget, whose storage commands store at most `largest` bytes of data.
     pub fn new(
         alloc: Global,
         budget: u64,

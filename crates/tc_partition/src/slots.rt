@@ -68,8 +68,8 @@ impl Model for Slots {
 }
 
 impl Slots {
-    /// No entries, with room for none: the window may weigh `window`, probation and protected
-    /// together `main`, and protected alone `protected`.
+    /// No entries, with room for none, under these limits. Takes memory for the marks of the lists and
+    /// of the wheel.
     pub fn new(alloc: Global, hasher: RandomState, limits: Limits) -> Result<Slots, NoMemory>
         requires small { limits.main < 2 ^ 32 }
         ensures limits { IfOk result (λ s. s.limits ≡ limits) }

@@ -1,4 +1,4 @@
-//! Snapshots of a `Fast`: slot by slot, what differs is copied.
+//! Snapshots of a `Fast`: slot by slot, what is not known to be the same is copied.
 ghost use Rattle.std.specs.Prelude.{◌≡◌, ℕ, List, Option, IfOk, OnOk};
 ghost use Rattle.tc_plain.specs.declared.entry.Entry.{Entry as Held};
 ghost use Rattle.tc_plain.specs.UserCache.{advance};

@@ -1,4 +1,5 @@
--- Entries: items under their keys, what they weigh and until when they are alive. Source: memcached's doc/protocol.txt.
+-- Entries: items under their keys, what they weigh and until when they are alive.
+-- Source: memcached's doc/protocol.txt, but weights are this project's own.
 use Rattle.std.specs.Prelude.{ℕ, Bool, List, length}
 use Rattle.std.specs.Str.{bytes_eq}
 use Rattle.tc_item.specs.declared.moment.Due.{Due}

@@ -16,8 +16,8 @@ pub trait Cache: Drop {
     ghost settled: { Self → UserCache };
 
     /// Does one command, at this moment or at the cache's own where that is later. The outcome is
-    /// given twice, one to answer and one to keep; both are made before anything changes, so a
-    /// refusal changes nothing.
+    /// given twice, one to answer and one to keep. All memory is taken before anything that shows
+    /// changes, so a refusal changes nothing.
     fn act(
         &mut self,
         alloc: Global,
@@ -30,15 +30,16 @@ pub trait Cache: Drop {
             ≡ (act (settled self.old) now command.now).1) }
         ensures unchanged_on_err { OnErr result (settled self.new ≡ settled self.old) };
 
-    /// Does deferred work, at most `limit` pieces of it: the cache comes to the moment, and nothing
-    /// else of what it stands for changes.
+    /// Does deferred work, at most `limit` pieces of it as the cache counts them: it comes to the
+    /// moment, and nothing else of what it stands for changes.
     fn maintain(&mut self, now: Moment, limit: u32)
         ensures advanced { settled self.new ≡ advance (settled self.old) now };
 
     /// A copy of what the cache stands for.
     fn freeze(&self, alloc: Global) -> Result<Plain, NoMemory>
         ensures settled { IfOk result (λ plain. plain ≡ settled self.now) };
-    /// A snapshot of what the cache stands for. Deferred work is done first, which nobody sees.
+
+    /// A snapshot of what the cache stands for. Look-ups that wait are done first, which nobody sees.
     fn snapshot(&mut self, alloc: Global) -> Result<Snapshot, NoMemory>
         ensures state { settled self.new ≡ settled self.old }
         ensures shown { IfOk result (λ snapshot. shown_in snapshot ≡ settled self.old) };

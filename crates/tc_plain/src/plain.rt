@@ -26,7 +26,7 @@ use tc_stats::{Counters, Hits, Outcome, Statistics};
 pub struct Plain {
     /// The most bytes that all items may weigh together, within the range of budgets.
     pub budget: u64,
-    /// The most data bytes of one item, 1 to those of the largest there is.
+    /// The most data bytes that a storage command stores, 1 to those of the largest item there is.
     pub largest: u64,
     /// What look-ups touch: the entries, how often keys were seen, the pending flush and the moment.
     pub live: EvictionState,
@@ -61,7 +61,7 @@ impl Model for Plain {
 }
 
 impl Plain {
-    /// An empty cache of this budget, whose items have at most `largest` bytes of data.
+    /// An empty cache of this budget, whose storage commands store at most `largest` bytes of data.
     pub fn new(alloc: Global, budget: u64, largest: u64) -> Result<Plain, NoMemory>
         requires least_budget { smallest_budget ≤ budget }
         requires most_budget { budget ≤ largest_budget }

@@ -1,9 +1,10 @@
 //! What a cache stood for at some call, by slot.
 //!
 //! Terms: a snapshot keeps what each slot held, and a shell, which is all of the cache but that: the
-//! order of the slots among it. To prepare a snapshot is to compare slot by slot and to copy what
-//! differs, and the shell; to turn it is to swap these in. So a turn costs a comparison for each slot,
-//! in the order in which memory lies, and a copy for each slot that changed.
+//! order of the slots among it. To prepare a snapshot is to compare slot by slot and to copy what is
+//! not known to be the same, and the shell; to turn it is to swap these in. So a turn costs a comparison
+//! for each slot, in the order in which memory lies, a copy for each that changed or has long data, and
+//! a copy of the shell.
 //!
 //! What is always true (`IsShowing` in `specs/Snapshots.antt`), of what is shown now and of what is
 //! shown next:

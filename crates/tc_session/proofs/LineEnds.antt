@@ -11,4 +11,5 @@ alone (x ∷ (y ∷ l)) e = absurd (omega arith)
 pub ended : (t : List ℕ) → length t ≡ 65 → drop 63 (set (set t 63 13) 64 10) ≡ line_end
 ended t e =
     drop-set-add 63 (set t 63 13) 1 10
-    ∙ (ap (λ l. set l 1 10) (drop-set t 63 13 (omega arith)) ∙ ap (λ l. 13 ∷ l) (alone (drop 64 t) (omega (arith, length-drop 64 t))))
+    ∙ (ap (λ l. set l 1 10) (drop-set t 63 13 (omega arith))
+    ∙ ap (λ l. 13 ∷ l) (alone (drop 64 t) (omega (arith, length-drop 64 t))))

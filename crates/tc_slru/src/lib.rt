@@ -3,7 +3,8 @@
 //! `Lists` meets the areas of `tc_model/specs/Areas.antt`, of slots: `access` is `accessed`, and
 //! `settle_step`, called until it gives nothing, is `settle`. Callers see limits, reserved slots
 //! and three lists of slots with their weights, front to back (`specs/SlotLists.antt`); the
-//! contracts are the equations of that file. Every call but `new` and `reserve` takes no memory and, settle's
+//! contracts are the equations of that file. Only `new`, `copy`, `reserve` and `slots_in` take memory.
+//! `copy`, `clear` and `reserve` go over nodes and `slots_in` over a list; every other call is, settle's
 //! victims and protected's demotions apart, a fixed number of steps.
 //!
 //! How many steps a settle can take: each demotion, entry and drop is a fixed number. A candidate

@@ -56,7 +56,7 @@ pub struct Counters {
     pub evictions: u64,
     /// The partition's budget, in bytes.
     pub limit_maxbytes: u64,
-    /// The most data bytes of one item.
+    /// The most data bytes that a storage command stores.
     pub item_size_max: u64,
     /// Storage commands that were too large for the cache.
     pub store_too_large: u64,

@@ -37,5 +37,5 @@ impl TryCopy for Hit {
     }
 }
 
-/// Hits in the order asked. Most look-ups ask one key, so one hit alone takes no list.
+/// Hits in the order asked. Most look-ups ask one key, and the hit of one key takes no list.
 pub type Hits = Few<Hit>;

@@ -27,7 +27,7 @@ pub struct UserSpec {
     pub second: Option<Text>,
     /// The partition's budget in bytes, 65,536 to 2^30.
     pub budget: u64,
-    /// The most data bytes of an item, 1 to 1,048,576.
+    /// The most data bytes that a storage command stores, 1 to 1,048,576.
     pub largest: u64,
 }
 
@@ -157,8 +157,8 @@ impl Users {
         Ok(())
     }
 
-    /// Lets a user's items have at most this many bytes of data. It answers why they may not, and
-    /// changes nothing then.
+    /// Lets a user's storage commands store at most this many bytes of data. It answers why they may
+    /// not, and changes nothing then.
     pub fn set_largest(&mut self, user: UserNo, largest: u64) -> Result<(), SettingsFault>
         requires known { (0 < user) × (user ≤ length self.now) }
         ensures set { OnOk result (self.new ≡ with_largest self.old user largest) }

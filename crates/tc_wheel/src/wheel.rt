@@ -5,13 +5,14 @@
 //! last before the next mark, so no list is ever empty in the ring and no call has a case for one.
 //!
 //! What is always true (`AreKept` in `specs/Kept.antt`):
-//! 1. `ring`: the marks, each with the nodes of its list behind it, are linked in this order, both ways.
-//! 2. `dues_long`: each node has a place for its due.
-//! 3. `marks`: no due is noted at a mark.
-//! 4. `kept`: a held slot stands in the list of what is due, or else in the bucket of its due modulo 4,096.
-//! 5. `late`: what stands in the list of what is due is due at the wheel's moment.
-//! 6. `rest`: what stands in a bucket is due later, or awaits one of the last seconds, whose
-//! buckets are left to walk.
+//! 1. `count`: there is a list for each bucket, and one of what is due.
+//! 2. `ring`: the marks, each with the nodes of its list behind it, are linked in this order, both ways.
+//! 3. `dues_long`: each node has a place for its due.
+//! 4. `marks`: no due is noted at a mark.
+//! 5. `kept`: a held slot stands in the list of what is due, or else in the bucket of its due modulo 4,096.
+//! 6. `late`: what stands in the list of what is due is due at the wheel's moment.
+//! 7. `rest`: what stands in a bucket is due later, or awaits one of the last seconds, whose
+//!    buckets are left to walk.
 ghost use Rattle.std.specs.Prelude.{◌≡◌, ◌<◌, length, false, is_ok, IfOk, OnErr, if◌then◌else◌};
 ghost use Rattle.tc_wheel.specs.Dues.{no_dues, reserved, cleared, added, removed, holds, Gives};
 

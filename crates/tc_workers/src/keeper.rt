@@ -53,5 +53,6 @@ impl Keeper {
 
 /// Where the keeper learns the moment. It sleeps, so that the keeper doesn't spin.
 pub trait Source: Drop {
+    /// The moment that it is, once the keeper may go on.
     fn moment(&mut self) -> Moment;
 }

@@ -1,12 +1,14 @@
 //! Connections in threads: workers that read, do and write in turns, a keeper, and the crew of both.
 //!
 //! A `Worker` has a seat of the hall and its connections, each a `Wire` and a `Session`. A turn goes
-//! over those that may have something to do: it reads once, asks for at most 16 requests, each command
-//! of which is one `Hall::call_with`, and writes until the wire takes no more; where nothing is left to
-//! do it looks at the wire once more. A connection whose wire answered that nothing can be done is left
-//! out of the turns until the worker's `Inlet` names it. Where each user has a worker (`Homes`), a
-//! connection is passed on to it after the turn of its first command. A `Keeper` does the deferred work of one user
-//! after another. `run_crew` gives each worker a thread and the keeper one, and hands all seats back.
+//! over those that may have something to do, twice. First each reads once and asks for at most 16
+//! requests, each command of which is one `Hall::call_with`; one with more than 16,384 bytes to send
+//! writes at once. Then each writes until its wire takes no more, and where nothing is left to do it
+//! looks at the wire once more. A connection whose wire answered that nothing can be done is left out
+//! of the turns until the worker's `Inlet` names it. Where each user has a worker (`Homes`), a
+//! connection is passed on to it after the turn of its first command. A `Keeper` does the deferred work
+//! of one user after another. `run_crew` gives each worker a thread and the keeper one, and hands all
+//! seats back.
 //!
 //! What a wire may answer is `specs/Wires.antt`. Each connection keeps at most 1,130,498 unread bytes
 //! (`specs/Turns.antt`; `Worker::kept`).

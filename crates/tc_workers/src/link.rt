@@ -58,7 +58,7 @@ pub struct Link<W> {
     is_watched: bool,
     /// It stands on its worker's list.
     pub(crate) is_listed: bool,
-    /// How far the first half of its turn came.
+    /// How far its turn came.
     pace: Pace,
     owner: Owner,
     ghost bounded: { length session.endpoint.reader.unread ≤ most_kept },
@@ -125,8 +125,8 @@ impl<W: Wire + Drop> Link<W> {
         self.session.kept()
     }
 
-    /// The first half of a turn: reads, and does requests. Each command is one call of the hall, and
-    /// there are 16 at most. Whether it goes on.
+    /// The first half of a turn: reads, does requests, and writes where much waits. Each command is one
+    /// call of the hall, and there are 16 at most. Whether it goes on.
     pub(crate) fn take_in<R: Wait, C: Cache, N: Naming, G: Gate>(
         &mut self,
         service: &Service<'_, R, C, N, G>,

@@ -32,6 +32,7 @@ pub trait Wire {
     /// How many reads and writes failed.
     ghost failed: { Self → ℕ };
 
+    /// Puts the next bytes that came at the front of `into`, as many as there are and have room.
     fn read(&mut self, into: &mut [u8]) -> Got
         ensures within { ReadsWithin result (length into.old) }
         ensures counted { CountsFailedRead result (failed self.old) (failed self.new) };
@@ -41,6 +42,7 @@ pub trait Wire {
         ensures within { WritesWithin result (length from.now) }
         ensures counted { CountsFailedWrite result (failed self.old) (failed self.new) };
 
+    /// How many reads and writes failed.
     fn failures(&self) -> u64
         ensures { result ≡ failed self.now };
 
@@ -74,6 +76,7 @@ pub enum Patience {
 
 /// Where a worker gets its connections, and learns which of them have something to do.
 pub trait Inlet: Drop {
+    /// What its connections are read from and written to.
     type Wire: Wire + Drop;
 
     /// The next connection. It is asked once before each turn, and waits no longer than it is told.

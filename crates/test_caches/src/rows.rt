@@ -58,7 +58,7 @@ fn play_on<C: Kind>(
     play(rt, alloc, &mut cache, scene)
 }
 
-/// A scene on an empty cache of each kind, whose items have at most `largest` bytes of data.
+/// A scene on an empty cache of each kind, whose storage commands store at most `largest` bytes of data.
 fn play_on_both<R: Abort + RandomSource>(
     rt: &R,
     alloc: Global,

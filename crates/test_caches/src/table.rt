@@ -94,7 +94,7 @@ pub(crate) const FLUSHES: [Row; 19] = [
     (126, "get k", "", "MISS"),
 ];
 
-/// Of a cache whose items have at most three bytes of data.
+/// Of a cache whose storage commands store at most three bytes of data.
 pub(crate) const SMALL: [Row; 9] = [
     (0, "set k 0 0 4", "abcd", "TOO_LARGE"),
     (0, "set k 0 0 3", "abc", "STORED"),

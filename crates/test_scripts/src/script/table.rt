@@ -374,7 +374,7 @@ pub(super) static SCRIPTS: [Row; 20] = [
 /// A user.
 pub(super) const USER: &str = "# A user.\nuser alice one 65536\n";
 
-/// Lines that may not stand behind the user's, and how many lines there are before the refused one.
+/// Lines that may not stand behind the user's.
 pub(super) const ILL_FORMED: [&str; 10] = [
     "opens 1",
     "open",

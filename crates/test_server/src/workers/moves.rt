@@ -10,8 +10,6 @@ use std::process::Abort;
 use std::sync::atomic::Ordering::SeqCst;
 use std::sync::{Arc, Wait};
 use std::test::*;
-use std::thread::Threads;
-use std::time::Clock as Time;
 use tc_locked::{Clock, Hall, Naming, Seat};
 use tc_plain::Cache;
 use tc_users::{UserNo, Users};
@@ -113,7 +111,7 @@ fn turn<C: Cache, N: Naming, R: Wait>(
     worker.pass_on(inlet);
 }
 
-/// Bob is heard by the first worker, and then by the second.
+/// Bob is heard by the first worker, which passes him on; it takes him back, and hears him to the end.
 fn pass_bob_on<C: Cache, N: Naming, R: Wait + Abort>(
     rt: &R,
     alloc: Global,

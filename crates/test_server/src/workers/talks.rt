@@ -1,4 +1,4 @@
-//! Two connections of one worker, one after the other.
+//! One or two connections of one worker, one after the other or in one turn.
 
 use super::table::{
     APPENDS, ENDS_SHORT, Failing, LONG_LINE, NOTHING, READS, RESTS, ROWS, SILENT, STORES, WRITES,

@@ -11,9 +11,11 @@ returns-then-run_in_lanes-lt-LANES c =
 pub loop-at-preserved : goal.loop-at-preserved
 loop-at-preserved c =
     let all : c.run_in_lanes.result ≡ 16 = omega (arith, c.run_in_lanes.ensures.within) in
-    let passes = run_passes is_key_byte c.args.bytes.now c.loop-at.at 16 (omega arith) (omega (arith, all, c.run_in_lanes.ensures.value)) in (
+    let passes = run_passes is_key_byte c.args.bytes.now c.loop-at.at 16 (omega arith)
+    (omega (arith, all, c.run_in_lanes.ensures.value)) in (
       omega arith,
-      λ k below. elim (cases_lt k c.loop-at.at) [ inl early ↦ c.loop-at.invariant.1 k early | inr late ↦ passes k (omega arith) below ],
+      λ k below. elim (cases_lt k c.loop-at.at)
+          [ inl early ↦ c.loop-at.invariant.1 k early | inr late ↦ passes k (omega arith) below ],
     )
 
 pub returns : goal.returns

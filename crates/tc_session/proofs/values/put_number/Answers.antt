@@ -24,7 +24,14 @@ returns-clause-written c =
     let d = c.write_digits-digits.result in
     let back : d - 1 + 1 ≡ d = omega (arith, short, c.requires.room, c.write_digits-digits.ensures.start) in
     let within : d - 1 < length c.write_digits-digits.new.buf =
-    omega (arith, short, c.requires.room, c.requires.within, c.write_digits-digits.ensures.start, c.write_digits-digits.auto.buf) in
+    omega (
+      arith,
+      short,
+      c.requires.room,
+      c.requires.within,
+      c.write_digits-digits.ensures.start,
+      c.write_digits-digits.auto.buf,
+    ) in
     drop-set c.write_digits-digits.new.buf (d - 1) 32 within
     ∙ ap (λ n. 32 ∷ drop n c.write_digits-digits.new.buf) back ∙ ap (λ l. 32 ∷ l) c.write_digits-digits.ensures.written
 
