@@ -1,8 +1,8 @@
 -- What settles one item at a time.
-use Rattle.std.specs.Prelude.{nat_lt, reverse, sum_by, ◌&&◌}
+use Rattle.std.specs.Prelude.{nat_lt, reverse, sum_by}
 use Rattle.std.specs.List.{list_all}
 use mathlib.Core.List.{reverse_aux}
-use Rattle.std.proofs.Common.{◌≡◌, ℕ, zero, suc, ◌+◌, ◌-◌, ◌<◌, ◌≤◌, Bool, true, false, cond, List, [], ◌∷◌, ◌++◌, length, take}
+use Rattle.std.proofs.Common.{◌≡◌, ℕ, zero, suc, ◌+◌, ◌-◌, ◌<◌, ◌≤◌, false, cond, List, [], ◌∷◌, ◌++◌, length, take}
 use Rattle.std.proofs.Common.{refl, sym, ◌∙◌, ap, arith, length-append}
 use Rattle.std.proofs.lemmas.Bool.{le-ltb}
 use Rattle.std.proofs.lemmas.List.Sums.{sum_by-cons, sum_by_push}
@@ -12,10 +12,6 @@ use Rattle.tc_model.proofs.Last.{fitting_last, beyond_last, shortest_more, fitti
 
 abbrev pub areas_by : {A : Type 0} → List A → List A → List A → Areas A
 areas_by x y z = record { window = x; probation = y; protected = z }
-
-and_parts : (a b : Bool) → (a && b) ≡ true → (a ≡ true) × (b ≡ true)
-and_parts true b h = (refl, h)
-and_parts false b h = absurd (cc)
 
 module _ {A : Type 0} where
   pub beyond_none : (w : A → ℕ) (room : ℕ) (xs : List A) → sum_by w xs ≤ room → beyond w room xs ≡ []
@@ -182,35 +178,3 @@ module _ {A : Type 0} where
       (victims weigh l (areas_by window p q) c))
       (settled_by (areas_by window p q) (c ∷ [])))) lost
       ∙ sym (ap (λ s. and_then (c ∷ []) s) (settle_main weigh freq l (areas_by w p q) h m))
-
-  -- rule 3, where it enters over victims: the first of them is dropped
-  pub settle_yields : (weigh freq : A → ℕ) (l : Limits) (w p q p' q' : List A) (c v : A)
-      → Popped weigh (areas_by w p q) v (areas_by w p' q')
-      → Popped weigh (areas_by (fitting weigh l.window w) p q) v (areas_by (fitting weigh l.window w) p' q')
-      → sum_by weigh q ≤ l.protected → main_weight weigh (areas_by w p q) ≤ l.main
-      → l.main < main_weight weigh (areas_by w p q) + weigh c → l.window < sum_by weigh (w ++ c ∷ [])
-      → list_all (λ v. nat_lt (freq v) (freq c)) (victims weigh l (areas_by w p q) c) ≡ true
-      → settle weigh freq l (areas_by (w ++ c ∷ []) p q) ≡ and_then (v ∷ []) (settle weigh freq l (areas_by (w ++ c ∷ []) p' q'))
-  settle_yields weigh freq l w p q p' q' c v out pop h m big x won =
-      let window : List A = fitting weigh l.window w in
-      let a : Areas A = areas_by window p q in
-      let b : Areas A = areas_by window p' q' in
-      let vs : List A = victims weigh l b c in
-      let less : main_weight weigh a + weigh c - l.main - weigh v ≡ main_weight weigh b + weigh c - l.main =
-      omega (arith, pop.main) in
-      let all : victims weigh l a c ≡ v ∷ vs =
-      shortest_popped weigh (main_weight weigh a + weigh c - l.main) a b v pop (omega arith)
-      ∙ ap (λ k. v ∷ shortest weigh k (from_tail b)) less in
-      let both = and_parts (nat_lt (freq v) (freq c)) (list_all (λ v. nat_lt (freq v) (freq c)) vs)
-      (sym (ap (λ vs. list_all (λ v. nat_lt (freq v) (freq c)) vs) all) ∙ won) in
-      let one : admitted freq c a (v ∷ vs) ≡ and_then (v ∷ []) (admitted freq c b vs) =
-      ap (λ b. cond b (settled_by (entered c (without_last (suc (length vs)) a)) (v ∷ vs)) (settled_by a (c ∷ [])))
-      (ap (λ b. b && list_all (λ v. nat_lt (freq v) (freq c)) vs) both.0 ∙ both.1)
-      ∙ ap (λ z. settled_by (entered c z) (v ∷ vs)) (pop.last (length vs))
-      ∙ sym (ap (λ t. and_then (v ∷ []) (cond t (settled_by (entered c (without_last (length vs) b)) vs) (settled_by b (c ∷ []))))
-      both.1) in
-      settle_main weigh freq l (areas_by (w ++ c ∷ []) p q) h m ∙ candidate weigh freq l w p q c x
-      ∙ ap (λ vs. first_of weigh freq l w c (admitted freq c a vs)) all ∙ ap (λ s. first_of weigh freq l w c s) one
-      ∙ sym (ap (λ s. and_then (v ∷ []) s)
-      (settle_main weigh freq l (areas_by (w ++ c ∷ []) p' q') (omega (arith, out.protected)) (omega (arith, out.main))
-      ∙ candidate weigh freq l w p' q' c x))
