@@ -12,6 +12,7 @@ use tc_grammar::Command;
 use tc_item::{Blob, LARGEST_BUDGET, Moment, NoMemory, RECORD_WEIGHT, SMALLEST_BUDGET};
 use tc_kinds::Kind;
 use tc_partition::Fast;
+use tc_plain::Snapshot;
 
 /// How many look-ups wait at most.
 const WAITING: u32 = 128;
@@ -259,13 +260,33 @@ fn report_drains<C: Kind>(
 }
 
 /// Brings a snapshot up to the cache, as a page's turn does, and lets go of what that leaves over.
-fn turn_often<C: Kind>(alloc: Global, cache: &mut C, rounds: u32) -> Result<(), NoMemory> {
-    let mut snapshot = cache.snapshot(alloc)?;
+fn turn_once<C: Kind>(
+    alloc: Global,
+    cache: &mut C,
+    snapshot: &mut Snapshot,
+) -> Result<(), NoMemory> {
+    cache.prepare(alloc, snapshot)?;
+    drop(snapshot.turn());
+    Ok(())
+}
+
+/// The same so many times.
+fn turn_again<C: Kind>(
+    alloc: Global,
+    cache: &mut C,
+    snapshot: &mut Snapshot,
+    rounds: u32,
+) -> Result<(), NoMemory> {
     for _ in 0..rounds {
-        cache.prepare(alloc, &mut snapshot)?;
-        let _left = snapshot.turn();
+        turn_once(alloc, cache, snapshot)?;
     }
     Ok(())
+}
+
+/// The same of a snapshot of its own.
+fn turn_often<C: Kind>(alloc: Global, cache: &mut C, rounds: u32) -> Result<(), NoMemory> {
+    let mut snapshot = cache.snapshot(alloc)?;
+    turn_again(alloc, cache, &mut snapshot, rounds)
 }
 
 /// A snapshot and turns of it between which nothing changes, by the items in them.
