@@ -49,9 +49,10 @@ fn data_from(entries: &[Entry], from: usize) -> u64 {
 }
 
 /// Reads the data of the entry at a place, where it holds several items, and at each sixteenth place
-/// that of the sixteen from there on that hold one, and does nothing with it. To let an entry go is to wait for the memory of
-/// each data, whose holders are counted by an atomic that no later read overtakes; these reads wait
-/// together. What they come to goes to an atomic, so that a compiler leaves them in.
+/// that of the sixteen from there on that hold one, and does nothing with it. To let an entry go is to
+/// wait for the memory of each data, whose holders are counted by an atomic that no later read
+/// overtakes; these reads wait together. What they come to goes to an atomic, so that a compiler leaves
+/// them in.
 pub(crate) fn read_ahead(entries: &[Entry], from: usize) {
     let Some(entry) = entries.get(from) else {
         return;
