@@ -1,5 +1,5 @@
 //! A due, as an item keeps it.
-ghost use Rattle.std.specs.Prelude.{◌≡◌, true};
+ghost use Rattle.std.specs.Prelude.{◌≡◌};
 
 use crate::Due;
 use std::fmt;
@@ -56,13 +56,6 @@ impl KeptDue {
         } else {
             Due::Never
         }
-    }
-
-    /// Whether two are known to be the same due, which they are if they are kept alike.
-    pub fn is_as(&self, other: &KeptDue) -> bool
-        ensures { result ≡ true → self.now ≡ other.now }
-    {
-        self.ends == other.ends && self.high == other.high && self.low == other.low
     }
 
     /// The same due.

@@ -1,6 +1,6 @@
 //! What look-ups touch of one user's cache.
 ghost use Rattle.std.specs.Prelude.{◌≡◌, ℕ, max, false, None, IsSome, slice_index_or, ◌<◌, ◌≤◌, ◌+◌, ◌^◌, true, is_some, length};
-ghost use Rattle.std.specs.Prelude.{Some, IfOk, OnOk, MatchOption, List};
+ghost use Rattle.std.specs.Prelude.{Some, IfOk, OnOk, OnErr, MatchOption, List};
 ghost use Rattle.std.specs.Option.{option_copied};
 ghost use Rattle.tc_model.specs.Areas.{total, settle};
 ghost use Rattle.tc_stats.specs.UserCounters.{more};
@@ -16,15 +16,15 @@ ghost use Rattle.tc_plain.specs.Plans.{outcome_of, planned, IsLightPlan};
 ghost use Rattle.tc_partition.specs.Held.{IsFound};
 ghost use Rattle.tc_partition.specs.Deferred.{Miss, hit, do_note, peeked};
 ghost use Rattle.tc_partition.specs.WaitingSlots.{SeeksSlot, placed_in};
-ghost use Rattle.tc_partition.specs.LiveSlots.{live_of, plan_of, IsKeyed, IsFree};
+ghost use Rattle.tc_partition.specs.LiveSlots.{live_of, then_live, seen_of, plan_of, IsKeyed, IsFree};
 
 use crate::hints::Hints;
 use crate::slots::Slots;
 use crate::work::Work;
 use std::alloc::Global;
 use tc_item::{Due, Key, Moment, NoMemory, Slot, alive};
-use tc_plain::{End, Entry, EvictionState, Limits};
-use tc_sketch::{Sketch, hash};
+use tc_plain::{Change, End, Entry, EvictionState, Limits};
+use tc_sketch::{PastSketch, hash};
 use tc_stats::Counters;
 
 /// What look-ups touch: the entries, how often each key was seen, and when the entries go.
@@ -35,7 +35,7 @@ pub struct LiveSlots {
     /// Where keys were found last.
     pub hints: Hints,
     /// How often each key was seen of late.
-    pub sketch: Sketch,
+    pub sketch: PastSketch,
     /// The second at which all entries go, if that was asked for.
     pub flush: Option<u64>,
     /// The moment that the cache was last advanced to.
@@ -76,6 +76,8 @@ impl LiveSlots {
             → lives (max self.old.moment now) e ≡ true
             → slice_index_or self.new.held.slots n None ≡ Some e }
         ensures room { self.old.held.has_room ≡ true → self.new.held.has_room ≡ true }
+        ensures then { then_live self.new ≡ then_live self.old }
+        ensures spare { self.old.held.spare ≤ self.new.held.spare }
     {
         self.moment = self.moment.later(now);
         if is_flush_due(self.flush, self.moment) {
@@ -84,6 +86,18 @@ impl LiveSlots {
         } else {
             self.held.expire(self.moment);
         }
+    }
+
+    /// The same, with room for so many dues to change behind that. A refusal changes nothing.
+    pub(crate) fn advance_for(&mut self, now: Moment, dues: usize) -> Result<(), NoMemory>
+        ensures live { OnOk result (live_of self.new ≡ advanced (live_of self.old) now) }
+        ensures spare { OnOk result (dues ≤ self.new.held.spare) }
+        ensures unchanged_on_err { OnErr result (live_of self.new ≡ live_of self.old) }
+        ensures then { then_live self.new ≡ then_live self.old }
+    {
+        self.held.make_log_room(dues)?;
+        self.advance(now);
+        Ok(())
     }
 
     /// Where what a key will hold at the moment is.
@@ -172,11 +186,13 @@ impl LiveSlots {
     /// One look-up of a key: whether it is held. What it holds has this due from now on, if one is
     /// given.
     pub(crate) fn look(&mut self, key: &Key, due: Option<Due>) -> bool
+        requires spare { 1 ≤ self.old.held.spare }
         requires sound { AreSound self.old.held.limits self.old.held.areas }
         requires weight { total weight self.old.held.areas < 2 ^ 32 }
         ensures live { live_of self.new ≡ (looked_up (change_of due) key.now
             (held key.now self.old.held.areas) (live_of self.old)).1 }
         ensures found { result ≡ is_some (held key.now self.old.held.areas) }
+        ensures then { then_live self.new ≡ then_live self.old }
     {
         let place = self.held.find(key);
         self.look_at(place, key, due)
@@ -185,12 +201,15 @@ impl LiveSlots {
     /// One look-up of a key that was found at this place or holds nothing: whether it is held. What
     /// it holds has this due from now on, if one is given.
     pub(crate) fn look_at(&mut self, place: Option<Slot>, key: &Key, due: Option<Due>) -> bool
+        requires spare { 1 ≤ self.old.held.spare }
         requires sound { AreSound self.old.held.limits self.old.held.areas }
         requires weight { total weight self.old.held.areas < 2 ^ 32 }
         requires missed { place ≡ None → held key.now self.old.held.areas ≡ None }
         ensures live { live_of self.new ≡ (looked_up (change_of due) key.now
             (held key.now self.old.held.areas) (live_of self.old)).1 }
         ensures found { result ≡ is_some (held key.now self.old.held.areas) }
+        ensures then { then_live self.new ≡ then_live self.old }
+        ensures spare { self.old.held.spare ≤ self.new.held.spare + 1 }
     {
         self.sketch.record(hash(key.as_bytes()));
         let Some(slot) = self.held.find_again(place, key) else {
@@ -217,6 +236,7 @@ impl LiveSlots {
         ensures live { (e : Entry) → slice_index_or self.old.held.slots slot.0 None ≡ Some e
             → live_of self.new ≡ hit e.key (live_of self.old) }
         ensures slots { self.new.held.slots ≡ self.old.held.slots }
+        ensures then { then_live self.new ≡ then_live self.old }
     {
         self.held.owning();
         let hash = self.held.hash_at(slot);
@@ -229,6 +249,7 @@ impl LiveSlots {
     pub(crate) fn miss(&mut self, hash: u64)
         ensures live { live_of self.new ≡ do_note (Miss hash) (live_of self.old) }
         ensures slots { self.new.held.slots ≡ self.old.held.slots }
+        ensures then { then_live self.new ≡ then_live self.old }
     {
         self.sketch.record(hash);
     }
@@ -236,12 +257,14 @@ impl LiveSlots {
     /// Puts an entry in the place of what its key holds, which was found at this place or holds
     /// nothing.
     fn use_new(&mut self, place: Option<Slot>, key: Key, entry: Entry)
+        requires spare { 2 ≤ self.old.held.spare }
         requires key { key ≡ entry.key }
         requires missed { place ≡ None → held entry.key self.old.held.areas ≡ None }
         requires light { weight entry ≤ self.old.held.limits.main }
         requires weight { total weight self.old.held.areas + weight entry < 2 ^ 64 }
         requires room { self.old.held.has_room ≡ true }
         ensures live { live_of self.new ≡ used entry (live_of self.old) }
+        ensures then { then_live self.new ≡ then_live self.old }
     {
         let hash = hash(key.as_bytes());
         self.sketch.record(hash);
@@ -266,6 +289,7 @@ impl LiveSlots {
     /// Puts an entry in the place of what its key holds, which was found at this place or holds
     /// nothing, and brings each area within its limit; each entry that is dropped is counted.
     fn change(&mut self, place: Option<Slot>, key: Key, entry: Entry, evictions: u64) -> u64
+        requires spare { 2 ≤ self.old.held.spare }
         requires key { key ≡ entry.key }
         requires missed { place ≡ None → held entry.key self.old.held.areas ≡ None }
         requires light { weight entry ≤ self.old.held.limits.main }
@@ -279,6 +303,7 @@ impl LiveSlots {
         ensures counted { result ≡ more evictions (length (settle weight (frequency (used entry
             (live_of self.old))) self.old.held.limits (used entry
             (live_of self.old)).areas).dropped) }
+        ensures then { then_live self.new ≡ then_live self.old }
     {
         self.use_new(place, key, entry);
         self.held.settle(&self.sketch, evictions)
@@ -288,6 +313,8 @@ impl LiveSlots {
     pub(crate) fn make_room(&mut self) -> Result<(), NoMemory>
         ensures live { live_of self.new ≡ live_of self.old }
         ensures room { OnOk result (self.new.held.has_room ≡ true) }
+        ensures spare { OnOk result (2 ≤ self.new.held.spare) }
+        ensures then { then_live self.new ≡ then_live self.old }
     {
         self.held.make_room()?;
         self.hints.fit(self.held.count());
@@ -296,7 +323,8 @@ impl LiveSlots {
 
     /// Takes all entries out, at once or so many seconds from its moment.
     pub(crate) fn flush(&mut self, delay: u32)
-        ensures { live_of self.new ≡ flushed delay (live_of self.old) }
+        ensures state { live_of self.new ≡ flushed delay (live_of self.old) }
+        ensures then { then_live self.new ≡ then_live self.old }
     {
         if delay == 0 {
             self.held.clear();
@@ -311,6 +339,7 @@ impl LiveSlots {
         ensures held { result ≡ is_some (held key.now self.old.held.areas) }
         ensures live { live_of self.new ≡ record (live_of self.old)
             { areas = without_key key.now self.old.held.areas } }
+        ensures then { then_live self.new ≡ then_live self.old }
     {
         self.held.remove(key)
     }
@@ -323,10 +352,34 @@ impl LiveSlots {
         Ok(EvictionState {
             limits,
             areas: self.held.copy(alloc)?,
-            sketch: self.sketch.copy()?,
+            sketch: self.sketch.copy(alloc)?,
             flush: self.flush,
             moment: self.moment,
         })
+    }
+
+    /// The next page begins with what is held now. A refusal changes nothing.
+    pub(crate) fn prepare(&mut self, alloc: Global) -> Result<(), NoMemory>
+        ensures live { live_of self.new ≡ live_of self.old }
+        ensures slots { self.new.held.slots ≡ self.old.held.slots }
+        ensures page { (then_live self.new).page ≡ (then_live self.old).page }
+        ensures next { OnOk result ((then_live self.new).next ≡ seen_of (live_of self.old)) }
+        ensures unchanged_on_err { OnErr result (then_live self.new ≡ then_live self.old) }
+    {
+        self.held.prepare(alloc)?;
+        self.sketch.prepare();
+        Ok(())
+    }
+
+    /// Begins the page at what was prepared, and gives what slots held before its changes.
+    pub(crate) fn turn(&mut self) -> Option<Vec<Change>>
+        ensures live { live_of self.new ≡ live_of self.old }
+        ensures slots { self.new.held.slots ≡ self.old.held.slots }
+        ensures page { (then_live self.new).page ≡ (then_live self.old).next }
+        ensures next { (then_live self.new).next ≡ (then_live self.old).next }
+    {
+        self.sketch.turn();
+        self.held.turn()
     }
 
     /// Carries work out on a key that was found at this place or holds nothing, for which there is
@@ -339,6 +392,7 @@ impl LiveSlots {
         last: &mut u64,
         counters: &mut Counters,
     ) -> End
+        requires spare { 2 ≤ self.old.held.spare }
         requires weight { total weight self.old.held.areas < 2 ^ 63 }
         requires light { IsLightPlan self.old.held.limits (plan_of work) }
         requires main { self.old.held.limits.main < 2 ^ 63 }
@@ -351,6 +405,7 @@ impl LiveSlots {
             → k.counters ≡ counters.old
             → (planned k (plan_of work)).1
             ≡ record k { live = live_of self.new; last = last.new; counters = counters.new } }
+        ensures then { then_live self.new ≡ then_live self.old }
     {
         let (end, copy, key, draft) = match work {
             Work::Ends(end) => return end,

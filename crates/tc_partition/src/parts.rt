@@ -1,76 +1,141 @@
 //! Steps on index, entries, lists and wheel, each of which is told what it needs of the others.
-ghost use Rattle.std.specs.Prelude.{◌≡◌, ℕ, true, IfOk, OnOk, IsSome, length, option_to_list, ◌++◌, ◌<◌, ◌≤◌, Some, None};
+ghost use Rattle.std.specs.Prelude.{◌≡◌, ℕ, true, IfOk, OnOk, IsSome, length, option_to_list, ◌++◌, ◌∷◌, [], ◌+◌, ◌<◌, ◌≤◌, Some, None};
 ghost use Rattle.std.specs.Option.{option_copied};
 ghost use Rattle.std.specs.Str.{bytes_eq};
 ghost use Rattle.indexmap.specs.IndexMap.{get as index_get, spare};
 ghost use Rattle.slab.specs.Slab.{get as slab_get, slab_len, HasRoomFor};
+ghost use Rattle.tc_past.specs.Told.{IsSamePage};
 ghost use Rattle.tc_slru.specs.SlotLists.{DropsNext};
 ghost use Rattle.tc_plain.specs.Entries.{weight, with_item, with_due};
 ghost use Rattle.tc_plain.specs.declared.entry.Entry.{Entry};
 ghost use Rattle.tc_wheel.specs.Dues.{due_at};
 ghost use Rattle.tc_plain.specs.BySlot.{entries_at};
 ghost use Rattle.tc_partition.specs.Agreement.{set_at, due_by};
-ghost use Rattle.tc_partition.specs.Held.{seen_by, IsVacated, IsTaken, HasRoom};
-ghost use Rattle.tc_plain.specs.Snapshots.{at_slots, with_changes};
+ghost use Rattle.tc_partition.specs.Held.{seen_by, IsVacated, IsTaken, HasRoom, IsSameThen};
+ghost use Rattle.tc_partition.specs.Undoing.{at_slots, undo, undo_one, was_in, AreBelow, IsNoted, AreNoted, Notes};
 
+use crate::log::Log;
 use crate::reading::have_read;
 use indexmap::IndexMap;
 use slab::Slab;
 use std::alloc::Global;
 use std::hash::RandomState;
+use std::mem;
 use tc_item::{Due, KeptDue, Key, MOMENT_LIMIT, Moment, NoMemory, Slot};
-use tc_plain::{Change, Entry};
-use tc_sketch::{Sketch, hash};
+use tc_plain::{Change, Entry, Was};
+use tc_sketch::{PastSketch, hash};
 use tc_slru::Lists;
 use tc_wheel::Wheel;
 
 /// How many entries a copy reads at once, ahead of copying them.
 const AHEAD: usize = 16;
 
-/// Puts an entry into a free slot, and its key into the index.
+/// Notes what a slot held, or lets go of it where that comes back anyway.
+fn note_held(log: &mut Log, slot: Slot, held: Option<Entry>)
+    requires { length log.old.since < log.old.capacity }
+    ensures { Notes (record { slot = slot.0; was = Was.Held held }) log.old log.new }
+{
+    log.note(Change {
+        slot: slot.0,
+        was: Was::Held(held),
+    });
+}
+
+/// Puts an entry into a slot in the place of the one that it holds, which it gives.
+fn swap(entries: &mut Slab<Entry>, slot: Slot, entry: Entry) -> Option<Entry>
+    requires { IsSome (slab_get entries.old slot.0) }
+    ensures entries { (n : ℕ) → slab_get entries.new n
+        ≡ set_at slot.0 (Some entry) (slab_get entries.old) n }
+    ensures len { slab_len entries.new ≡ slab_len entries.old }
+    ensures capacity { entries.new.capacity ≡ entries.old.capacity }
+    ensures given { result ≡ slab_get entries.old slot.0 }
+{
+    if let Some(held) = entries.get_mut(slot.0) {
+        return Some(mem::replace(held, entry));
+    }
+    None
+}
+
+/// Gives what a slot holds another due, and gives the one that it had.
+fn swap_due(entries: &mut Slab<Entry>, slot: Slot, due: Due) -> KeptDue
+    requires { IsSome (slab_get entries.old slot.0) }
+    ensures entries { (e : Entry) → slab_get entries.old slot.0 ≡ Some e → (n : ℕ)
+        → slab_get entries.new n ≡ set_at slot.0 (Some (with_item e (with_due due e.item)))
+        (slab_get entries.old) n }
+    ensures len { slab_len entries.new ≡ slab_len entries.old }
+    ensures capacity { entries.new.capacity ≡ entries.old.capacity }
+    ensures given { (e : Entry) → slab_get entries.old slot.0 ≡ Some e → result ≡ e.item.due }
+{
+    match entries.get_mut(slot.0) {
+        Some(held) => mem::replace(&mut held.item.due, KeptDue::new(due)),
+        None => KeptDue::new(due),
+    }
+}
+
+/// Puts an entry into a free slot, and its key into the index, and notes it.
 pub fn take_in(
     index: &mut IndexMap<Key, Slot, RandomState>,
     entries: &mut Slab<Entry>,
+    log: &mut Log,
     key: Key,
     entry: Entry,
 ) -> Slot
     requires index { 0 < spare index.old }
     requires entries { HasRoomFor entries.old 1 }
+    requires log { length log.old.since < log.old.capacity }
     requires key { key ≡ entry.key }
-    ensures { IsTaken entry result.0 index.old index.new entries.old entries.new }
+    ensures taken { IsTaken entry result.0 index.old index.new entries.old entries.new }
+    ensures noted { IsNoted result.0 log.old log.new entries.old entries.new }
+    ensures len { slab_len entries.new ≡ slab_len entries.old + 1 }
 {
     let slot = Slot(entries.insert_reserved(entry));
     let _fits = index.insert(key, slot);
+    note_held(log, slot, None);
     slot
 }
 
-/// Takes a slot's entry out, and its key out of the index.
-pub fn vacate(index: &mut IndexMap<Key, Slot, RandomState>, entries: &mut Slab<Entry>, slot: Slot)
-    requires { IsSome (slab_get entries.old slot.0) }
-    ensures { (e : Entry) → slab_get entries.old slot.0 ≡ Some e
+/// Takes a slot's entry out, and its key out of the index, and notes it.
+pub fn vacate(
+    index: &mut IndexMap<Key, Slot, RandomState>,
+    entries: &mut Slab<Entry>,
+    log: &mut Log,
+    slot: Slot,
+)
+    requires held { IsSome (slab_get entries.old slot.0) }
+    requires log { length log.old.since + slab_len entries.old ≤ log.old.capacity }
+    ensures gone { (e : Entry) → slab_get entries.old slot.0 ≡ Some e
         → IsVacated e slot.0 index.old index.new entries.old entries.new }
+    ensures noted { IsNoted slot.0 log.old log.new entries.old entries.new }
 {
     if let Some(entry) = entries.try_remove(slot.0) {
         let _slot = index.swap_remove(&entry.key);
+        note_held(log, slot, Some(entry));
     }
 }
 
-/// Takes what a key holds out of index and entries, and says in which slot it was.
+/// Takes what a key holds out of index and entries, notes it, and says in which slot it was.
 pub fn take_out(
     index: &mut IndexMap<Key, Slot, RandomState>,
     entries: &mut Slab<Entry>,
+    log: &mut Log,
     key: &Key,
 ) -> Option<Slot>
+    requires held { (slot : Slot) → index_get bytes_eq index.old key.now ≡ Some slot
+        → IsSome (slab_get entries.old slot.0) }
+    requires log { length log.old.since + slab_len entries.old ≤ log.old.capacity }
     ensures found { result ≡ index_get bytes_eq index.old key.now }
     ensures missed { result ≡ None → index.new.entries ≡ index.old.entries }
-    ensures kept { result ≡ None → entries.new ≡ entries.old }
+    ensures kept { result ≡ None → (entries.new ≡ entries.old) × (log.new ≡ log.old) }
     ensures spare { spare index.old ≤ spare index.new }
     ensures gone { (slot : Slot) (e : Entry) → result ≡ Some slot
         → slab_get entries.old slot.0 ≡ Some e → e.key ≡ key.now
         → IsVacated e slot.0 index.old index.new entries.old entries.new }
+    ensures noted { (slot : Slot) → result ≡ Some slot
+        → IsNoted slot.0 log.old log.new entries.old entries.new }
 {
     let slot = index.swap_remove(key)?;
-    let _entry = entries.try_remove(slot.0);
+    let held = entries.try_remove(slot.0);
+    note_held(log, slot, held);
     Some(slot)
 }
 
@@ -110,8 +175,8 @@ pub fn time(wheel: &mut Wheel, slot: Slot, due: Option<Moment>)
 }
 
 /// How often the key of what a slot holds was seen of late.
-pub fn frequency(entries: &Slab<Entry>, sketch: &Sketch, slot: Slot) -> u8
-    ensures { result ≡ seen_by sketch.now (slab_get entries.now) slot.0 }
+pub fn frequency(entries: &Slab<Entry>, sketch: &PastSketch, slot: Slot) -> u8
+    ensures { result ≡ seen_by sketch.now.live (slab_get entries.now) slot.0 }
 {
     let key: &[u8] = match entries.get(slot.0) {
         Some(entry) => entry.key.as_bytes(),
@@ -121,10 +186,11 @@ pub fn frequency(entries: &Slab<Entry>, sketch: &Sketch, slot: Slot) -> u8
 }
 
 /// The next slot that settle drops, out of the lists alone.
-pub fn drop_next(lists: &mut Lists, entries: &Slab<Entry>, sketch: &Sketch) -> Option<Slot>
-    ensures kept { lists.new ≡ record lists.old { areas = lists.new.areas } }
-    ensures next { DropsNext result (seen_by sketch.now
-        (slab_get entries.now)) lists.old lists.new }
+pub fn drop_next(lists: &mut Lists, entries: &Slab<Entry>, sketch: &PastSketch) -> Option<Slot>
+    ensures kept { lists.new.live ≡ record lists.old.live { areas = lists.new.live.areas } }
+    ensures past { IsSamePage lists.old lists.new }
+    ensures next { DropsNext result (seen_by sketch.now.live
+        (slab_get entries.now)) lists.old.live lists.new.live }
 {
     lists.settle_step(|slot| frequency(entries, sketch, slot))
 }
@@ -138,11 +204,12 @@ pub fn grow(
 ) -> Result<(), NoMemory>
     ensures index { index.new.entries ≡ index.old.entries }
     ensures slots { entries.new.slots ≡ entries.old.slots }
-    ensures areas { lists.new.areas ≡ lists.old.areas }
-    ensures limits { lists.new.limits ≡ lists.old.limits }
+    ensures areas { lists.new.live.areas ≡ lists.old.live.areas }
+    ensures limits { lists.new.live.limits ≡ lists.old.live.limits }
+    ensures past { IsSameThen lists.old lists.new }
     ensures dues { (n : ℕ) → due_at wheel.new.dues n ≡ due_at wheel.old.dues n }
     ensures long { length wheel.old.dues ≤ length wheel.new.dues }
-    ensures room { OnOk result (HasRoom index.new entries.new lists.new wheel.new) }
+    ensures room { OnOk result (HasRoom index.new entries.new lists.new.live wheel.new) }
 {
     index.reserve(1)?;
     entries.reserve(1)?;
@@ -152,31 +219,36 @@ pub fn grow(
     Ok(())
 }
 
-/// Puts an entry into a slot in the place of the one that it holds.
-pub fn put(entries: &mut Slab<Entry>, slot: Slot, entry: Entry)
-    requires { IsSome (slab_get entries.old slot.0) }
+/// Puts an entry into a slot in the place of the one that it holds, and notes that.
+pub fn put(entries: &mut Slab<Entry>, log: &mut Log, slot: Slot, entry: Entry)
+    requires held { IsSome (slab_get entries.old slot.0) }
+    requires log { length log.old.since < log.old.capacity }
     ensures entries { (n : ℕ) → slab_get entries.new n
         ≡ set_at slot.0 (Some entry) (slab_get entries.old) n }
     ensures len { slab_len entries.new ≡ slab_len entries.old }
     ensures capacity { entries.new.capacity ≡ entries.old.capacity }
+    ensures noted { IsNoted slot.0 log.old log.new entries.old entries.new }
 {
-    if let Some(held) = entries.get_mut(slot.0) {
-        *held = entry;
-    }
+    let held = swap(entries, slot, entry);
+    note_held(log, slot, held);
 }
 
-/// Gives what a slot holds another due.
-pub fn put_due(entries: &mut Slab<Entry>, slot: Slot, due: Due)
-    requires { IsSome (slab_get entries.old slot.0) }
+/// Gives what a slot holds another due, and notes the one that it had.
+pub fn put_due(entries: &mut Slab<Entry>, log: &mut Log, slot: Slot, due: Due)
+    requires held { IsSome (slab_get entries.old slot.0) }
+    requires log { length log.old.since < log.old.capacity }
     ensures entries { (e : Entry) → slab_get entries.old slot.0 ≡ Some e → (n : ℕ)
         → slab_get entries.new n ≡ set_at slot.0 (Some (with_item e (with_due due e.item)))
         (slab_get entries.old) n }
     ensures len { slab_len entries.new ≡ slab_len entries.old }
     ensures capacity { entries.new.capacity ≡ entries.old.capacity }
+    ensures noted { IsNoted slot.0 log.old log.new entries.old entries.new }
 {
-    if let Some(held) = entries.get_mut(slot.0) {
-        held.item.due = KeptDue::new(due);
-    }
+    let due = swap_due(entries, slot, due);
+    log.note(Change {
+        slot: slot.0,
+        was: Was::Due(due),
+    });
 }
 
 /// What a slot's entry weighs.
@@ -232,76 +304,109 @@ pub fn copy_at(alloc: Global, entries: &Slab<Entry>, slots: &[Slot]) -> Result<V
     Ok(copied)
 }
 
-/// Whether two slots are known to hold the same.
-fn hold_same(held: Option<&Entry>, shown: Option<&Entry>) -> bool
-    ensures { result ≡ true → option_copied held.entry ≡ option_copied shown.entry }
+/// Takes out what a slot holds, if it holds anything, and notes it.
+fn take_noted(entries: &mut Slab<Entry>, log: &mut Log, slot: usize)
+    requires room { length log.old.since + slab_len entries.old ≤ log.old.capacity }
+    ensures noted { AreNoted (slot + 1) log.old log.new entries.old entries.new }
+    ensures entries { (n : ℕ) → slab_get entries.new n ≡ set_at slot None (slab_get entries.old) n }
+    ensures capacity { entries.new.capacity ≡ entries.old.capacity }
 {
-    match (held, shown) {
-        (None, None) => true,
-        (Some(held), Some(shown)) => held.is_as(shown),
-        (Some(_), None) | (None, Some(_)) => false,
+    if let Some(entry) = entries.try_remove(slot) {
+        note_held(log, Slot(slot), Some(entry));
     }
 }
 
-/// A copy of what a slot holds, over the same data.
-fn copy_held(alloc: Global, held: Option<&Entry>) -> Result<Option<Entry>, NoMemory>
-    ensures { IfOk result (λ copy. copy ≡ option_copied held.entry) }
+/// Takes all entries out of the first slots, and notes them.
+pub fn empty_all(entries: &mut Slab<Entry>, log: &mut Log, slots: usize)
+    requires room { length log.old.since + slab_len entries.old ≤ log.old.capacity }
+    requires within { (n : ℕ) → slots ≤ n → slab_get entries.old n ≡ None }
+    ensures noted { AreNoted slots log.old log.new entries.old entries.new }
+    ensures empty { (n : ℕ) → slab_get entries.new n ≡ None }
+    ensures capacity { entries.new.capacity ≡ entries.old.capacity }
 {
-    match held {
-        Some(entry) => Ok(Some(entry.copy(alloc)?)),
-        None => Ok(None),
+    for slot in 0..slots {
+        take_noted(entries, log, slot);
     }
 }
 
-/// Adds what is to change at a slot, so that it shows what is held there, if anything is.
-fn compare_at(
+/// What each slot holds, over the same data.
+fn copy_slots(
     alloc: Global,
     entries: &Slab<Entry>,
-    shown: &[Option<Entry>],
-    slot: usize,
-    changes: &mut Vec<Change>,
-) -> Result<(), NoMemory>
-    requires within { slot < length shown.now }
-    requires before { at_slots (with_changes changes.old.items shown.now) slot
-        ≡ at_slots shown.now slot }
-    ensures { OnOk result ((n : ℕ) → at_slots (with_changes changes.new.items shown.now) n
-        ≡ set_at slot (slab_get entries.now slot)
-        (at_slots (with_changes changes.old.items shown.now)) n) }
+    slots: usize,
+) -> Result<Vec<Option<Entry>>, NoMemory>
+    requires { (n : ℕ) → slots ≤ n → slab_get entries.now n ≡ None }
+    ensures { IfOk result (λ copied. (length copied.items ≡ slots)
+        × ((n : ℕ) → at_slots copied.items n ≡ slab_get entries.now n)) }
 {
-    let held = entries.get(slot);
-    if !hold_same(held, shown[slot].as_ref()) {
-        let entry = copy_held(alloc, held)?;
-        changes.push(Change { slot, entry })?;
+    let mut copied = Vec::with_capacity(alloc, slots)?;
+    for slot in 0..slots {
+        let held = match entries.get(slot) {
+            Some(entry) => Some(entry.copy(alloc)?),
+            None => None,
+        };
+        copied.push(held)?;
+    }
+    Ok(copied)
+}
+
+/// What a slot held, by what was noted and what it holds, over the same data.
+fn copy_was(alloc: Global, was: &Was, now: Option<&Entry>) -> Result<Option<Entry>, NoMemory>
+    ensures { IfOk result (λ held. held ≡ was_in was.now (option_copied now.entry)) }
+{
+    match was {
+        Was::Held(Some(entry)) => Ok(Some(entry.copy(alloc)?)),
+        Was::Held(None) => Ok(None),
+        Was::Due(due) => {
+            let Some(entry) = now else {
+                return Ok(None);
+            };
+            let mut entry = entry.copy(alloc)?;
+            entry.item.due = due.copy();
+            Ok(Some(entry))
+        }
+    }
+}
+
+/// Undoes a change of copied slots.
+fn undo_one(alloc: Global, slots: &mut [Option<Entry>], change: &Change) -> Result<(), NoMemory>
+    requires { change.now.slot < length slots.old }
+    ensures { OnOk result (at_slots slots.new ≡ undo_one change.now (at_slots slots.old)) }
+{
+    let held = copy_was(alloc, &change.was, slots[change.slot].as_ref())?;
+    slots[change.slot] = held;
+    Ok(())
+}
+
+/// Undoes changes of copied slots, the last first.
+fn undo(alloc: Global, slots: &mut [Option<Entry>], changes: &[Change]) -> Result<(), NoMemory>
+    requires { AreBelow (length slots.old) changes.now }
+    ensures { OnOk result (at_slots slots.new ≡ undo changes.now (at_slots slots.old)) }
+{
+    let mut left = changes.len();
+    while left > 0 {
+        left -= 1;
+        undo_one(alloc, slots, &changes[left])?;
     }
     Ok(())
 }
 
-/// What is to change, so that each slot shows what is held there.
-pub fn compare_all(
+/// What each slot held when the page began, over the same data.
+pub fn copy_then(
     alloc: Global,
     entries: &Slab<Entry>,
-    shown: &[Option<Entry>],
-) -> Result<Vec<Change>, NoMemory>
-    requires { (n : ℕ) → length shown.now ≤ n → slab_get entries.now n ≡ None }
-    ensures { IfOk result (λ changes. (n : ℕ)
-        → at_slots (with_changes changes.items shown.now) n ≡ slab_get entries.now n) }
+    log: &Log,
+    slots: usize,
+) -> Result<Vec<Option<Entry>>, NoMemory>
+    requires held { (n : ℕ) → slots ≤ n → slab_get entries.now n ≡ None }
+    requires before { AreBelow slots log.now.before }
+    requires since { AreBelow slots log.now.since }
+    ensures { IfOk result (λ copied. at_slots copied.items
+        ≡ undo log.now.before (undo log.now.since (slab_get entries.now))) }
 {
-    let mut changes = Vec::new(alloc);
-    for slot in 0..shown.len() {
-        compare_at(alloc, entries, shown, slot, &mut changes)?;
-    }
-    Ok(changes)
-}
-
-/// Shows so many slots at least; those that come hold nothing.
-pub fn show_more(shown: &mut Vec<Option<Entry>>, slots: usize) -> Result<(), NoMemory>
-    ensures kept { (n : ℕ) → at_slots shown.new.items n ≡ at_slots shown.old.items n }
-    ensures long { OnOk result (slots ≤ length shown.new.items) }
-{
-    let more = slots.saturating_sub(shown.len());
-    shown.reserve_exact(more)?;
-    for _slot in 0..more {
-        shown.push(None)?;
-    }
-    Ok(())
+    let mut copied = copy_slots(alloc, entries, slots)?;
+    let (before, since) = log.parts();
+    undo(alloc, &mut copied, since)?;
+    undo(alloc, &mut copied, before)?;
+    Ok(copied)
 }

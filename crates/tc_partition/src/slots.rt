@@ -15,7 +15,7 @@
 //! 2. `within`: each slot that holds an entry has a place in the wheel.
 //!
 //! So no key is held twice, and what the lists stand for under a key is what the index finds.
-ghost use Rattle.std.specs.Prelude.{◌≡◌, ℕ, true, false, IfOk, length, ◌+◌, ◌<◌, ◌≤◌, ◌^◌, Some, None, is_some, IsSome, OnOk};
+ghost use Rattle.std.specs.Prelude.{◌≡◌, ℕ, true, false, IfOk, length, ◌+◌, ◌<◌, ◌≤◌, ◌^◌, Some, None, is_some, IsSome, OnOk, OnErr};
 ghost use Rattle.std.specs.Prelude.{slice_index_or, slice_set};
 ghost use Rattle.tc_model.specs.Areas.{Limits as AreaLimits, total, settle, accessed};
 ghost use Rattle.std.specs.Option.{option_copied};
@@ -27,12 +27,13 @@ ghost use Rattle.tc_plain.specs.EvictionState.{held, kept, no_entries, entries_o
 ghost use Rattle.tc_plain.specs.Placing.{without_key, at_front};
 ghost use Rattle.tc_plain.specs.declared.entry.Entry.{Entry};
 ghost use Rattle.tc_sketch.specs.Sketch.{hash};
-ghost use Rattle.tc_plain.specs.BySlot.{entry_or, areas_by, stray};
+ghost use Rattle.tc_plain.specs.BySlot.{entry_or};
 ghost use Rattle.tc_partition.specs.Held.{filled, IsFound, FindsSlot, DropsEntry};
-ghost use Rattle.tc_plain.specs.Snapshots.{at_slots, with_changes};
 
+use crate::log::Log;
+use crate::opened::copy_areas;
 use crate::parts::{
-    compare_all, copy_at, drop_next, grow, put, put_due, reached, reached_by, show_more, take_in,
+    copy_at, copy_then, drop_next, empty_all, grow, put, put_due, reached, reached_by, take_in,
     take_out, time, vacate, weight_at,
 };
 use indexmap::IndexMap;
@@ -42,9 +43,16 @@ use std::hash::RandomState;
 use std::marker::Model;
 use tc_item::{Due, Key, Moment, NoMemory, Slot};
 use tc_plain::{Areas, Change, Entry, Limits};
-use tc_sketch::{Sketch, hash};
+use tc_sketch::{PastSketch, hash};
 use tc_slru::{Area, Lists};
 use tc_wheel::Wheel;
+
+/// For how many changes a new log has room at least, beside those of entries that are taken out.
+const LOG_ROOM: usize = 64;
+
+/// Entries are few where they are less than one in so many slots: to take one out alone costs about what it
+/// costs to pass so many.
+const FEW_OF: usize = 32;
 
 /// The entries of one partition.
 #[derive(Drop)]
@@ -53,6 +61,7 @@ pub struct Slots {
     entries: Slab<Entry>,
     lists: Lists,
     wheel: Wheel,
+    log: Log,
 }
 
 impl Model for Slots {
@@ -74,6 +83,8 @@ impl Slots {
         requires small { limits.main < 2 ^ 32 }
         ensures limits { IfOk result (λ s. s.limits ≡ limits) }
         ensures areas { IfOk result (λ s. s.areas ≡ no_entries) }
+        ensures page { IfOk result (λ s. s.then.page ≡ no_entries) }
+        ensures next { IfOk result (λ s. s.then.next ≡ no_entries) }
     {
         let lists = Lists::new(alloc, limits.window, limits.main, limits.protected)?;
         let wheel = Wheel::new(alloc)?;
@@ -82,15 +93,17 @@ impl Slots {
             entries: Slab::new(alloc),
             lists,
             wheel,
+            log: Log::new(alloc),
         })
     }
 
-    /// Room for one more entry. A refusal changes nothing.
-    pub fn make_room(&mut self) -> Result<(), NoMemory>
+    /// Room for one more entry but in the log. A refusal changes nothing.
+    fn make_entry_room(&mut self) -> Result<(), NoMemory>
         ensures room { OnOk result (self.new.has_room ≡ true) }
         ensures areas { self.new.areas ≡ self.old.areas }
         ensures limits { self.new.limits ≡ self.old.limits }
         ensures slots { self.new.slots ≡ self.old.slots }
+        ensures then { self.new.then ≡ self.old.then }
     {
         grow(
             &mut self.index,
@@ -98,6 +111,36 @@ impl Slots {
             &mut self.lists,
             &mut self.wheel,
         )
+    }
+
+    /// Room for one more entry, and for what its placing changes. A refusal changes nothing.
+    pub fn make_room(&mut self) -> Result<(), NoMemory>
+        ensures room { OnOk result (self.new.has_room ≡ true) }
+        ensures spare { OnOk result (2 ≤ self.new.spare) }
+        ensures areas { self.new.areas ≡ self.old.areas }
+        ensures limits { self.new.limits ≡ self.old.limits }
+        ensures slots { self.new.slots ≡ self.old.slots }
+        ensures then { self.new.then ≡ self.old.then }
+    {
+        self.make_entry_room()?;
+        self.make_log_room(2)
+    }
+
+    /// Room in the log for so many changes, beside one for each entry that may be taken out. A refusal
+    /// changes nothing.
+    pub fn make_log_room(&mut self, count: usize) -> Result<(), NoMemory>
+        ensures room { OnOk result (count ≤ self.new.spare) }
+        ensures has_room { self.new.has_room ≡ self.old.has_room }
+        ensures areas { self.new.areas ≡ self.old.areas }
+        ensures limits { self.new.limits ≡ self.old.limits }
+        ensures slots { self.new.slots ≡ self.old.slots }
+        ensures then { self.new.then ≡ self.old.then }
+    {
+        let Some(room) = self.entries.len().checked_add(count) else {
+            return Err(NoMemory);
+        };
+        self.log.reserve(room, self.entries.capacity())?;
+        Ok(())
     }
 
     /// The slot of what a key holds.
@@ -221,16 +264,24 @@ impl Slots {
     /// is a copy of that key.
     pub fn fill(&mut self, key: Key, entry: Entry) -> Slot
         requires room { self.old.has_room ≡ true }
+        requires spare { 2 ≤ self.old.spare }
         requires key { key ≡ entry.key }
         requires free { held entry.key self.old.areas ≡ None }
         requires light { weight entry ≤ self.old.limits.main }
         requires fits { total weight self.old.areas + weight entry < 2 ^ 64 }
         ensures limits { self.new.limits ≡ self.old.limits }
         ensures areas { self.new.areas ≡ at_front entry self.old.areas }
+        ensures then { self.new.then ≡ self.old.then }
     {
         let weight = entry.weight();
         let due = reached_by(&entry);
-        let slot = take_in(&mut self.index, &mut self.entries, key, entry);
+        let slot = take_in(
+            &mut self.index,
+            &mut self.entries,
+            &mut self.log,
+            key,
+            entry,
+        );
         self.lists.push_window(slot, weight);
         time(&mut self.wheel, slot, due);
         slot
@@ -238,6 +289,7 @@ impl Slots {
 
     /// Puts an entry in the place of what its key holds in this slot: an access.
     pub fn replace(&mut self, slot: Slot, entry: Entry)
+        requires spare { 1 ≤ self.old.spare }
         requires found { IsFound entry.key slot.0 self.old }
         requires light { weight entry ≤ self.old.limits.main }
         requires fits { total weight self.old.areas + weight entry < 2 ^ 64 }
@@ -245,10 +297,11 @@ impl Slots {
         ensures areas { self.new.areas ≡ accessed weight self.old.limits
             (has_key entry.key) entry self.old.areas }
         ensures room { self.old.has_room ≡ true → self.new.has_room ≡ true }
+        ensures then { self.new.then ≡ self.old.then }
     {
         let weight = entry.weight();
         let due = reached_by(&entry);
-        put(&mut self.entries, slot, entry);
+        put(&mut self.entries, &mut self.log, slot, entry);
         self.lists.access(slot, weight);
         self.wheel.remove(slot);
         time(&mut self.wheel, slot, due);
@@ -256,6 +309,7 @@ impl Slots {
 
     /// An access of what a key holds in this slot, which has this due from now on.
     pub fn touch(&mut self, key: &Key, slot: Slot, due: Due)
+        requires spare { 1 ≤ self.old.spare }
         requires found { IsFound key.now slot.0 self.old }
         requires light { (e : Entry) → held key.now self.old.areas ≡ Some e
             → weight e ≤ self.old.limits.main }
@@ -266,9 +320,11 @@ impl Slots {
             → self.new.areas ≡ accessed weight self.old.limits (has_key key.now) (with_item e
             (with_due due e.item)) self.old.areas }
         ensures room { self.old.has_room ≡ true → self.new.has_room ≡ true }
+        ensures then { self.new.then ≡ self.old.then }
+        ensures spare { self.old.spare ≤ self.new.spare + 1 }
     {
         let weight = weight_at(&self.entries, slot);
-        put_due(&mut self.entries, slot, due);
+        put_due(&mut self.entries, &mut self.log, slot, due);
         self.lists.access(slot, weight);
         self.wheel.remove(slot);
         time(&mut self.wheel, slot, reached(due));
@@ -286,6 +342,8 @@ impl Slots {
             → self.new.areas ≡ accessed weight self.old.limits (has_key key.now) e self.old.areas }
         ensures slots { self.new.slots ≡ self.old.slots }
         ensures room { self.old.has_room ≡ true → self.new.has_room ≡ true }
+        ensures then { self.new.then ≡ self.old.then }
+        ensures spare { self.old.spare ≤ self.new.spare }
     {
         let weight = weight_at(&self.entries, slot);
         self.lists.access(slot, weight);
@@ -302,6 +360,8 @@ impl Slots {
         ensures areas { (e : Entry) → slice_index_or self.old.slots slot.0 None ≡ Some e
             → self.new.areas ≡ accessed weight self.old.limits (has_key e.key) e self.old.areas }
         ensures slots { self.new.slots ≡ self.old.slots }
+        ensures then { self.new.then ≡ self.old.then }
+        ensures spare { self.old.spare ≤ self.new.spare }
     {
         let weight = weight_at(&self.entries, slot);
         self.lists.access(slot, weight);
@@ -315,8 +375,10 @@ impl Slots {
             → self.new.areas ≡ without_key e.key self.old.areas }
         ensures slots { self.new.slots ≡ slice_set self.old.slots slot.0 None }
         ensures room { self.old.has_room ≡ true → self.new.has_room ≡ true }
+        ensures then { self.new.then ≡ self.old.then }
+        ensures spare { self.old.spare ≤ self.new.spare }
     {
-        vacate(&mut self.index, &mut self.entries, slot);
+        vacate(&mut self.index, &mut self.entries, &mut self.log, slot);
         self.lists.remove(slot);
         self.wheel.remove(slot);
     }
@@ -327,8 +389,10 @@ impl Slots {
         ensures areas { self.new.areas ≡ without_key key.now self.old.areas }
         ensures limits { self.new.limits ≡ self.old.limits }
         ensures room { self.old.has_room ≡ true → self.new.has_room ≡ true }
+        ensures then { self.new.then ≡ self.old.then }
+        ensures spare { self.old.spare ≤ self.new.spare }
     {
-        match take_out(&mut self.index, &mut self.entries, key) {
+        match take_out(&mut self.index, &mut self.entries, &mut self.log, key) {
             Some(found) => {
                 self.lists.remove(found);
                 self.wheel.remove(found);
@@ -338,28 +402,73 @@ impl Slots {
         }
     }
 
+    /// A slot that holds an entry; the last that the index has.
+    fn last(&self) -> Option<Slot>
+        ensures { (slot : Slot) → result ≡ Some slot
+            → IsSome (slice_index_or self.now.slots slot.0 None) }
+    {
+        let (_, slot) = self.index.get_index(self.index.len().checked_sub(1)?)?;
+        Some(*slot)
+    }
+
+    /// Takes entries out one by one.
+    fn empty_each(&mut self)
+        ensures limits { self.new.limits ≡ self.old.limits }
+        ensures room { self.old.has_room ≡ true → self.new.has_room ≡ true }
+        ensures then { self.new.then ≡ self.old.then }
+        ensures spare { self.old.spare ≤ self.new.spare }
+    {
+        for _ in 0..self.entries.len() {
+            let Some(slot) = self.last() else {
+                return;
+            };
+            self.empty(slot);
+        }
+    }
+
     /// Takes all entries out, each of the four in one pass.
-    pub fn clear(&mut self)
+    fn clear_whole(&mut self)
         ensures limits { self.new.limits ≡ self.old.limits }
         ensures areas { self.new.areas ≡ no_entries }
         ensures room { self.old.has_room ≡ true → self.new.has_room ≡ true }
+        ensures then { self.new.then ≡ self.old.then }
+        ensures spare { self.old.spare ≤ self.new.spare }
     {
         self.index.clear();
+        empty_all(&mut self.entries, &mut self.log, self.wheel.slots());
         self.entries.clear();
         self.lists.clear();
         self.wheel.clear();
     }
 
-    /// Drops the next entry that settle drops, and says whether there was one.
-    pub fn settle_next(&mut self, sketch: &Sketch) -> bool
+    /// Takes all entries out: one by one where few of the slots hold one, so that it costs what is held.
+    pub fn clear(&mut self)
         ensures limits { self.new.limits ≡ self.old.limits }
-        ensures next { DropsEntry result sketch.now self.old self.new }
+        ensures areas { self.new.areas ≡ no_entries }
+        ensures room { self.old.has_room ≡ true → self.new.has_room ≡ true }
+        ensures then { self.new.then ≡ self.old.then }
+        ensures spare { self.old.spare ≤ self.new.spare }
+    {
+        if self.count() < self.wheel.slots() / FEW_OF {
+            self.empty_each();
+        }
+        if self.count() > 0 {
+            self.clear_whole();
+        }
+    }
+
+    /// Drops the next entry that settle drops, and says whether there was one.
+    pub fn settle_next(&mut self, sketch: &PastSketch) -> bool
+        ensures limits { self.new.limits ≡ self.old.limits }
+        ensures next { DropsEntry result sketch.now.live self.old self.new }
         ensures fewer { result ≡ true → filled self.new.slots + 1 ≡ filled self.old.slots }
         ensures room { self.old.has_room ≡ true → self.new.has_room ≡ true }
+        ensures then { self.new.then ≡ self.old.then }
+        ensures spare { self.old.spare ≤ self.new.spare }
     {
         match drop_next(&mut self.lists, &self.entries, sketch) {
             Some(victim) => {
-                vacate(&mut self.index, &mut self.entries, victim);
+                vacate(&mut self.index, &mut self.entries, &mut self.log, victim);
                 self.wheel.remove(victim);
                 true
             }
@@ -368,13 +477,15 @@ impl Slots {
     }
 
     /// Brings each area within its limit, and counts each entry that is dropped.
-    pub fn settle(&mut self, sketch: &Sketch, mut evictions: u64) -> u64
+    pub fn settle(&mut self, sketch: &PastSketch, mut evictions: u64) -> u64
         ensures areas { self.new.areas ≡ (settle weight
-            (frequency_in sketch.now) self.old.limits self.old.areas).areas }
+            (frequency_in sketch.now.live) self.old.limits self.old.areas).areas }
         ensures counted { result ≡ more evictions (length (settle weight
-            (frequency_in sketch.now) self.old.limits self.old.areas).dropped) }
+            (frequency_in sketch.now.live) self.old.limits self.old.areas).dropped) }
         ensures limits { self.new.limits ≡ self.old.limits }
         ensures room { self.old.has_room ≡ true → self.new.has_room ≡ true }
+        ensures then { self.new.then ≡ self.old.then }
+        ensures spare { self.old.spare ≤ self.new.spare }
     {
         while self.settle_next(sketch) {
             evictions = evictions.saturating_add(1);
@@ -393,11 +504,13 @@ impl Slots {
         ensures sound { (limits : AreaLimits) → AreSound limits self.old.areas
             → AreSound limits self.new.areas }
         ensures room { self.old.has_room ≡ true → self.new.has_room ≡ true }
+        ensures then { self.new.then ≡ self.old.then }
+        ensures spare { self.old.spare ≤ self.new.spare }
     {
         let _seconds = moment.seconds();
         match self.wheel.advance(moment) {
             Some(due) => {
-                vacate(&mut self.index, &mut self.entries, due);
+                vacate(&mut self.index, &mut self.entries, &mut self.log, due);
                 self.lists.remove(due);
                 true
             }
@@ -412,6 +525,8 @@ impl Slots {
         ensures alive { (n : ℕ) (e : Entry) → slice_index_or self.old.slots n None ≡ Some e
             → lives moment e ≡ true → slice_index_or self.new.slots n None ≡ Some e }
         ensures room { self.old.has_room ≡ true → self.new.has_room ≡ true }
+        ensures then { self.new.then ≡ self.old.then }
+        ensures spare { self.old.spare ≤ self.new.spare }
     {
         while self.expire_next(moment) {}
     }
@@ -434,33 +549,42 @@ impl Slots {
         })
     }
 
-    /// What is to change, so that each slot of a snapshot shows what is held there. The snapshot gets
-    /// slots that it lacks, which hold nothing.
-    pub fn compare(
-        &self,
-        alloc: Global,
-        shown: &mut Vec<Option<Entry>>,
-    ) -> Result<Vec<Change>, NoMemory>
-        ensures kept { (n : ℕ) → at_slots shown.new.items n ≡ at_slots shown.old.items n }
-        ensures changes { IfOk result (λ changes. (n : ℕ)
-            → at_slots (with_changes changes.items shown.new.items) n
-            ≡ at_slots self.now.slots n) }
+    /// The entries when the page began, in their lists, over the same data.
+    pub fn opened(&self, alloc: Global) -> Result<Areas, NoMemory>
+        ensures { IfOk result (λ areas. areas_of areas ≡ self.now.then.page) }
     {
         let _ = &self.index;
-        show_more(shown, self.wheel.slots())?;
-        compare_all(alloc, &self.entries, shown)
+        let slots = copy_then(alloc, &self.entries, &self.log, self.wheel.slots())?;
+        let lists = self.lists.opened(alloc)?;
+        copy_areas(alloc, &slots, &lists)
     }
 
-    /// The lists of slots, copied in one piece.
-    pub fn copy_lists(&self, alloc: Global) -> Result<Lists, NoMemory>
-        ensures limits { IfOk result (λ lists. lists.limits ≡ self.now.limits) }
-        ensures areas { IfOk result (λ lists. areas_by (at_slots self.now.slots) lists.areas
-            ≡ self.now.areas) }
-        ensures weighed { IfOk result (λ lists. total (stray (at_slots self.now.slots)) lists.areas
-            ≡ 0) }
+    /// The next page begins with what is held now. A refusal changes nothing.
+    pub fn prepare(&mut self, alloc: Global) -> Result<(), NoMemory>
+        ensures areas { self.new.areas ≡ self.old.areas }
+        ensures limits { self.new.limits ≡ self.old.limits }
+        ensures slots { self.new.slots ≡ self.old.slots }
+        ensures page { self.new.then.page ≡ self.old.then.page }
+        ensures next { OnOk result (self.new.then.next ≡ self.new.areas) }
+        ensures unchanged_on_err { OnErr result (self.new ≡ self.old) }
+    {
+        let held = self.entries.len();
+        let room = held.saturating_add(held / 4).saturating_add(LOG_ROOM);
+        self.log.prepare(alloc, room)?;
+        self.lists.prepare();
+        Ok(())
+    }
+
+    /// Begins the page at what was prepared, and gives what slots held before its changes.
+    pub fn turn(&mut self) -> Option<Vec<Change>>
+        ensures areas { self.new.areas ≡ self.old.areas }
+        ensures limits { self.new.limits ≡ self.old.limits }
+        ensures slots { self.new.slots ≡ self.old.slots }
+        ensures page { self.new.then.page ≡ self.old.then.next }
+        ensures next { self.new.then.next ≡ self.old.then.next }
     {
         let _ = &self.index;
-        let lists = self.lists.copy(alloc)?;
-        Ok(lists)
+        self.lists.turn();
+        self.log.turn()
     }
 }

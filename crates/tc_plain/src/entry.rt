@@ -1,5 +1,5 @@
 //! Items under their keys.
-ghost use Rattle.std.specs.Prelude.{◌≡◌, ◌+◌, ◌^◌, ◌<◌, true, IfOk};
+ghost use Rattle.std.specs.Prelude.{◌≡◌, ◌+◌, ◌^◌, ◌<◌, IfOk};
 ghost use Rattle.tc_item.specs.Bounds.{longest_key, record_weight};
 ghost use Rattle.tc_plain.specs.Entries.{weight, with_item};
 ghost use Rattle.tc_plain.specs.AreaLists.{change_of};
@@ -7,9 +7,6 @@ ghost use Rattle.tc_plain.specs.AreaLists.{change_of};
 use std::alloc::Global;
 use tc_item::{Due, Item, KeptDue, Key, NoMemory, RECORD_WEIGHT};
 use tc_stats::Hit;
-
-/// The most bytes of data that are compared.
-const COMPARED: usize = 256;
 
 /// An item under its key.
 #[derive(Debug, Drop)]
@@ -25,18 +22,6 @@ impl Entry {
         ensures within { result < 2 ^ 63 + (longest_key + record_weight) }
     {
         self.key.as_bytes().len() as u64 + self.item.blob.as_slice().len() as u64 + RECORD_WEIGHT
-    }
-
-    /// Whether two are known to be the same entry. Data of more than `COMPARED` bytes is not compared.
-    pub fn is_as(&self, other: &Entry) -> bool
-        ensures { result ≡ true → self.now ≡ other.now }
-    {
-        self.item.cas == other.item.cas
-            && self.item.flags == other.item.flags
-            && self.item.due.is_as(&other.item.due)
-            && self.key == other.key
-            && self.item.blob.len() <= COMPARED
-            && self.item.blob == other.item.blob
     }
 
     /// What a look-up shows of the entry.

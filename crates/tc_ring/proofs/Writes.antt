@@ -1,8 +1,10 @@
 -- What a write to one node does to the lists of links.
-use Rattle.std.specs.Prelude.{map, slice_set, slice_index_or, replicate}
-use Rattle.std.proofs.Common.{◌≡◌, ℕ, zero, suc, ◌-◌, ◌≤◌, List, ◌∷◌, ◌++◌, length, take, refl, ◌∙◌, ap, arith}
+use Rattle.std.specs.Prelude.{if◌then◌else◌, map, slice_set, slice_index_or, replicate}
+use Rattle.std.proofs.Common.{◌≡◌, Bool, true, false, ℕ, zero, suc, ◌-◌, ◌<◌, ◌≤◌, List, ◌∷◌, ◌++◌, length, take, refl, sym, ◌∙◌, ap, arith}
 use Rattle.std.proofs.Math.Seq.{map-set_same}
-use Rattle.std.proofs.lemmas.List.{length-map, map-append, map-set, take_all}
+use Rattle.std.proofs.lemmas.List.{get_or-map, length-map, map-append, map-set, take_all}
+use Rattle.tc_past.specs.Told as past
+use Rattle.tc_past.specs.Told.{Told, told_by, lengthened}
 use Rattle.tc_ring.specs.Links.{Links, grown}
 use Rattle.tc_ring.specs.Nodes.{links}
 use Rattle.tc_ring.specs.declared.ring.Node.{Node}
@@ -19,6 +21,10 @@ map-replicate f (suc n) x = ap (λ t. f x ∷ t) (map-replicate f n x)
 pub grown_field : {A B : Type 0} (f : A → B) (xs : List A) (k : ℕ) (x : A)
     → map f (xs ++ replicate k x) ≡ map f xs ++ replicate k (f x)
 grown_field f xs k x = map-append f xs (replicate k x) ∙ ap (λ t. map f xs ++ t) (map-replicate f k x)
+
+pub same_told : {A : Type 0} (a b c d e f : A) → a ≡ b → c ≡ d → e ≡ f
+    → (let t : Told A = record { live = a; next = c; opened = e } in t) ≡ record { live = b; next = d; opened = f }
+same_told a b c d e f p q r = cc
 
 module _ {N : Type 0} where
   same_links : (a b c d : List ℕ) (e f : List N) → a ≡ b → c ≡ d → e ≡ f
@@ -39,6 +45,14 @@ module _ {N : Type 0} where
       same_links _ _ _ _ _ _ (kept_field (λ n. n.next) ns at n x w refl) (map-set (λ n. n.prev) ns at x)
       (kept_field (λ n. n.note) ns at n x w refl)
 
+  pub node_written : (ns : List (Node N)) (at : ℕ) (x : Node N) → links (slice_set ns at x) ≡ record {
+    next = slice_set (links ns).next at x.next;
+    prev = slice_set (links ns).prev at x.prev;
+    notes = slice_set (links ns).notes at x.note;
+  }
+  node_written ns at x =
+      same_links _ _ _ _ _ _ (map-set (λ n. n.next) ns at x) (map-set (λ n. n.prev) ns at x) (map-set (λ n. n.note) ns at x)
+
   pub note_written : (ns : List (Node N)) (at : ℕ) (note : N) (n : Node N) → n ≡ slice_index_or ns at n
       → links (slice_set ns at (record n { note = note })) ≡ record (links ns) { notes = slice_set (links ns).notes at note }
   note_written ns at note n w =
@@ -57,3 +71,31 @@ module _ {N : Type 0} where
       ap links (is ∙ ap (λ t. t ++ replicate (all - n) x) (take_all all ns h) ∙ ap (λ j. ns ++ replicate j x) more)
       ∙ same_links _ _ _ _ _ _ (grown_field (λ n. n.next) ns k x) (grown_field (λ n. n.prev) ns k x)
       (grown_field (λ n. n.note) ns k x)
+
+  -- nodes that come, now and in the past
+  links-lengthened : (n : ℕ) (free : N) (ns : List (Node N))
+      → links (lengthened n (record { next = 0; prev = 0; note = free }) ns) ≡ grown n free (links ns)
+  links-lengthened n free ns =
+      let x : Node N = record { next = 0; prev = 0; note = free } in
+      let k : ℕ = n - length (links ns).next in
+      let more : n - length ns ≡ k = omega (arith, length-map ns (λ (n : Node N). n.next)) in
+      ap (λ j. links (ns ++ replicate j x)) more
+      ∙ same_links _ _ _ _ _ _ (grown_field (λ n. n.next) ns k x) (grown_field (λ n. n.prev) ns k x)
+      (grown_field (λ n. n.note) ns k x)
+
+  pub told-grown : (n : ℕ) (free : N) (t : Told (List (Node N)))
+      → told_by links (past.grown n (record { next = 0; prev = 0; note = free }) t)
+      ≡ told_by (grown n free) (told_by links t)
+  told-grown n free t =
+      same_told _ _ _ _ _ _ (links-lengthened n free t.live) (links-lengthened n free t.next) (links-lengthened n free t.opened)
+
+  pub told_grown_if : (b : Bool) (n : ℕ) (free : N) (t : Told (List (Node N)))
+      → told_by links (if b then past.grown n (record { next = 0; prev = 0; note = free }) t else t)
+      ≡ (if b then told_by (grown n free) (told_by links t) else told_by links t)
+  told_grown_if true n free t = told-grown n free t
+  told_grown_if false n free t = refl
+
+-- a field of what is read at a place
+pub field_read : {A B : Type 0} (f : A → B) (xs : List A) (at : ℕ) (x : A) (d : B) → at < length xs
+    → x ≡ slice_index_or xs at x → f x ≡ slice_index_or (map f xs) at d
+field_read f xs at x d small is = ap f is ∙ sym (get_or-map f xs at x d small)

@@ -3,8 +3,10 @@ pub mod Gone
 pub mod Holding
 pub mod Lasts
 pub mod Members
+pub mod Moved
 pub mod Notes
 pub mod Outranked
+pub mod Pages
 pub mod Put
 pub mod Read
 pub mod Reserved

@@ -14,6 +14,7 @@
 ghost use Rattle.std.specs.Prelude.{◌≡◌, ℕ, reverse, ◌+◌, ◌-◌, ◌<◌, ◌≤◌, ◌^◌, true, false, length, max, slice_index, is_ok, IfOk};
 ghost use Rattle.std.specs.Prelude.{map, OnErr, sum_by, if◌then◌else◌};
 ghost use Rattle.tc_model.specs.Areas.{total};
+ghost use Rattle.tc_past.specs.Told.{all_told, live_with, prepared, turned, told_by};
 ghost use Rattle.tc_slru.specs.Slots.{placed, weigh, holds, without_slot, taken_out, with_room};
 ghost use Rattle.tc_slru.specs.Slots.{slot_of};
 ghost use Rattle.tc_slru.specs.InAreas.{list_in, put_in, area_of, IsLast, IsSize, no_areas, mark_of, end_of};
@@ -21,10 +22,12 @@ ghost use Rattle.tc_slru.specs.Victims.{Counts, left_over};
 
 use crate::area::{Area, Sizes};
 use crate::nodes::{MARKS, Nodes, SlotNote};
+use crate::opened_areas::OpenedAreas;
 use std::alloc::Global;
 use std::marker::Model;
 use tc_item::{NoMemory, Slot};
-use tc_ring::Ring;
+use tc_past::PastValue;
+use tc_ring::PastRing;
 
 /// A slot of a list, and what it weighs.
 #[derive(Clone, Copy)]
@@ -34,7 +37,7 @@ pub struct Held {
 }
 
 /// The node before a list.
-fn mark_of(area: Area) -> usize
+pub(crate) fn mark_of(area: Area) -> usize
     ensures { result ≡ mark_of area }
 {
     match area {
@@ -59,13 +62,14 @@ fn end_of(area: Area) -> usize
 #[derive(Drop)]
 pub struct LinkedAreas {
     nodes: Nodes,
-    sizes: Sizes,
+    sizes: PastValue<Sizes>,
 }
 
 impl Model for LinkedAreas {
+    ghost use Rattle.tc_past.specs.Told.{Told};
     ghost use Rattle.tc_slru.specs.Slots.{Shown};
 
-    ghost Value = { Shown };
+    ghost Value = { Told Shown };
 
     ghost use Rattle.tc_slru.specs.Linked.{shown, IsLinked};
 
@@ -77,53 +81,66 @@ impl Model for LinkedAreas {
 impl LinkedAreas {
     /// Empty lists, with room for no slot.
     pub fn new(alloc: Global) -> Result<LinkedAreas, NoMemory>
-        ensures { IfOk result (λ l. l ≡ record { slots = 0; areas = no_areas }) }
+        ensures { IfOk result (λ l. l ≡ all_told (record { slots = 0; areas = no_areas })) }
     {
-        let nodes = Ring::new(alloc, SlotNote::NONE)?;
+        let nodes = PastRing::new(alloc, SlotNote::NONE)?;
         Ok(LinkedAreas {
             nodes,
-            sizes: Sizes::NONE,
+            sizes: PastValue::new(Sizes::NONE),
         })
     }
 
-    /// Equal lists, of their own.
-    pub fn copy(&self, alloc: Global) -> Result<LinkedAreas, NoMemory>
-        ensures { IfOk result (λ l. l ≡ self.now) }
+    /// The lists as the page began with them, of their own.
+    pub fn opened(&self, alloc: Global) -> Result<OpenedAreas, NoMemory>
+        ensures { IfOk result (λ o. o ≡ self.now.opened) }
     {
-        let nodes = self.nodes.copy(alloc)?;
-        Ok(LinkedAreas {
-            nodes,
-            sizes: self.sizes,
-        })
+        let nodes = self.nodes.opened(alloc)?;
+        Ok(OpenedAreas::of(nodes, self.sizes.opened()))
+    }
+
+    /// Fixes what the next page begins with.
+    pub fn prepare(&mut self)
+        ensures { self.new ≡ prepared self.old }
+    {
+        self.nodes.prepare();
+        self.sizes.prepare();
+    }
+
+    /// The next page begins.
+    pub fn turn(&mut self)
+        ensures { self.new ≡ turned self.old }
+    {
+        self.nodes.turn();
+        self.sizes.turn();
     }
 
     /// Room for all slots below this. A refusal changes nothing.
     pub fn reserve(&mut self, slots: usize) -> Result<(), NoMemory>
         ensures reserved { self.new
-            ≡ (if is_ok result then with_room slots self.old else self.old) }
-        ensures refused { OnErr result (self.old.slots < slots) }
+            ≡ (if is_ok result then told_by (with_room slots) self.old else self.old) }
+        ensures refused { OnErr result (self.old.live.slots < slots) }
     {
         self.nodes.reserve(slots, SlotNote::NONE)
     }
 
     /// Takes all slots out of their lists. The room stays.
     pub fn clear(&mut self)
-        ensures { self.new ≡ record self.old { areas = no_areas } }
+        ensures { self.new ≡ live_with (record self.old.live { areas = no_areas }) self.old }
     {
         self.nodes.clear(SlotNote::NONE);
-        self.sizes = Sizes::NONE;
+        self.sizes.set(Sizes::NONE);
     }
 
     /// How many slots have room.
     pub fn slots(&self) -> usize
-        ensures { result ≡ self.now.slots }
+        ensures { result ≡ self.now.live.slots }
     {
         self.nodes.slots()
     }
 
     /// Whether the slot stands in a list.
     pub fn holds(&self, slot: Slot) -> bool
-        ensures { result ≡ holds slot.0 self.now.areas }
+        ensures { result ≡ holds slot.0 self.now.live.areas }
     {
         if slot.0 >= self.nodes.slots() {
             return false;
@@ -134,36 +151,37 @@ impl LinkedAreas {
 
     /// How many each list holds and what they weigh.
     pub fn sizes(&self) -> Sizes
-        ensures window { IsSize result.window self.now.areas.window }
-        ensures probation { IsSize result.probation self.now.areas.probation }
-        ensures protected { IsSize result.protected self.now.areas.protected }
+        ensures window { IsSize result.window self.now.live.areas.window }
+        ensures probation { IsSize result.probation self.now.live.areas.probation }
+        ensures protected { IsSize result.protected self.now.live.areas.protected }
     {
-        self.sizes
+        self.sizes.get()
     }
 
     /// Puts a slot at the front of a list.
     pub fn put(&mut self, area: Area, slot: Slot, weight: u32)
-        requires reserved { slot.0 < self.old.slots }
-        requires free { holds slot.0 self.old.areas ≡ false }
-        requires fits { total weigh self.old.areas + weight < 2 ^ 64 }
-        ensures { self.new ≡ put_in area (placed slot.0 weight) self.old }
+        requires reserved { slot.0 < self.old.live.slots }
+        requires free { holds slot.0 self.old.live.areas ≡ false }
+        requires fits { total weigh self.old.live.areas + weight < 2 ^ 64 }
+        ensures { self.new ≡ live_with (put_in area (placed slot.0 weight) self.old.live) self.old }
     {
         let at = self.nodes.place(slot);
         let note = SlotNote {
             weight,
             area: Some(area),
         };
-        self.nodes.note(at, note);
-        self.nodes.link_behind(mark_of(area), at);
-        self.sizes.enter(area, weight as u64);
+        self.nodes.link_behind(mark_of(area), at, note);
+        let mut sizes = self.sizes.get();
+        sizes.enter(area, weight as u64);
+        self.sizes.set(sizes);
     }
 
     /// Takes a slot out of its list, which it gives.
     pub fn take(&mut self, slot: Slot) -> Area
-        requires { holds slot.0 self.old.areas ≡ true }
-        ensures taken { self.new ≡ taken_out slot.0 self.old }
-        ensures from { result ≡ area_of slot.0 self.old.areas }
-        ensures reserved { slot.0 < self.old.slots }
+        requires { holds slot.0 self.old.live.areas ≡ true }
+        ensures taken { self.new ≡ live_with (taken_out slot.0 self.old.live) self.old }
+        ensures from { result ≡ area_of slot.0 self.old.live.areas }
+        ensures reserved { slot.0 < self.old.live.slots }
     {
         let at = self.nodes.place(slot);
         let note = self.nodes.node(at).note;
@@ -174,26 +192,49 @@ impl LinkedAreas {
         };
         self.nodes.unlink(at);
         self.nodes.note(at, gone);
-        self.sizes.leave(area, note.weight as u64);
+        let mut sizes = self.sizes.get();
+        sizes.leave(area, note.weight as u64);
+        self.sizes.set(sizes);
         area
     }
 
-    /// Moves a slot to the front of a list.
-    pub fn move_to(&mut self, area: Area, held: Held)
-        requires held { holds held.slot.0 self.old.areas ≡ true }
-        requires fits { total weigh (without_slot held.slot.0 self.old.areas) + held.weight
-            < 2 ^ 64 }
-        ensures { self.new
-            ≡ put_in area (placed held.slot.0 held.weight) (taken_out held.slot.0 self.old) }
+    /// The list that a held slot stands in.
+    pub fn area_of(&self, slot: Slot) -> Area
+        requires { holds slot.0 self.now.live.areas ≡ true }
+        ensures { result ≡ area_of slot.0 self.now.live.areas }
     {
-        self.take(held.slot);
-        self.put(area, held.slot, held.weight);
+        let at = self.nodes.place(slot);
+        self.nodes.node(at).note.area.unwrap()
+    }
+
+    /// Moves a slot to the front of a list, maybe its own.
+    pub fn move_to(&mut self, area: Area, held: Held)
+        requires held { holds held.slot.0 self.old.live.areas ≡ true }
+        requires fits { total weigh (without_slot held.slot.0 self.old.live.areas) + held.weight
+            < 2 ^ 64 }
+        ensures { self.new ≡ live_with (put_in area (placed held.slot.0 held.weight)
+            (taken_out held.slot.0 self.old.live)) self.old }
+    {
+        let at = self.nodes.place(held.slot);
+        let node = self.nodes.node(at);
+        let from = node.note.area.unwrap();
+        let mark = mark_of(area);
+        let note = SlotNote {
+            weight: held.weight,
+            area: Some(area),
+        };
+        self.nodes.unlink(at);
+        self.nodes.link_behind(mark, at, note);
+        let mut sizes = self.sizes.get();
+        sizes.leave(from, node.note.weight as u64);
+        sizes.enter(area, held.weight as u64);
+        self.sizes.set(sizes);
     }
 
     /// The last of a list.
     pub fn last(&self, area: Area) -> Held
-        requires { 0 < length (list_in area self.now.areas) }
-        ensures { IsLast (placed result.slot.0 result.weight) area self.now.areas }
+        requires { 0 < length (list_in area self.now.live.areas) }
+        ensures { IsLast (placed result.slot.0 result.weight) area self.now.live.areas }
     {
         let at = self.nodes.node(end_of(area)).prev as usize;
         let node = self.nodes.node(at);
@@ -210,10 +251,10 @@ impl LinkedAreas {
         F: Fn(Slot) -> u8,
         requires { F.IsAlwaysCallable freq.now }
         ensures { (seen : ℕ → ℕ) → Counts (F.post freq.now) seen
-            → result ≡ left_over seen level need (reverse (list_in area self.now.areas)) }
+            → result ≡ left_over seen level need (reverse (list_in area self.now.live.areas)) }
     {
         let mut at = end_of(area);
-        for _victim in 0..self.sizes.of(area).count {
+        for _victim in 0..self.sizes.get().of(area).count {
             if need == 0 {
                 return Some(0);
             }
@@ -229,9 +270,10 @@ impl LinkedAreas {
 
     /// The slots of a list, front to back.
     pub fn slots_in(&self, alloc: Global, area: Area) -> Result<Vec<Slot>, NoMemory>
-        ensures { IfOk result (λ slots. slots.items ≡ map slot_of (list_in area self.now.areas)) }
+        ensures { IfOk result (λ slots. slots.items
+            ≡ map slot_of (list_in area self.now.live.areas)) }
     {
-        let count = self.sizes.of(area).count;
+        let count = self.sizes.get().of(area).count;
         let mut slots = Vec::with_capacity(alloc, count)?;
         let mut at = mark_of(area);
         for _place in 0..count {

@@ -8,14 +8,14 @@ use std::alloc::Global;
 use std::process::Abort;
 use std::test::Fail;
 use tc_item::NoMemory;
-use tc_slru::{Lists, Slot};
+use tc_slru::{Area, Lists, Slot};
 
 /// Far below 2^64.
 const FEW: u64 = 1 << 40;
 
 /// Whether one more item keeps the sum of all weights far below 2^64.
 fn has_room(lists: &Lists, weight: u64) -> bool
-    ensures { IsTrue result → total weigh lists.now.areas + weight < 2 ^ 64 }
+    ensures { IsTrue result → total weigh lists.now.live.areas + weight < 2 ^ 64 }
 {
     let held = lists.weights();
     held.window < FEW && held.probation < FEW && held.protected < FEW && weight < FEW
@@ -379,5 +379,43 @@ fn a_refused_reserve_changes_nothing(rt: HostRuntime) -> Result<(), Fail> {
     let mut lists = Lists::new(rt.alloc(), 10, 100, 80)?;
     lists.reserve(2)?;
     expect_room(&rt, &mut lists);
+    Ok(())
+}
+
+/// The slots of the window, by their numbers.
+fn slots_of(slots: &[Slot], want: &[usize]) -> bool {
+    slots.len() == want.len() && slots.iter().zip(want).all(|(slot, n)| slot.0 == *n)
+}
+
+/// What the window held when the page began.
+fn opened_window(
+    rt: &impl Abort,
+    alloc: Global,
+    lists: &Lists,
+    want: &[usize],
+) -> Result<(), NoMemory> {
+    let window = lists.opened(alloc)?.slots_in(alloc, Area::Window)?;
+    assert!(rt; slots_of(&window, want));
+    Ok(())
+}
+
+#[test]
+fn a_page_shows_what_it_began_with_until_the_next_turns(rt: HostRuntime) -> Result<(), Fail> {
+    let mut lists = Lists::new(rt.alloc(), 100, 100, 80)?;
+    lists.reserve(3)?;
+    push(&rt, &mut lists, 0, 20);
+    opened_window(&rt, rt.alloc(), &lists, &[])?;
+    lists.prepare();
+    push(&rt, &mut lists, 1, 20);
+    opened_window(&rt, rt.alloc(), &lists, &[])?;
+    lists.turn();
+    opened_window(&rt, rt.alloc(), &lists, &[0])?;
+    remove(&rt, &mut lists, 0);
+    lists.prepare();
+    push(&rt, &mut lists, 2, 20);
+    opened_window(&rt, rt.alloc(), &lists, &[0])?;
+    lists.prepare();
+    lists.turn();
+    opened_window(&rt, rt.alloc(), &lists, &[2, 1])?;
     Ok(())
 }
