@@ -4,5 +4,5 @@ pub mod KeptBooks
 pub mod ClosedHalls
 pub mod NotePlaces
 pub mod EmptyCaches
-pub mod Replayed
+pub mod Audited
 pub mod FreshHits

@@ -1,5 +1,5 @@
 -- Which books are legal, and what their calls do. Source: this project's own.
-use Rattle.std.specs.Prelude.{◌≡◌, ◌≢◌, ◌⊎◌, cond, leb, ℕ, ◌+◌, ◌<◌, ◌≤◌, max, List, [], ◌∷◌, ◌++◌, length, map, slice_index}
+use Rattle.std.specs.Prelude.{◌≡◌, cond, leb, ℕ, ◌+◌, ◌<◌, ◌≤◌, max, List, [], ◌∷◌, ◌++◌, length, map, slice_index}
 use Rattle.std.specs.Prelude.{slice_set, replicate}
 use Rattle.tc_model.specs.Caching.{Event, Replays, state_after}
 use Rattle.tc_grammar.specs.declared.command.Command.{Command}
@@ -160,15 +160,3 @@ fresh_book k seats = record {
   number = 0;
   counts = replicate seats 0;
 }
-
--- the commands of entries, each at its moment, give the outcomes that are kept
-abbrev pub Gives : UserCache → List Entry → Type 0
-Gives k [] = Unit {0}
-Gives k (e ∷ es) = ((act k e.moment e.command).0 ≡ e.outcome) × Gives (act k e.moment e.command).1 es
-
--- the first entry whose outcome differs has this number
-abbrev pub IsFirstOdd : UserCache → List Entry → ℕ → Type 0
-IsFirstOdd k [] n = ⊥
-IsFirstOdd k (e ∷ es) n =
-    (((act k e.moment e.command).0 ≢ e.outcome) × (e.number ≡ n))
-    ⊎ (((act k e.moment e.command).0 ≡ e.outcome) × IsFirstOdd (act k e.moment e.command).1 es n)

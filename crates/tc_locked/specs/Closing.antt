@@ -7,6 +7,7 @@ use Rattle.tc_locked.specs.Views.{face, of_user, by_seat}
 use Rattle.tc_model.specs.Caching.{Replays}
 use Rattle.tc_plain.specs.Laws.{user_caching}
 use Rattle.tc_plain.specs.Freshness.{IsCell, hits_in}
+use Rattle.tc_locked.specs.declared.audit.Audit.{Audit}
 use Rattle.tc_locked.specs.declared.entry.Entry.{Entry}
 use Rattle.tc_locked.specs.declared.entry.Slip.{Slip}
 use Rattle.tc_locked.specs.Books.{BookState, events_of}
@@ -138,6 +139,10 @@ AllThere terms books = (u : ℕ) → IsUser (length terms.begins) u → HasUser 
 abbrev pub book_of : ℕ → List KeptState → Option BookState
 book_of user [] = None
 book_of user (k ∷ ks) = cond (k.user == user) (Some k.book) (book_of user ks)
+
+-- the audit of a page each of whose calls comes to its outcome again
+abbrev pub all_agree : BookState → Audit
+all_agree b = record { compared = length b.entries; difference = None }
 
 -- from what the page began with, the commands of its entries give the outcomes that are kept
 abbrev pub HasLegalPage : BookState → Type 0

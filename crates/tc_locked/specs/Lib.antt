@@ -6,3 +6,4 @@ pub mod Calls
 pub mod Closing
 pub mod Moments
 pub mod Outcomes
+pub mod Audits

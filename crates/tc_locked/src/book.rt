@@ -4,10 +4,9 @@ ghost use Rattle.std.specs.Prelude.{slice_index, slice_set, take, ◌++◌, ◌�
 ghost use Rattle.tc_locked.specs.declared.entry.Entry.{Entry};
 ghost use Rattle.tc_fresh.specs.Beginning.{IsEmptyCache};
 ghost use Rattle.tc_plain.specs.Doing.{act};
-ghost use Rattle.tc_plain.specs.Showing.{shown_in, next_in};
 ghost use Rattle.tc_locked.specs.Books.{entry_of, after_call, slip_of, after_maintain, page_turned, turn_if, paged, fresh_book};
 ghost use Rattle.tc_locked.specs.Closing.{HasLegalPage};
-ghost use Rattle.tc_locked.specs.declared.call_fault.CallFault.TheVariants.{Worn, NoUser};
+ghost use Rattle.tc_locked.specs.declared.call_fault.CallFault.TheVariants.{Worn, NoUser, OtherBook};
 
 use crate::call_fault::CallFault;
 use crate::called::Called;
@@ -18,13 +17,13 @@ use std::marker::Model;
 use std::mem;
 use tc_grammar::Command;
 use tc_item::{Moment, NoMemory};
-use tc_plain::{Cache, LeftOver, Plain, Snapshot};
+use tc_plain::{Cache, LeftOver, Plain};
 use tc_stats::Outcome;
 
-/// A cache and the calls that it did since its page began, seen as its state. It is always legal.
+/// A cache, which knows what it stood for when its page began, and the calls that it did since, seen as
+/// its state. It is always legal.
 #[derive(Drop)]
 pub struct Book<C: Cache> {
-    opening: Snapshot,
     /// The entries of the page, and behind them such of the page before it as are not replaced yet.
     entries: Vec<Entry>,
     /// How many entries the page has.
@@ -38,13 +37,12 @@ pub struct Book<C: Cache> {
 
 impl<C: Cache> Model for Book<C> {
     ghost use Rattle.std.specs.Prelude.{◌≤◌, length, take};
-    ghost use Rattle.tc_plain.specs.Showing.{shown_in};
     ghost use Rattle.tc_locked.specs.Books.{BookState, IsBook};
 
     ghost Value = { BookState };
 
     ghost view = { λ b. record {
-      opening = shown_in b.opening;
+      opening = C.opened b.cache;
       entries = take b.used b.entries.items;
       settled = C.settled b.cache;
       moment = b.moment;
@@ -54,7 +52,7 @@ impl<C: Cache> Model for Book<C> {
     } };
 
     ghost invariant = { λ b. IsBook (record {
-      opening = shown_in b.opening;
+      opening = C.opened b.cache;
       entries = take b.used b.entries.items;
       settled = C.settled b.cache;
       moment = b.moment;
@@ -186,12 +184,14 @@ fn act_on_page<C: Cache>(
     ensures kept { IfOk result (λ r. r.1 ≡ (act (C.settled cache.old) moment command.now).0) }
     ensures state { OnOk result (C.settled cache.new
         ≡ (act (C.settled cache.old) moment command.now).1) }
+    ensures opening { C.opened cache.new ≡ C.opened cache.old }
     ensures entries { entries.new.items ≡ entries.old.items }
     ensures room { OnOk result (length entries.new.items ≤ used
         → vec_len entries.new < vec_capacity entries.new) }
     ensures number { OnOk result (number + 1 < 2 ^ 64) }
     ensures worn { IfErr result (λ fault. (fault ≡ Worn → number ≡ 2 ^ 64 - 1)
         × (fault ≢ NoUser)) }
+    ensures own { IfErr result (λ fault. fault ≢ OtherBook) }
     ensures unchanged_on_err { OnErr result (C.settled cache.new ≡ C.settled cache.old) }
 {
     if number == u64::MAX {
@@ -206,7 +206,6 @@ fn act_on_page<C: Cache>(
 fn act_on_next<C: Cache>(
     alloc: Global,
     cache: &mut C,
-    opening: &mut Snapshot,
     left: &mut Vec<LeftOver>,
     number: u64,
     moment: Moment,
@@ -216,12 +215,13 @@ fn act_on_next<C: Cache>(
     ensures kept { IfOk result (λ r. r.1 ≡ (act (C.settled cache.old) moment command.now).0) }
     ensures state { OnOk result (C.settled cache.new
         ≡ (act (C.settled cache.old) moment command.now).1) }
-    ensures shown { shown_in opening.new ≡ shown_in opening.old }
-    ensures next { OnOk result (next_in opening.new ≡ C.settled cache.old) }
+    ensures opening { C.opened cache.new ≡ C.opened cache.old }
+    ensures next { OnOk result (C.next cache.new ≡ C.settled cache.old) }
     ensures room { OnOk result (vec_len left.new < vec_capacity left.new) }
     ensures number { OnOk result (number + 1 < 2 ^ 64) }
     ensures worn { IfErr result (λ fault. (fault ≡ Worn → number ≡ 2 ^ 64 - 1)
         × (fault ≢ NoUser)) }
+    ensures own { IfErr result (λ fault. fault ≢ OtherBook) }
     ensures unchanged_on_err { OnErr result (C.settled cache.new ≡ C.settled cache.old) }
 {
     if number == u64::MAX {
@@ -230,7 +230,7 @@ fn act_on_next<C: Cache>(
     let Ok(()) = left.reserve(1) else {
         return Err(CallFault::NoMemory);
     };
-    cache.prepare(alloc, opening)?;
+    cache.prepare(alloc)?;
     Ok(cache.act(alloc, moment, command)?)
 }
 
@@ -241,9 +241,9 @@ impl<C: Cache> Book<C> {
         ensures { IfOk result (λ book. book ≡ fresh_book (C.settled cache) seats) }
     {
         let counts = vec![in alloc; 0u64; seats]?;
-        let opening = cache.snapshot(alloc)?;
+        cache.prepare(alloc)?;
+        drop(cache.turn());
         Ok(Book {
-            opening,
             entries: Vec::new(alloc),
             used: 0,
             cache,
@@ -273,6 +273,7 @@ impl<C: Cache> Book<C> {
             ≡ after_call self.old (entry_of self.old seat_no now conn command.now)) }
         ensures worn { IfErr result (λ fault. (fault ≡ Worn → self.old.number ≡ 2 ^ 64 - 1)
             × (fault ≢ NoUser)) }
+        ensures own { IfErr result (λ fault. fault ≢ OtherBook) }
         ensures unchanged_on_err { OnErr result (self.new ≡ self.old) }
     {
         let moment = self.moment.later(now);
@@ -319,8 +320,8 @@ impl<C: Cache> Book<C> {
         if self.used == 0 {
             return Ok(());
         }
-        self.cache.prepare(alloc, &mut self.opening)?;
-        drop(self.opening.turn());
+        self.cache.prepare(alloc)?;
+        drop(self.cache.turn());
         self.used = 0;
         self.turns += 1;
         Ok(())
@@ -347,6 +348,7 @@ impl<C: Cache> Book<C> {
             (entry_of self.old seat_no now conn command.now)) }
         ensures worn { IfErr result (λ fault. (fault ≡ Worn → self.old.number ≡ 2 ^ 64 - 1)
             × (fault ≢ NoUser)) }
+        ensures own { IfErr result (λ fault. fault ≢ OtherBook) }
         ensures unchanged_on_err { OnErr result (self.new ≡ self.old) }
     {
         let moment = self.moment.later(now);
@@ -354,13 +356,12 @@ impl<C: Cache> Book<C> {
         let outcomes = act_on_next(
             alloc,
             &mut self.cache,
-            &mut self.opening,
             &mut left,
             self.number,
             moment,
             command,
         )?;
-        left.push_reserved(self.opening.turn());
+        left.push_reserved(self.cache.turn());
         self.turns += 1;
         let slip = enter(
             &mut self.entries,
@@ -400,6 +401,7 @@ impl<C: Cache> Book<C> {
             (entry_of self.old seat_no now conn command.now)) }
         ensures worn { IfErr result (λ fault. (fault ≡ Worn → self.old.number ≡ 2 ^ 64 - 1)
             × (fault ≢ NoUser)) }
+        ensures own { IfErr result (λ fault. fault ≢ OtherBook) }
         ensures unchanged_on_err { OnErr result (self.new ≡ self.old) }
     {
         if self.used < journal {
@@ -453,7 +455,7 @@ impl<C: Cache> Book<C> {
         ensures opening { IfOk result (λ plain. plain ≡ self.now.opening) }
         ensures legal { HasLegalPage self.now }
     {
-        self.opening.copy(alloc)
+        self.cache.opening(alloc)
     }
 
     /// The entries of the page, in order.

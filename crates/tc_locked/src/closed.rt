@@ -2,9 +2,10 @@
 ghost use Rattle.std.specs.Prelude.{◌≡◌, ◌<◌, length, IfOk, IfSome, IfNone, option_map, option_copied};
 ghost use Rattle.tc_locked.specs.Calls.{IsUser};
 ghost use Rattle.tc_locked.specs.Closing.{IsBookOf, AllKept, AllTied, IsCountOf, HasNote, IsNoteOf, OnPage, TurnedPage, book_of};
-ghost use Rattle.tc_locked.specs.Closing.{HasLegalPage};
+ghost use Rattle.tc_locked.specs.Closing.{HasLegalPage, all_agree};
 ghost use Rattle.tc_locked.specs.declared.view.Note.{Note};
 
+use crate::audit::Audit;
 use crate::closing::Shut;
 use crate::entry::Entry;
 use crate::hall::Hall;
@@ -123,6 +124,27 @@ impl<C: Cache, N: Naming> Closed<C, N> {
         match self.find(user) {
             Some(shut) => Some(shut.page()),
             None => None,
+        }
+    }
+
+    /// Does the calls of a user's last page again, from what the page began with, on the definition's
+    /// own cache, and compares what each comes to with what was answered; `None` exactly where there is
+    /// no such user, and an error where memory for it is refused. It needs the memory of two caches of
+    /// the user's, and the time of the page's calls on lists.
+    ///
+    /// That each comes to what was answered is proved of every hall (`audited`). So a difference is a
+    /// fault of what no proof is about: of the processor, the memory or the compiler.
+    pub fn audit(&self, alloc: Global, user: UserNo) -> Result<Option<Audit>, NoMemory>
+        ensures audited { IfOk result (λ audit. audit
+            ≡ option_map all_agree (book_of user self.now.books)) }
+        ensures known { IfOk result (λ audit. IfSome audit
+            (λ _. IsUser (length N.terms.begins) user)) }
+        ensures unknown { IfOk result (λ audit. IfNone audit
+            (IsUser (length N.terms.begins) user → ⊥)) }
+    {
+        match self.find(user) {
+            Some(shut) => Ok(Some(shut.audit(alloc)?)),
+            None => Ok(None),
         }
     }
 }

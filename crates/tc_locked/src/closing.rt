@@ -5,8 +5,9 @@ ghost use Rattle.tc_locked.specs.Views.{both_of, seat_view, book_view};
 ghost use Rattle.tc_locked.specs.Rule.{Tied, Apart};
 ghost use Rattle.tc_locked.specs.KeptBooks.{IsKept};
 ghost use Rattle.tc_locked.specs.declared.entry.Entry.{Entry};
-ghost use Rattle.tc_locked.specs.Closing.{seat_face, add_seats, shut_of, TookBooks, HasLegalPage};
+ghost use Rattle.tc_locked.specs.Closing.{seat_face, add_seats, shut_of, TookBooks, HasLegalPage, all_agree};
 
+use crate::audit::{Audit, audit_page};
 use crate::book::Book;
 use crate::entry::Entry;
 use crate::kept::Kept;
@@ -79,6 +80,14 @@ impl<C: Cache> Shut<C> {
         ensures legal { HasLegalPage self.now.book }
     {
         self.book.page()
+    }
+
+    /// What is found when the page's calls are done again.
+    pub fn audit(&self, alloc: Global) -> Result<Audit, NoMemory>
+        ensures { IfOk result (λ audit. audit ≡ all_agree self.now.book) }
+    {
+        let opening = self.book.opening(alloc)?;
+        audit_page(alloc, opening, self.book.page())
     }
 }
 

@@ -97,7 +97,7 @@ impl<C: Cache, N: Naming> Hall<C, N> {
         if kept.user() != number {
             // A lock doesn't know which place it has. No hall is made so.
             drop(copy);
-            return Err(CallFault::Worn);
+            return Err(CallFault::OtherBook);
         }
         let Called { slip, left } = kept.call(
             alloc,

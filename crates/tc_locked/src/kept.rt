@@ -3,7 +3,7 @@ ghost use Rattle.std.specs.Prelude.{◌≡◌, ◌≢◌, ◌-◌, ◌^◌, ◌<
 ghost use Rattle.tc_locked.specs.Views.{of_user};
 ghost use Rattle.tc_locked.specs.Books.{entry_of, slip_of, paged, after_maintain};
 ghost use Rattle.tc_locked.specs.KeptBooks.{kept_after, seat_after};
-ghost use Rattle.tc_locked.specs.declared.call_fault.CallFault.TheVariants.{Worn, NoUser};
+ghost use Rattle.tc_locked.specs.declared.call_fault.CallFault.TheVariants.{Worn, NoUser, OtherBook};
 
 use crate::book::Book;
 use crate::call_fault::CallFault;
@@ -71,6 +71,7 @@ impl<C: Cache, N: Naming> Kept<C, N> {
             ≡ length (of_user self.old.user seat.new.notes)) }
         ensures worn { IfErr result (λ fault. (fault ≡ Worn → self.old.book.number ≡ 2 ^ 64 - 1)
             × (fault ≢ NoUser)) }
+        ensures own { IfErr result (λ fault. fault ≢ OtherBook) }
         ensures unchanged_on_err { OnErr result ((self.new ≡ self.old) × (seat.new ≡ seat.old)) }
     {
         let called = self

@@ -7,6 +7,9 @@
 //! has a `Kept` for each user and gives out `Seat`s; a seat shows the entries that it wrote
 //! (`specs/Calls.antt`). `Hall::close` gives the books and the seats, and says that each seat's entries
 //! in a book are what the seat wrote there (`specs/Closing.antt`).
+//! `Closed::audit` does the calls of a user's last page again on the plain cache, from what the page
+//! began with, and tells the first that comes to another outcome; that none does is proved
+//! (`specs/Audits.antt`).
 //!
 //! The tie between seats and books is one history in the rule of the hall's table (`specs/Rule.antt`),
 //! of which each seat of the table has a part (`specs/Views.antt`). A call joins the caller's seat and
@@ -21,6 +24,7 @@
 //! `Clock::advance` raises the clock is not said.
 #![tactic(auto)]
 
+mod audit;
 mod book;
 mod call_fault;
 mod called;
@@ -36,10 +40,10 @@ mod noting;
 mod old_entries;
 mod opening;
 mod receipt;
-mod replay;
 mod seat;
 pub mod view;
 
+pub use audit::{Audit, Difference, audit_page};
 pub use book::Book;
 pub use call_fault::CallFault;
 pub use called::Called;
@@ -51,5 +55,4 @@ pub use kept::Kept;
 pub use naming::Naming;
 pub use opening::Opened;
 pub use receipt::Receipt;
-pub use replay::replays;
 pub use seat::Seat;
