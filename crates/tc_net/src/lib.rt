@@ -7,12 +7,15 @@
 //! thread and a poll of its own; it hands connections over by channels, and wakes the worker. By the
 //! same channels workers pass connections on to the worker of their user.
 //!
-//! `serve` goes over any cache. A `Beginning` holds what `Hall::new` asks of its caller.
+//! `serve` goes over any cache. A `Beginning` holds what `Hall::new` asks of its caller. An `Audience` is
+//! told where the server listens, and what is found where the hall is audited at the end.
 //!
 //! No clause says what a socket, a poll or a channel does, that a thread gets on, or that memory
 //! suffices.
 #![tactic(auto)]
 
+mod audience;
+mod auditing;
 mod beginning;
 mod board;
 mod clocking;
@@ -23,5 +26,7 @@ mod queue;
 mod serving;
 mod socket;
 
+pub use audience::Audience;
+pub use auditing::Found;
 pub use beginning::Beginning;
-pub use serving::{Affinity, Unserved, serve};
+pub use serving::{Affinity, AtEnd, Unserved, serve};

@@ -59,6 +59,11 @@ impl Listening {
         })
     }
 
+    /// Where it listens; the port is the one that the system gave where port 0 was asked for.
+    pub(crate) fn address(&self) -> io::Result<SocketAddr> {
+        self.listener.local_addr()
+    }
+
     /// Whether it is to end.
     fn is_done(&self) -> bool {
         if self.door.has_ended() {

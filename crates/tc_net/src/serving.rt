@@ -2,6 +2,8 @@
 ghost use Rattle.std.specs.Prelude.{◌≡◌, ◌<◌, map};
 ghost use Rattle.tc_fresh.specs.Beginning.{fresh_cache};
 
+use crate::audience::Audience;
+use crate::auditing::{Found, audit_hall};
 use crate::beginning::Beginning;
 use crate::clocking::{Ticking, moment_now};
 use crate::door::Door;
@@ -59,6 +61,15 @@ pub enum Affinity {
     ByUser,
     /// The one that it came to.
     Spread,
+}
+
+/// What a server does once so many connections were closed.
+#[derive(Clone, Copy, Debug, PartialEq, Eq)]
+pub enum AtEnd {
+    /// It ends.
+    Leaves,
+    /// It does each user's last page again, tells its audience what is found, and ends.
+    Audits,
 }
 
 /// A worker with its inlet, and where its connections are put.
@@ -152,18 +163,22 @@ fn deal_out<N: Naming, R: Wait + Drop>(
     Ok(())
 }
 
-/// Listens and serves, until so many connections were closed.
+/// Listens and serves, until so many connections were closed. The audience is told once it listens, or
+/// why it can't; and at the end what an audit finds, if one is asked for.
 pub fn serve<
     C: Cache + Send + Sync,
     N: Naming + Send + Sync,
     R: Threads + Wait + Net + Time + AllocGlobal + Send + Sync + Copy + Drop + 'static,
+    A: Audience,
 >(
     rt: &R,
     alloc: Global,
     beginning: Beginning<C>,
     affinity: Affinity,
     until: Option<u64>,
-) -> Result<(), Unserved>
+    at_end: AtEnd,
+    audience: &A,
+) -> Result<Found, Unserved>
     requires name { beginning.opened ≡ N.table }
     requires begins { N.terms.begins ≡ map fresh_cache beginning.settings.users }
     requires seats { N.terms.seats ≡ beginning.settings.workers }
@@ -192,11 +207,22 @@ pub fn serve<
         deal_out(alloc, &mut staff, workers)?;
     }
     let Staff { crew, outlets } = staff;
-    let listening = Listening::new(rt, address, outlets, shared(&door)?, until)?;
-    run(rt, alloc, &hall, &users, crew, listening, &door)
+    let listening = match Listening::new(rt, address, outlets, shared(&door)?, until) {
+        Ok(listening) => listening,
+        Err(error) => {
+            audience.cannot_listen(&error);
+            return Err(Unserved::from(error));
+        }
+    };
+    audience.listens(listening.address().unwrap_or(address));
+    let seats = run(rt, alloc, &hall, &users, crew, listening, &door)?;
+    match at_end {
+        AtEnd::Leaves => Ok(Found::Nothing),
+        AtEnd::Audits => Ok(audit_hall(alloc, hall, seats, audience)?),
+    }
 }
 
-/// Runs the listener, the workers and the keeper, until the listener ends.
+/// Runs the listener, the workers and the keeper, until the listener ends. The workers' seats come back.
 fn run<
     C: Cache + Send + Sync,
     N: Naming + Send + Sync,
@@ -209,7 +235,7 @@ fn run<
     crew: Vec<(Worker<Socket, N>, Queue<R>)>,
     listening: Listening,
     door: &Arc<Door, Global>,
-) -> Result<(), Unserved> {
+) -> Result<Vec<Seat<N>>, Unserved> {
     let clock = Clock::new();
     // Commands that come before the keeper's first turn are done at the right moment.
     clock.advance(moment_now(rt));
@@ -223,7 +249,7 @@ fn run<
     door.end();
     let _outlets = listener.join(rt);
     match ended {
-        Ok(_seats) => Ok(()),
+        Ok(seats) => Ok(seats),
         Err(_) => Err(Unserved::NoMemory),
     }
 }

@@ -1,5 +1,5 @@
 //! A wire over a socket.
-ghost use Rattle.std.specs.Prelude.{◌≡◌, ◌<◌, IsTrue};
+ghost use Rattle.std.specs.Prelude.{None};
 ghost use Rattle.std.specs.Io.{WritesAtMost};
 
 use crate::board::{Board, ENDING, READABLE, WRITABLE};
@@ -9,7 +9,7 @@ use mio::{Interest, Registry, Token};
 use std::alloc::Global;
 use std::io::{self, ErrorKind, IoSlice, Read, Write};
 use std::sync::Arc;
-use tc_workers::{Got, Parts, Put, Wire};
+use tc_workers::{Change, Got, Parts, Put, Wire};
 
 /// A socket's place on the board of its worker, until it is dropped.
 struct Watch {
@@ -31,7 +31,6 @@ pub(crate) struct Socket {
     /// None while it is on its way to a worker.
     watch: Option<Watch>,
     door: Arc<Door, Global>,
-    failures: u64,
 }
 
 impl Drop for Socket {
@@ -40,7 +39,6 @@ impl Drop for Socket {
             stream,
             watch,
             door,
-            failures: _,
         } = self;
         drop(stream);
         drop(watch);
@@ -55,7 +53,6 @@ impl Socket {
             stream,
             watch: None,
             door,
-            failures: 0,
         }
     }
 
@@ -109,7 +106,6 @@ impl Socket {
     /// Hands the bytes to the system in one call, from where they lie.
     fn send(&mut self, from: &Parts<'_>) -> io::Result<usize>
         ensures within { WritesAtMost result from.now }
-        ensures uncounted { self.new.failures ≡ self.old.failures }
     {
         let (first, second, third) = from.as_slices();
         if second.is_empty() && third.is_empty() {
@@ -121,29 +117,16 @@ impl Socket {
             IoSlice::new(third),
         ])
     }
-
-    /// Counts a failure. Whether it could be counted.
-    fn count_failure(&mut self) -> bool
-        ensures { IsTrue result → self.old.failures < self.new.failures }
-    {
-        if self.failures == u64::MAX {
-            return false;
-        }
-        self.failures += 1;
-        true
-    }
 }
 
 impl Wire for Socket {
-    ghost failed = { λ s. s.failures };
+    ghost gave = { λ _. None };
+
+    ghost took = { λ _. None };
 
     fn read(&mut self, into: &mut [u8]) -> Got {
         if self.door.has_ended() {
-            return if self.count_failure() {
-                Got::Failed
-            } else {
-                Got::Ended
-            };
+            return Got::Failed;
         }
         if !self.has(READABLE) {
             return Got::Later;
@@ -159,23 +142,13 @@ impl Wire for Socket {
                 Got::Later
             }
             Err(e) if e.kind() == ErrorKind::Interrupted => Got::Bytes(0),
-            Err(_) => {
-                if self.count_failure() {
-                    Got::Failed
-                } else {
-                    Got::Ended
-                }
-            }
+            Err(_) => Got::Failed,
         }
     }
 
     fn write(&mut self, from: &Parts<'_>) -> Put {
         if self.door.has_ended() {
-            return if self.count_failure() {
-                Put::Failed
-            } else {
-                Put::Later
-            };
+            return Put::Failed;
         }
         if !self.has(WRITABLE) {
             return Put::Later;
@@ -187,18 +160,8 @@ impl Wire for Socket {
                 Put::Later
             }
             Err(e) if e.kind() == ErrorKind::Interrupted => Put::Wrote(0),
-            Err(_) => {
-                if self.count_failure() {
-                    Put::Failed
-                } else {
-                    Put::Later
-                }
-            }
+            Err(_) => Put::Failed,
         }
-    }
-
-    fn failures(&self) -> u64 {
-        self.failures
     }
 
     fn set_key(&mut self, key: usize) -> bool {
@@ -209,5 +172,32 @@ impl Wire for Socket {
             }
             None => false,
         }
+    }
+}
+
+/// A worker takes a socket over, which gets a place of its board; its poll writes that from now on.
+#[derive(Drop)]
+pub(crate) struct Join<'a> {
+    pub(crate) registry: &'a Registry,
+    pub(crate) board: Arc<Board, Global>,
+}
+
+impl<'a> Change<Socket> for Join<'a> {
+    fn change(self, wire: &mut Socket) -> bool {
+        let Join { registry, board } = self;
+        wire.join(registry, board)
+    }
+}
+
+/// A worker passes a socket on, which gives its place up and leaves the worker's poll.
+#[derive(Drop)]
+pub(crate) struct Leave<'a> {
+    pub(crate) registry: &'a Registry,
+}
+
+impl<'a> Change<Socket> for Leave<'a> {
+    fn change(self, wire: &mut Socket) -> bool {
+        wire.leave(self.registry);
+        true
     }
 }

@@ -10,10 +10,18 @@
 //! of one user after another. `run_crew` gives each worker a thread and the keeper one, and hands all
 //! seats back.
 //!
-//! What a wire may answer is `specs/Wires.antt`. Each connection keeps at most 1,130,498 unread bytes
-//! (`specs/Turns.antt`; `Worker::kept`).
+//! What a worker does on a connection is a list of moves (`specs/Talks.antt`): bytes came, a request was
+//! asked for, a command was called and answered, its peer ended. Callers see a connection as a
+//! `LinkState`; `Link::take_in` and `Link::give_out` say which moves lead from one to the next, what is
+//! said at them, and which calls the seat notes for them. A turn is a list of visits of connections
+//! (`specs/Turns.antt`; `Worker::turn` `serves`), each by such moves. Each connection keeps at most
+//! 1,130,498 unread bytes (`Worker::kept`).
 //!
-//! No clause says what bytes a wire gives or takes, that a thread gets on, or that memory suffices.
+//! What a wire may answer is `specs/Wires.antt`. One that knows what bytes it gave and took says so; of
+//! one that knows none, as a socket, nothing is said of bytes.
+//!
+//! No clause says that a call which is answered as refused was made, that a connection which is passed
+//! on comes as it was, that a thread gets on, or that memory suffices.
 #![tactic(auto)]
 
 mod crew;
@@ -33,5 +41,5 @@ pub use homes::Homes;
 pub use keeper::{Keeper, Source};
 pub use link::Link;
 pub use tc_session::Parts;
-pub use wire::{Got, Inlet, Patience, Put, Taken, Wire};
+pub use wire::{Change, Got, Inlet, Patience, Put, Taken, Wire};
 pub use worker::Worker;

@@ -1,20 +1,24 @@
 //! One connection of a worker.
-ghost use Rattle.std.specs.Prelude.{◌≡◌, ◌≢◌, ◌≤◌, true, false, length};
-ghost use Rattle.tc_model.specs.Connection.{is_closed};
+ghost use Rattle.std.specs.Prelude.{◌≡◌, ◌≢◌, ◌≤◌, ℕ, List, [], true, false, length};
+ghost use Rattle.std.specs.Prelude.{OnSome, IfNone, IsSome};
+ghost use Rattle.tc_model.specs.Connection.{is_closed, new_endpoint, with_piece};
 ghost use Rattle.tc_grammar.specs.declared.command.Command.TheVariants.{Quit};
-ghost use Rattle.tc_session.specs.SessionView.{most_resting, reply_room};
-ghost use Rattle.tc_workers.specs.Turns.{longest_piece, most_kept, WritesAtMost};
+ghost use Rattle.tc_session.specs.TextProtocol.{text_protocol};
+ghost use Rattle.tc_session.specs.SessionView.{reply_room};
+ghost use Rattle.tc_workers.specs.Talks.{Talks, Carries, Answers};
+ghost use Rattle.tc_workers.specs.Turns.{longest_piece, most_kept};
 
 use crate::gate::{Gate, Place};
 use crate::homes::Homes;
 use crate::pace::{Onward, Pace};
 use crate::service::Service;
-use crate::wire::{Got, Put, Wire};
+use crate::wire::{Change, Got, Put, Wire};
 use std::alloc::Global;
+use std::marker::Model;
 use std::sync::Wait;
 use tc_grammar::Command;
 use tc_item::Moment;
-use tc_locked::{Naming, Seat};
+use tc_locked::{CallFault, Naming, Seat};
 use tc_plain::Cache;
 use tc_session::{Session, Want};
 use tc_users::UserNo;
@@ -44,9 +48,10 @@ enum Owner {
     Settled,
 }
 
-/// A connection: its wire, and what came on it.
+/// A connection: its wire, and what came on it. Contracts see its number, its session, whether no whole
+/// request of it is unread, and what bytes its wire gave and took.
 #[derive(Drop)]
-pub struct Link<W> {
+pub struct Link<W: Wire + Drop> {
     pub(crate) conn: u32,
     wire: W,
     session: Session,
@@ -61,12 +66,37 @@ pub struct Link<W> {
     /// How far its turn came.
     pace: Pace,
     owner: Owner,
-    ghost bounded: { length session.endpoint.reader.unread ≤ most_kept },
-    ghost resting: { rests ≡ true → length session.endpoint.reader.unread ≤ most_resting },
+}
+
+impl<W: Wire + Drop> Model for Link<W> {
+    ghost use Rattle.std.specs.Prelude.{◌≡◌, ◌≤◌, true, length};
+    ghost use Rattle.tc_session.specs.SessionView.{most_resting};
+    ghost use Rattle.tc_workers.specs.Turns.{most_kept};
+    ghost use Rattle.tc_workers.specs.Talks.{LinkState};
+
+    ghost Value = { LinkState };
+
+    ghost view = { λ l. record {
+      conn = l.conn;
+      session = l.session;
+      rests = l.rests;
+      gave = W.gave l.wire;
+      took = W.took l.wire;
+    } };
+
+    ghost invariant = { λ l. (length l.session.endpoint.reader.unread ≤ most_kept)
+        × (l.rests ≡ true → length l.session.endpoint.reader.unread ≤ most_resting) };
 }
 
 impl<W: Wire + Drop> Link<W> {
-    pub(crate) fn new(alloc: Global, conn: u32, wire: W) -> Link<W> {
+    /// A connection as it is opened.
+    pub(crate) fn new(alloc: Global, conn: u32, wire: W) -> Link<W>
+        ensures conn { result.conn ≡ conn }
+        ensures endpoint { result.session.endpoint ≡ new_endpoint text_protocol }
+        ensures out { result.session.out ≡ [] }
+        ensures gave { result.gave ≡ W.gave wire }
+        ensures took { result.took ≡ W.took wire }
+    {
         Link {
             conn,
             wire,
@@ -96,14 +126,18 @@ impl<W: Wire + Drop> Link<W> {
         wire
     }
 
-    /// The wire, for an inlet that passes the connection on or took it over.
-    pub fn wire_mut(&mut self) -> &mut W {
-        &mut self.wire
+    /// Has an inlet that passes the connection on, or took it over, change its wire. Whether it could.
+    pub fn change_wire<C: Change<W>>(&mut self, change: C) -> bool
+        ensures { self.new ≡ self.old }
+    {
+        change.change(&mut self.wire)
     }
 
     /// The worker that is to serve it, where that is another one; asked once it had a command, it is
     /// settled.
-    pub(crate) fn leaves_for(&mut self, homes: Homes) -> Option<usize> {
+    pub(crate) fn leaves_for(&mut self, homes: Homes) -> Option<usize>
+        ensures { self.new ≡ self.old }
+    {
         match self.owner {
             Owner::Found(number) => {
                 self.owner = Owner::Settled;
@@ -113,8 +147,19 @@ impl<W: Wire + Drop> Link<W> {
         }
     }
 
+    /// Notes how far its turn came: one that rests is listed no more.
+    pub(crate) fn note_pace(&mut self, pace: Pace)
+        ensures { self.new ≡ self.old }
+    {
+        if pace == Pace::Rests {
+            self.is_listed = false;
+        }
+    }
+
     /// Learns its key.
-    pub(crate) fn set_key(&mut self, key: usize) {
+    pub(crate) fn set_key(&mut self, key: usize)
+        ensures { self.new ≡ self.old }
+    {
         self.is_watched = self.wire.set_key(key);
     }
 
@@ -133,7 +178,9 @@ impl<W: Wire + Drop> Link<W> {
         seat: &mut Seat<N>,
         buffer: &mut [u8],
     ) -> bool
-        ensures wrote { WritesAtMost 16 seat.old seat.new }
+        ensures moved { (sent lost : List ℕ)
+            × Talks 16 service.now.users.now sent lost self.old self.new seat.old seat.new
+            × (result ≡ true → lost ≡ []) }
     {
         let Some(came) = self.read(buffer) else {
             return false;
@@ -144,7 +191,10 @@ impl<W: Wire + Drop> Link<W> {
     }
 
     /// The second half of a turn: writes, and looks once more whether there is something to read.
-    pub(crate) fn give_out(&mut self, now: Moment, buffer: &mut [u8]) -> Onward {
+    pub(crate) fn give_out(&mut self, now: Moment, buffer: &mut [u8]) -> Onward
+        ensures moved { (sent lost : List ℕ) × Carries sent lost self.old self.new
+            × (result ≢ Onward.Done → lost ≡ []) }
+    {
         if !self.send() || self.is_starved(now) {
             return Onward::Done;
         }
@@ -161,7 +211,9 @@ impl<W: Wire + Drop> Link<W> {
     }
 
     /// Writes, and notes how far the turn came by it. Whether the wire goes on.
-    fn send(&mut self) -> bool {
+    fn send(&mut self) -> bool
+        ensures sends { (sent : List ℕ) × Carries sent [] self.old self.new }
+    {
         match self.write() {
             Some(went) => {
                 self.pace = self.pace.and(went);
@@ -174,7 +226,10 @@ impl<W: Wire + Drop> Link<W> {
     /// How far a turn of this pace came. One that got on and left nothing to do or to send reads once
     /// more, so that a wire with nothing says so before its worker waits; `None` where it is over. What
     /// this read gives is served in the next turn.
-    fn look_again(&mut self, pace: Pace, buffer: &mut [u8]) -> Option<Pace> {
+    fn look_again(&mut self, pace: Pace, buffer: &mut [u8]) -> Option<Pace>
+        ensures moved { (lost : List ℕ) × Carries [] lost self.old self.new
+            × (IsSome result → lost ≡ []) }
+    {
         let is_through = self.rests && !self.session.has_out();
         if pace != Pace::GetsOn || !is_through || !self.is_watched {
             return Some(pace);
@@ -196,7 +251,10 @@ impl<W: Wire + Drop> Link<W> {
     }
 
     /// Reads once, where all that came is read and little waits to be sent; `None` where it is over.
-    fn read(&mut self, buffer: &mut [u8]) -> Option<Pace> {
+    fn read(&mut self, buffer: &mut [u8]) -> Option<Pace>
+        ensures moved { (lost : List ℕ) × Carries [] lost self.old self.new
+            × (IsSome result → lost ≡ []) }
+    {
         if !self.rests || self.session.is_closed() || self.is_full() {
             return Some(Pace::Rests);
         }
@@ -219,8 +277,17 @@ impl<W: Wire + Drop> Link<W> {
     fn take(&mut self, piece: &[u8]) -> Option<Pace>
         requires piece { length piece.now ≤ longest_piece }
         requires rests { self.old.rests ≡ true }
+        ensures came { OnSome result (self.new.session.endpoint
+            ≡ with_piece text_protocol self.old.session.endpoint piece.now) }
+        ensures refused { IfNone result (self.new.session.endpoint ≡ self.old.session.endpoint) }
+        ensures out { self.new.session.out ≡ self.old.session.out }
+        ensures conn { self.new.conn ≡ self.old.conn }
+        ensures gave { self.new.gave ≡ self.old.gave }
+        ensures took { self.new.took ≡ self.old.took }
     {
-        self.session.push(piece).ok()?;
+        if self.session.push(piece).is_err() {
+            return None;
+        }
         self.rests = false;
         Some(Pace::GetsOn)
     }
@@ -231,7 +298,7 @@ impl<W: Wire + Drop> Link<W> {
         service: &Service<'_, R, C, N, G>,
         seat: &mut Seat<N>,
     ) -> Pace
-        ensures wrote { WritesAtMost 16 seat.old seat.new }
+        ensures moved { Talks 16 service.now.users.now [] [] self.old self.new seat.old seat.new }
     {
         let mut pace = Pace::Rests;
         for _ in 0..REQUESTS {
@@ -253,7 +320,7 @@ impl<W: Wire + Drop> Link<W> {
         seat: &mut Seat<N>,
     ) -> bool
         requires { is_closed self.old.session.endpoint.phase ≡ false }
-        ensures wrote { WritesAtMost 1 seat.old seat.new }
+        ensures moved { Talks 1 service.now.users.now [] [] self.old self.new seat.old seat.new }
     {
         let Ok(want) = self.session.next(service.alloc, service.users) else {
             if self.refused.is_none() {
@@ -270,8 +337,16 @@ impl<W: Wire + Drop> Link<W> {
         true
     }
 
+    /// Notes the user of its first command.
+    fn meet(&mut self, user: UserNo)
+        ensures { self.new ≡ self.old }
+    {
+        if self.owner == Owner::Unknown {
+            self.owner = Owner::Found(user.number());
+        }
+    }
+
     /// Does one command, and answers it.
-    #[tactic(auto, using(crate::proofs::Writing::wrote_one))]
     fn call<R: Wait, C: Cache, N: Naming, G: Gate>(
         &mut self,
         service: &Service<'_, R, C, N, G>,
@@ -281,11 +356,9 @@ impl<W: Wire + Drop> Link<W> {
     )
         requires room { reply_room ≤ self.old.session.room }
         requires runs { command.now ≢ Quit }
-        ensures wrote { WritesAtMost 1 seat.old seat.new }
+        ensures answers { Answers user command.now self.old self.new seat.old seat.new }
     {
-        if self.owner == Owner::Unknown {
-            self.owner = Owner::Found(user.number());
-        }
+        self.meet(user);
         // A client with many requests in flight sent some of them together.
         seat.set_more(self.session.kept() > 0);
         let gate = service.gate;
@@ -306,25 +379,45 @@ impl<W: Wire + Drop> Link<W> {
                 // A reply that was refused says so itself.
                 let _ = self.session.answer(command, &receipt.slip.outcome);
             }
-            Err(_) => self.session.refuse(command),
+            // The protocol has one text for a command that was not done. Memory may be there for the next
+            // one; a book that has given all its numbers does none again. The last two no server sees: its
+            // hall is made of the table by which its sessions log in, and nothing takes a book out of it.
+            Err(CallFault::NoMemory | CallFault::Worn | CallFault::NoUser | CallFault::OtherBook) =>
+                self.session.refuse(command),
         }
     }
 
     /// Writes until all is out or the wire takes no more; `None` where it fails.
-    fn write(&mut self) -> Option<Pace> {
+    fn write(&mut self) -> Option<Pace>
+        ensures sends { (sent : List ℕ) × Carries sent [] self.old self.new }
+    {
         let mut pace = Pace::Rests;
         for _ in 0..u64::MAX {
             if !self.session.has_out() {
                 return Some(pace);
             }
-            match self.wire.write(&self.session.parts()) {
+            match self.put() {
                 Put::Wrote(0) => return Some(pace.and(Pace::Tries)),
-                Put::Wrote(n) => self.session.sent(n),
+                Put::Wrote(_) => {}
                 Put::Later => return Some(pace),
                 Put::Failed => return None,
             }
             pace = Pace::GetsOn;
         }
         Some(pace)
+    }
+
+    /// Writes once.
+    fn put(&mut self) -> Put
+        ensures sends { (sent : List ℕ) × Carries sent [] self.old self.new }
+    {
+        match self.wire.write(&self.session.parts()) {
+            Put::Wrote(n) => {
+                self.session.sent(n);
+                Put::Wrote(n)
+            }
+            Put::Later => Put::Later,
+            Put::Failed => Put::Failed,
+        }
     }
 }

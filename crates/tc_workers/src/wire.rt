@@ -1,8 +1,7 @@
 //! What a worker reads and writes, and where it gets its connections.
-ghost use Rattle.std.specs.Prelude.{◌≡◌, ℕ, length};
-ghost use Rattle.tc_workers.specs.Wires.{ReadsWithin, WritesWithin, CountsFailedRead, CountsFailedWrite};
+ghost use Rattle.std.specs.Prelude.{◌≡◌, ℕ, List, Option, length};
+ghost use Rattle.tc_workers.specs.Wires.{ReadsWithin, WritesWithin, Gives, Takes};
 
-use crate::link::Link;
 use tc_session::Parts;
 
 /// What a read gave.
@@ -29,35 +28,46 @@ pub enum Put {
 
 /// The two ways of a connection. No call of it waits.
 pub trait Wire {
-    /// How many reads and writes failed.
-    ghost failed: { Self → ℕ };
+    /// All bytes that it gave; `None` for one that doesn't know them, as a socket.
+    ghost gave: { Self → Option (List ℕ) };
+
+    /// All bytes that it took; `None` for one that doesn't know them.
+    ghost took: { Self → Option (List ℕ) };
 
     /// Puts the next bytes that came at the front of `into`, as many as there are and have room.
     fn read(&mut self, into: &mut [u8]) -> Got
         ensures within { ReadsWithin result (length into.old) }
-        ensures counted { CountsFailedRead result (failed self.old) (failed self.new) };
+        ensures gives { Gives result (gave self.old) (gave self.new) into.new }
+        ensures takes_nothing { took self.new ≡ took self.old };
 
     /// Takes the first bytes of what waits, as many as it can.
     fn write(&mut self, from: &Parts<'_>) -> Put
         ensures within { WritesWithin result (length from.now) }
-        ensures counted { CountsFailedWrite result (failed self.old) (failed self.new) };
-
-    /// How many reads and writes failed.
-    fn failures(&self) -> u64
-        ensures { result ≡ failed self.now };
+        ensures takes { Takes result (took self.old) (took self.new) from.now }
+        ensures gives_nothing { gave self.new ≡ gave self.old };
 
     /// Learns under which key its worker has it. Whether the inlet names that key each time that a
     /// read or a write would no longer answer `Later`; where it doesn't, the wire is asked each turn.
-    fn set_key(&mut self, key: usize) -> bool;
+    fn set_key(&mut self, key: usize) -> bool
+        ensures gives_nothing { gave self.new ≡ gave self.old }
+        ensures takes_nothing { took self.new ≡ took self.old };
 }
 
-/// What an inlet gives.
+/// What an inlet does with a wire that it passes on or took over: nothing is read or written.
+pub trait Change<W: Wire> {
+    /// Does it. Whether it could be done.
+    fn change(self, wire: &mut W) -> bool
+        ensures gives_nothing { W.gave wire.new ≡ W.gave wire.old }
+        ensures takes_nothing { W.took wire.new ≡ W.took wire.old };
+}
+
+/// What an inlet gives: a wire W, or a connection L.
 #[derive(Drop)]
-pub enum Taken<W> {
+pub enum Taken<W, L> {
     /// A new connection, under the caller's number.
     Given(u32, W),
     /// A connection that another worker passed on.
-    Passed(Link<W>),
+    Passed(L),
     Nothing,
     /// No more come.
     Ended,
@@ -74,18 +84,16 @@ pub enum Patience {
     Long,
 }
 
-/// Where a worker gets its connections, and learns which of them have something to do.
-pub trait Inlet: Drop {
-    /// What its connections are read from and written to.
-    type Wire: Wire + Drop;
-
+/// Where a worker gets its connections L, each over a wire W, and learns which of them have something
+/// to do.
+pub trait Inlet<W, L>: Drop {
     /// The next connection. It is asked once before each turn, and waits no longer than it is told.
-    fn take(&mut self, patience: Patience) -> Taken<Self::Wire>;
+    fn take(&mut self, patience: Patience) -> Taken<W, L>;
 
     /// The key of a wire that may be read or written again; each is named once.
     fn woken(&mut self) -> Option<usize>;
 
     /// Passes a connection on to the worker `to`, counted from 0, whose inlet gives it. Where that
     /// can't be, it comes back.
-    fn pass_on(&mut self, to: usize, link: Link<Self::Wire>) -> Result<(), Link<Self::Wire>>;
+    fn pass_on(&mut self, to: usize, link: L) -> Result<(), L>;
 }

@@ -1,0 +1,402 @@
+-- Moves one after the other, and what they leave of a connection and its seat.
+use Rattle.std.specs.Prelude.{OnOk, OnErr, IsOk, OnSome, IfNone, IsSome}
+use Rattle.std.specs.Io.KnownBytes.{Keeps, Appends}
+use Rattle.std.proofs.Common.{◌≡◌, ℕ, ◌+◌, ◌≤◌, Bool, true, false, List, [], ◌∷◌, ◌++◌, length, take, drop}
+use Rattle.std.proofs.Common.{Option, Some, None, Result, Ok, Err}
+use Rattle.std.proofs.Common.{refl, sym, ◌∙◌, ap, subst, arith, append_assoc}
+use Rattle.std.proofs.lemmas.List.{append-nil, length-append, take-append-drop}
+use Rattle.tc_model.specs.Connection.{Endpoint, endpoint_after, Act, Want, Call, turn, with_piece, shut_endpoint}
+use Rattle.tc_item.specs.declared.no_memory.NoMemory.{NoMemory}
+use Rattle.tc_grammar.specs.declared.command.Command.{Command}
+use Rattle.tc_users.specs.declared.users.UserSpec.{UserSpec}
+use Rattle.tc_session.specs.Replies.{render, is_long}
+use Rattle.tc_session.specs.Refusals.{refusal_of}
+use Rattle.tc_session.specs.TextProtocol.{text_protocol}
+use Rattle.tc_locked.specs.declared.entry.Slip.{Slip}
+use Rattle.tc_locked.specs.Views.{note}
+use Rattle.tc_locked.specs.KeptBooks.{SeatState}
+use Rattle.tc_locked.specs.Calls.{Wrote}
+use Rattle.tc_workers.specs.Talks.{Move, Came, Asked, Did, Undone, Ended, happening_of, Calls, NeedsNoCache, Says, AllMoves}
+use Rattle.tc_workers.specs.Talks.{notes_of, notes_in, piece_of, pieces_in, LinkState, Goes, Notes, Talks, Carries, Answers}
+
+-- the moves of two lists in a row
+pub all_moves-append : (rows : List UserSpec) (conn : ℕ) (e f g : Endpoint text_protocol) (ms ns : List Move) (said more : List ℕ)
+    → AllMoves rows conn e ms f said → AllMoves rows conn f ns g more → AllMoves rows conn e (ms ++ ns) g (said ++ more)
+all_moves-append rows conn e f g [] ns said more (same, none) second =
+    let from : AllMoves rows conn e ns g more =
+    subst (λ (x : Endpoint text_protocol). AllMoves rows conn x ns g more) same second in
+    subst (λ (x : List ℕ). AllMoves rows conn e ns g (x ++ more)) (sym none) from
+all_moves-append rows conn e f g (m ∷ ms) ns said more (next, one, rest, moves, later, whole) second = (
+  next,
+  one,
+  rest ++ more,
+  moves,
+  all_moves-append rows conn next f g ms ns rest more later second,
+  ap (λ xs. xs ++ more) whole ∙ append_assoc one rest more,
+)
+
+pub notes_in-append : (ms ns : List Move) → notes_in (ms ++ ns) ≡ notes_in ms ++ notes_in ns
+notes_in-append [] ns = refl
+notes_in-append (m ∷ ms) ns =
+    ap (λ xs. notes_of m ++ xs) (notes_in-append ms ns) ∙ sym (append_assoc (notes_of m) (notes_in ms) (notes_in ns))
+
+pieces_in-append : (ms ns : List Move) → pieces_in (ms ++ ns) ≡ pieces_in ms ++ pieces_in ns
+pieces_in-append [] ns = refl
+pieces_in-append (m ∷ ms) ns =
+    ap (λ xs. piece_of m ++ xs) (pieces_in-append ms ns) ∙ sym (append_assoc (piece_of m) (pieces_in ms) (pieces_in ns))
+
+-- known bytes that grow twice
+appends-append : (a b c : Option (List ℕ)) (xs ys : List ℕ) → Appends a b xs → Appends b c ys → Appends a c (xs ++ ys)
+appends-append None b c xs ys x y = tt
+appends-append (Some held) None c xs ys x y = absurd x
+appends-append (Some held) (Some more) None xs ys x y = absurd y
+appends-append (Some held) (Some more) (Some all) xs ys x y = y ∙ ap (λ l. l ++ ys) x ∙ append_assoc held xs ys
+
+appends-self : (a : Option (List ℕ)) → Appends a a []
+appends-self None = tt
+appends-self (Some held) = sym (append-nil held)
+
+-- known bytes that stay
+pub appends-same : {a b : Option (List ℕ)} → b ≡ a → Appends a b []
+appends-same {a} same = subst (λ (o : Option (List ℕ)). Appends a o []) (sym same) (appends-self a)
+
+pub appends-kept : (a b : Option (List ℕ)) → Keeps a b → Appends a b []
+appends-kept None b k = tt
+appends-kept (Some held) None k = absurd k
+appends-kept (Some held) (Some all) k = k ∙ sym (append-nil held)
+
+-- known bytes that grow by none
+pub appends-zero : (a b : Option (List ℕ)) (n : ℕ) (xs : List ℕ) → n ≡ 0 → Appends a b (take n xs) → Appends a b []
+appends-zero a b n xs none x = subst (λ (k : ℕ). Appends a b (take k xs)) none x
+
+pub appends-as : (a b c : Option (List ℕ)) (xs : List ℕ) → c ≡ b → Appends a b xs → Appends a c xs
+appends-as a b c xs same x = subst (λ (o : Option (List ℕ)). Appends a o xs) (sym same) x
+
+-- a connection that made one move
+pub goes-one : {rows : List UserSpec} {a b : LinkState} (m : Move) (said : List ℕ)
+    → endpoint_after text_protocol rows (happening_of m) (Some a.session.endpoint) ≡ Some b.session.endpoint
+    → Says rows a.conn a.session.endpoint m said → b.session.out ≡ a.session.out ++ said → b.conn ≡ a.conn
+    → Appends a.gave b.gave (piece_of m) → Appends a.took b.took [] → Goes rows (m ∷ []) [] [] a b
+goes-one {a = a} {b} m said steps says out conn gave took =
+    let piece : piece_of m ≡ (piece_of m ++ []) ++ [] = sym (append-nil (piece_of m)) ∙ sym (append-nil (piece_of m ++ [])) in
+    record {
+      said = said;
+      moved = (b.session.endpoint, said, [], record { steps = steps; says = says }, (refl, refl), sym (append-nil said));
+      whole = sym out;
+      conn = conn;
+      gave = subst (λ (xs : List ℕ). Appends a.gave b.gave xs) piece gave;
+      took = took;
+    }
+
+regroup : (out said more s t b-out c-out : List ℕ) → out ++ said ≡ s ++ b-out → b-out ++ more ≡ t ++ c-out
+    → out ++ (said ++ more) ≡ (s ++ t) ++ c-out
+regroup out said more s t b-out c-out one two =
+    sym (append_assoc out said more) ∙ ap (λ xs. xs ++ more) one ∙ append_assoc s b-out more ∙ ap (λ xs. s ++ xs) two
+    ∙ sym (append_assoc s t c-out)
+
+-- one after the other
+pub goes-append : {rows : List UserSpec} {ms ns : List Move} {s t lost : List ℕ} {a b c : LinkState}
+    → Goes rows ms s [] a b → Goes rows ns t lost b c → Goes rows (ms ++ ns) (s ++ t) lost a c
+goes-append {rows} {ms} {ns} {s} {t} {lost} {a} {b} {c} x y =
+    let second : AllMoves rows a.conn b.session.endpoint ns c.session.endpoint y.said =
+    subst (λ (n : ℕ). AllMoves rows n b.session.endpoint ns c.session.endpoint y.said) x.conn y.moved in
+    let pieces : (pieces_in ms ++ []) ++ (pieces_in ns ++ lost) ≡ pieces_in (ms ++ ns) ++ lost =
+    ap (λ xs. xs ++ (pieces_in ns ++ lost)) (append-nil (pieces_in ms)) ∙ sym (append_assoc (pieces_in ms) (pieces_in ns) lost)
+    ∙ ap (λ xs. xs ++ lost) (sym (pieces_in-append ms ns)) in
+    record {
+      said = x.said ++ y.said;
+      moved =
+          all_moves-append rows a.conn a.session.endpoint b.session.endpoint c.session.endpoint ms ns x.said y.said x.moved
+          second;
+      whole = regroup a.session.out x.said y.said s t b.session.out c.session.out x.whole y.whole;
+      conn = y.conn ∙ x.conn;
+      gave =
+          subst (λ (xs : List ℕ). Appends a.gave c.gave xs) pieces
+          (appends-append a.gave b.gave c.gave (pieces_in ms ++ []) (pieces_in ns ++ lost) x.gave y.gave);
+      took = appends-append a.took b.took c.took s t x.took y.took;
+    }
+
+-- a seat that notes nothing
+pub notes-still : {most : ℕ} {a b : SeatState} → b ≡ a → Notes most [] a b
+notes-still {a = a} same = record {
+  number = ap (λ s. s.number) same;
+  notes = ap (λ s. s.notes) same ∙ sym (append-nil a.notes);
+  few = omega arith;
+}
+
+pub notes-append : {most more : ℕ} {ms ns : List Move} {a b c : SeatState} → Notes most ms a b → Notes more ns b c
+    → Notes (most + more) (ms ++ ns) a c
+notes-append {most} {more} {ms} {ns} {a} {b} {c} x y = record {
+  number = y.number ∙ x.number;
+  notes =
+      y.notes ∙ ap (λ xs. xs ++ notes_in ns) x.notes ∙ append_assoc a.notes (notes_in ms) (notes_in ns)
+      ∙ ap (λ xs. a.notes ++ xs) (sym (notes_in-append ms ns));
+  few =
+      let f : length (notes_in ms) ≤ most = x.few in
+      let g : length (notes_in ns) ≤ more = y.few in
+      omega (arith, ap length (notes_in-append ms ns), length-append (notes_in ms) (notes_in ns));
+}
+
+pub carries-append : {s t lost : List ℕ} {a b c : LinkState} → Carries s [] a b → Carries t lost b c
+    → Carries (s ++ t) lost a c
+carries-append x y = record {
+  moves = x.moves ++ y.moves;
+  silent = notes_in-append x.moves y.moves ∙ ap (λ xs. xs ++ notes_in y.moves) x.silent ∙ y.silent;
+  goes = λ rows. goes-append (x.goes rows) (y.goes rows);
+}
+
+pub talks-append : {most more : ℕ} {rows : List UserSpec} {s t lost : List ℕ} {a b c : LinkState} {from mid to : SeatState}
+    → Talks most rows s [] a b from mid → Talks more rows t lost b c mid to → Talks (most + more) rows (s ++ t) lost a c from to
+talks-append x y = record {
+  moves = x.moves ++ y.moves;
+  goes = goes-append x.goes y.goes;
+  noted = notes-append x.noted y.noted;
+}
+
+-- a connection whose seat made no call
+pub carries-talks : {most : ℕ} {rows : List UserSpec} {s lost : List ℕ} {a b : LinkState} {seat : SeatState} → Carries s lost a b
+    → Talks most rows s lost a b seat seat
+carries-talks {rows = rows} {seat = seat} x = record {
+  moves = x.moves;
+  goes = x.goes rows;
+  noted = record {
+    number = refl;
+    notes = sym (append-nil seat.notes) ∙ ap (λ xs. seat.notes ++ xs) (sym x.silent);
+    few = omega (arith, ap length x.silent);
+  };
+}
+
+pub talks-more : {most more : ℕ} {rows : List UserSpec} {s lost : List ℕ} {a b : LinkState} {from to : SeatState} → most ≤ more
+    → Talks most rows s lost a b from to → Talks more rows s lost a b from to
+talks-more {most} {more} h x = record {
+  moves = x.moves;
+  goes = x.goes;
+  noted = record {
+    number = x.noted.number;
+    notes = x.noted.notes;
+    few = let f : length (notes_in x.moves) ≤ most = x.noted.few in omega arith;
+  };
+}
+
+-- a connection that sent twice
+pub carries-both : {a b c : LinkState} → (s : List ℕ) × Carries s [] a b → (s : List ℕ) × Carries s [] b c
+    → (s : List ℕ) × Carries s [] a c
+carries-both (s, x) (t, y) = (s ++ t, carries-append x y)
+
+-- a connection that sent, and then read
+pub carries-on : {lost : List ℕ} {a b c : LinkState} → (s : List ℕ) × Carries s [] a b → Carries [] lost b c
+    → (s : List ℕ) × Carries s lost a c
+carries-on (s, x) y = (s ++ [], carries-append x y)
+
+-- a connection that read, and then was served
+pub talks-behind : {most : ℕ} {rows : List UserSpec} {a b c : LinkState} {from to : SeatState} → Carries [] [] a b
+    → Talks most rows [] [] b c from to → Talks most rows [] [] a c from to
+talks-behind {most} {rows} {a} {b} {from = from} x y =
+    let none : Talks 0 rows [] [] a b from from = carries-talks x in talks-more (omega arith) (talks-append none y)
+
+-- a connection that was served, and then sent
+pub talks-sent : {most : ℕ} {rows : List UserSpec} {a b n c : LinkState} {from to : SeatState} → Talks most rows [] [] a b from to
+    → n ≡ b → (s : List ℕ) × Carries s [] n c → (s : List ℕ) × Talks most rows s [] a c from to
+talks-sent {most} {rows} {b = b} {c = c} {to = to} x same (s, y) =
+    let none : Talks 0 rows s [] b c to to = carries-talks (subst (λ (l : LinkState). Carries s [] l c) same y) in
+    (s, talks-more (omega arith) (talks-append x none))
+
+-- a connection that did nothing
+pub carries-still : {a b : LinkState} → b.session.endpoint ≡ a.session.endpoint → b.session.out ≡ a.session.out → b.conn ≡ a.conn
+    → Appends a.gave b.gave [] → Appends a.took b.took [] → Carries [] [] a b
+carries-still {a = a} endpoint out conn gave took = record {
+  moves = [];
+  silent = refl;
+  goes = λ rows. record {
+    said = [];
+    moved = (endpoint, refl);
+    whole = append-nil a.session.out ∙ sym out;
+    conn = conn;
+    gave = gave;
+    took = took;
+  };
+}
+
+pub carries-same : {a b : LinkState} → b ≡ a → Carries [] [] a b
+carries-same same =
+    carries-still (ap (λ l. l.session.endpoint) same) (ap (λ l. l.session.out) same) (ap (λ l. l.conn) same)
+    (appends-same (ap (λ l. l.gave) same)) (appends-same (ap (λ l. l.took) same))
+
+-- a connection whose wire took the first of what waited
+pub carries-wrote : {a b : LinkState} (n : ℕ) (waits : List ℕ) → waits ≡ a.session.out → b.session.out ≡ drop n a.session.out
+    → b.session.endpoint ≡ a.session.endpoint → b.conn ≡ a.conn → b.gave ≡ a.gave → Appends a.took b.took (take n waits)
+    → (s : List ℕ) × Carries s [] a b
+carries-wrote {a} {b} n waits all out endpoint conn gave took = (
+  take n a.session.out,
+  record {
+    moves = [];
+    silent = refl;
+    goes = λ rows. record {
+      said = [];
+      moved = (endpoint, refl);
+      whole =
+          append-nil a.session.out ∙ sym (take-append-drop n a.session.out)
+          ∙ ap (λ xs. take n a.session.out ++ xs) (sym out);
+      conn = conn;
+      gave = appends-same gave;
+      took = subst (λ (xs : List ℕ). Appends a.took b.took (take n xs)) all took;
+    };
+  },
+)
+
+-- a connection to which bytes came; they are lost where memory was refused to them
+pub carries-came : {T : Type 0} {a b : LinkState} (piece : List ℕ) (r : Option T)
+    → OnSome r (b.session.endpoint ≡ with_piece text_protocol a.session.endpoint piece)
+    → IfNone r (b.session.endpoint ≡ a.session.endpoint) → b.session.out ≡ a.session.out → b.conn ≡ a.conn
+    → Appends a.gave b.gave piece → b.took ≡ a.took → (lost : List ℕ) × Carries [] lost a b × (IsSome r → lost ≡ [])
+carries-came {a = a} piece (Some x) came refused out conn gave took = (
+  [],
+  record {
+    moves = Came piece ∷ [];
+    silent = refl;
+    goes = λ rows.
+        goes-one (Came piece) [] (ap Some (sym came)) refl (out ∙ sym (append-nil a.session.out)) conn gave (appends-same took);
+  },
+  λ yes. refl,
+)
+carries-came {a = a} piece None came refused out conn gave took = (
+  piece,
+  record {
+    moves = [];
+    silent = refl;
+    goes = λ rows. record {
+      said = [];
+      moved = (refused, refl);
+      whole = append-nil a.session.out ∙ sym out;
+      conn = conn;
+      gave = gave;
+      took = appends-same took;
+    };
+  },
+  λ no. cc,
+)
+
+-- a connection whose peer ended
+pub carries-ended : {a b : LinkState} → b.session.endpoint ≡ shut_endpoint text_protocol a.session.endpoint
+    → b.session.out ≡ a.session.out → b.conn ≡ a.conn → Keeps a.gave b.gave → b.took ≡ a.took → Carries [] [] a b
+carries-ended {a} {b} endpoint out conn gave took = record {
+  moves = Ended ∷ [];
+  silent = refl;
+  goes = λ rows.
+      goes-one Ended [] (ap Some (sym endpoint)) refl (out ∙ sym (append-nil a.session.out)) conn
+      (appends-kept a.gave b.gave gave) (appends-same took);
+}
+
+-- a connection whose request needs no cache
+pub talks-asked : {rows : List UserSpec} {a b : LinkState} {seat : SeatState} (w : Want Command)
+    → w ≡ (turn text_protocol rows a.session.endpoint).want → NeedsNoCache w
+    → b.session.endpoint ≡ (turn text_protocol rows a.session.endpoint).endpoint
+    → b.session.out ≡ a.session.out ++ (turn text_protocol rows a.session.endpoint).said → b.conn ≡ a.conn
+    → b.gave ≡ a.gave → b.took ≡ a.took → Talks 1 rows [] [] a b seat seat
+talks-asked {rows} {a} {seat = seat} w wanted alone endpoint out conn gave took = record {
+  moves = Asked ∷ [];
+  goes =
+      goes-one Asked (turn text_protocol rows a.session.endpoint).said (ap Some (sym endpoint))
+      (record { alone = subst (λ (v : Want Command). NeedsNoCache v) wanted alone; says = refl }) out conn (appends-same gave)
+      (appends-same took);
+  noted = record { number = refl; notes = sym (append-nil seat.notes); few = omega arith };
+}
+
+calls-act : (conn user : ℕ) (command : Command) (m : Move) (answer : List ℕ) → Calls conn user command m answer
+    → happening_of m ≡ Act
+calls-act conn user command (Did n unsaid) answer c = refl
+calls-act conn user command Undone answer c = refl
+calls-act conn user command (Came piece) answer c = absurd c
+calls-act conn user command Asked answer c = absurd c
+calls-act conn user command Ended answer c = absurd c
+
+calls-says : (rows : List UserSpec) (conn user : ℕ) (command : Command) (e : Endpoint text_protocol) (m : Move) (answer : List ℕ)
+    → (turn text_protocol rows e).want ≡ Call user command → Calls conn user command m answer
+    → Says rows conn e m ((turn text_protocol rows e).said ++ answer)
+calls-says rows conn user command e (Did n unsaid) answer wanted c =
+    record { user = user; command = command; answer = answer; wanted = wanted; calls = c; says = refl }
+calls-says rows conn user command e Undone answer wanted c =
+    record { user = user; command = command; answer = answer; wanted = wanted; calls = c; says = refl }
+calls-says rows conn user command e (Came piece) answer wanted c = absurd c
+calls-says rows conn user command e Asked answer wanted c = absurd c
+calls-says rows conn user command e Ended answer wanted c = absurd c
+
+calls-piece : (conn user : ℕ) (command : Command) (m : Move) (answer : List ℕ) → Calls conn user command m answer
+    → piece_of m ≡ []
+calls-piece conn user command (Did n unsaid) answer c = refl
+calls-piece conn user command Undone answer c = refl
+calls-piece conn user command (Came piece) answer c = absurd c
+calls-piece conn user command Asked answer c = absurd c
+calls-piece conn user command Ended answer c = absurd c
+
+-- a connection whose request's call is made
+pub talks-called : {rows : List UserSpec} {a mid b : LinkState} {from to : SeatState} (user : ℕ) (command : Command)
+    → (turn text_protocol rows a.session.endpoint).want ≡ Call user command
+    → mid.session.endpoint ≡ (turn text_protocol rows a.session.endpoint).endpoint
+    → mid.session.out ≡ a.session.out ++ (turn text_protocol rows a.session.endpoint).said → mid.conn ≡ a.conn
+    → mid.gave ≡ a.gave → mid.took ≡ a.took → Answers user command mid b from to → Talks 1 rows [] [] a b from to
+talks-called {rows} {a} {mid} {b} user command wanted endpoint out conn gave took x =
+    let t = turn text_protocol rows a.session.endpoint in
+    let calls : Calls a.conn user command x.move x.answer =
+    subst (λ (n : ℕ). Calls n user command x.move x.answer) conn x.calls in
+    let none : Appends a.gave b.gave (piece_of x.move) =
+    subst (λ (xs : List ℕ). Appends a.gave b.gave xs) (sym (calls-piece a.conn user command x.move x.answer calls))
+    (appends-same (x.gave ∙ gave)) in
+    record {
+      moves = x.move ∷ [];
+      goes =
+          goes-one x.move (t.said ++ x.answer)
+          (ap (λ h. endpoint_after text_protocol rows h (Some a.session.endpoint))
+          (calls-act a.conn user command x.move x.answer calls)
+          ∙ ap Some (sym (x.endpoint ∙ endpoint)))
+          (calls-says rows a.conn user command a.session.endpoint x.move x.answer wanted calls)
+          (x.said ∙ ap (λ xs. xs ++ x.answer) out ∙ append_assoc a.session.out t.said x.answer) (x.conn ∙ conn) none
+          (appends-same (x.took ∙ took));
+      noted = x.noted;
+    }
+
+not-false : (b : Bool) → (b ≡ false → false ≡ true) → b ≡ true
+not-false true h = refl
+not-false false h = h refl
+
+-- a command whose call is entered, and answered as the session's answer says
+pub answers-entered : {user now : ℕ} {command : Command} {slip : Slip} {a b : LinkState} {from to : SeatState} (conn : ℕ)
+    → Wrote user from now conn command slip to → conn ≡ a.conn → (r : Result (Unit {0}) NoMemory)
+    → OnOk r (b.session.out ≡ a.session.out ++ render command slip.outcome)
+    → OnErr r (b.session.out ≡ a.session.out ++ refusal_of command) → (is_long slip.outcome ≡ false → IsOk r)
+    → b.session.endpoint ≡ a.session.endpoint → b.conn ≡ a.conn → b.gave ≡ a.gave → b.took ≡ a.took
+    → Answers user command a b from to
+answers-entered {user} {command = command} {slip = slip} conn w same (Ok x) reply undone short endpoint kept gave took = record {
+  move = Did (note user slip.page w.entry) false;
+  answer = render command slip.outcome;
+  calls = record {
+    of = refl;
+    on = w.conn_is ∙ same;
+    does = w.command_is;
+    answers = ap (λ c. render c slip.outcome) (sym w.command_is) ∙ ap (λ s. render w.entry.command s.outcome) w.told;
+    long = λ no. cc;
+  };
+  noted = record { number = ap (λ s. s.number) w.seat; notes = ap (λ s. s.notes) w.seat; few = omega arith };
+  said = reply;
+  endpoint = endpoint;
+  conn = kept;
+  gave = gave;
+  took = took;
+}
+answers-entered {user} {command = command} {slip = slip} conn w same (Err e) reply undone short endpoint kept gave took = record {
+  move = Did (note user slip.page w.entry) true;
+  answer = refusal_of command;
+  calls = record {
+    of = refl;
+    on = w.conn_is ∙ same;
+    does = w.command_is;
+    answers = ap refusal_of (sym w.command_is);
+    long = λ yes. ap (λ s. is_long s.outcome) (sym w.told) ∙ not-false (is_long slip.outcome) short;
+  };
+  noted = record { number = ap (λ s. s.number) w.seat; notes = ap (λ s. s.notes) w.seat; few = omega arith };
+  said = undone;
+  endpoint = endpoint;
+  conn = kept;
+  gave = gave;
+  took = took;
+}

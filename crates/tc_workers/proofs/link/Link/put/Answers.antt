@@ -1,0 +1,30 @@
+use Rattle.std.proofs.Common.{[], refl}
+use Rattle.tc_workers.proofs.Talking.{appends-same, appends-kept, carries-still, carries-wrote}
+use Rattle.tc_workers.proofs.link.Link.put.Goals as goal
+
+pub returns-in-Wrote : goal.returns-in-Wrote
+returns-in-Wrote g c =
+    rw (← c.self.view_is)
+    (record {
+      sends =
+          carries-wrote c.in-Wrote.n c.parts.result c.parts.ensures c.sent.ensures.out c.sent.ensures.endpoint refl
+          c.write.ensures.gives_nothing c.in-Wrote.ensures.takes;
+    })
+
+pub returns-in-Later : goal.returns-in-Later
+returns-in-Later g c =
+    rw (← c.self.view_is)
+    (record {
+      sends =
+          let took = appends-kept _ _ c.in-Later.ensures.takes in
+          ([], carries-still refl refl refl (appends-same c.write.ensures.gives_nothing) took);
+    })
+
+pub returns-in-Failed : goal.returns-in-Failed
+returns-in-Failed g c =
+    rw (← c.self.view_is)
+    (record {
+      sends =
+          let took = appends-kept _ _ c.in-Failed.ensures.takes in
+          ([], carries-still refl refl refl (appends-same c.write.ensures.gives_nothing) took);
+    })
