@@ -69,16 +69,17 @@ fn expect_users(rt: &impl Abort, users: &Users, rows: &[Row]) -> Result<(), Fail
     Ok(())
 }
 
-/// Whether these are the settings of the examples, with these users.
+/// Whether these are the settings of the examples, with this journal and these users.
 fn expect_settings(
     rt: &impl Abort,
     settings: &Settings,
+    journal: u64,
     rows: &[Row],
     logins: &[Login],
 ) -> Result<(), Fail> {
     expect_text(rt, settings.listen.as_str(), "127.0.0.1:11211", "listen");
     expect_number(rt, settings.workers as u64, 4, "workers");
-    expect_number(rt, settings.journal as u64, 4096, "journal");
+    expect_number(rt, settings.journal as u64, journal, "journal");
     expect_logins(rt, &settings.users, logins);
     expect_users(rt, &settings.users, rows)
 }
@@ -89,7 +90,7 @@ const ALICE_ALONE: [Row; 1] = [("alice", 65_536, 1_048_576)];
 fn the_example_is_read(rt: HostRuntime) -> Result<(), Fail> {
     let text = format!(in rt.alloc(); "{TOP}{ALICE}")?;
     let settings = Settings::from_toml(rt.alloc(), text.as_str())?;
-    expect_settings(&rt, &settings, &ALICE_ALONE, &[("alice one", 1)])
+    expect_settings(&rt, &settings, 4096, &ALICE_ALONE, &[("alice one", 1)])
 }
 
 const ALICE_AND_BOB: [Row; 2] = [("alice", 67_108_864, 1_048_576), ("bob", 1_048_576, 65_536)];
@@ -104,7 +105,7 @@ const EXAMPLE_LOGINS: [Login; 3] = [
 #[test]
 fn the_example_file_is_read(rt: HostRuntime) -> Result<(), Fail> {
     let settings = Settings::from_toml(rt.alloc(), EXAMPLE)?;
-    expect_settings(&rt, &settings, &ALICE_AND_BOB, &EXAMPLE_LOGINS)
+    expect_settings(&rt, &settings, 64, &ALICE_AND_BOB, &EXAMPLE_LOGINS)
 }
 
 /// Whether texts have faults of these numbers.

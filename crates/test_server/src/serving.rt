@@ -9,7 +9,7 @@ use std::thread;
 use std::time::{Clock, Duration};
 use tc_kinds::begin_all;
 use tc_locked::Opened;
-use tc_net::{Affinity, Beginning, serve};
+use tc_net::{Affinity, AtEnd, Audience, Beginning, Found, serve};
 use tc_partition::Fast;
 use tc_users::Settings;
 
@@ -70,6 +70,11 @@ fn loopback(alloc: Global, hasher: RandomState) -> Result<Beginning<Fast>, Fail>
     })
 }
 
+/// Whom the server tells nothing.
+struct Nobody;
+
+impl Audience for Nobody {}
+
 /// A connection comes to the first worker, which passes bob's on.
 #[test]
 fn a_client_is_served_and_the_server_ends_with_it(rt: HostRuntime) -> Result<(), Fail> {
@@ -80,8 +85,16 @@ fn a_client_is_served_and_the_server_ends_with_it(rt: HostRuntime) -> Result<(),
         panic!(&rt; "no thread")
     };
     let affinity = Affinity::ByUser;
-    let served = serve::<Fast, Brand, HostRuntime>(&rt, alloc, beginning, affinity, Some(1));
-    assert!(&rt; served.is_ok());
+    let served = serve::<Fast, Brand, HostRuntime, Nobody>(
+        &rt,
+        alloc,
+        beginning,
+        affinity,
+        Some(1),
+        AtEnd::Audits,
+        &Nobody,
+    );
+    assert!(&rt; served == Ok(Found::Nothing));
     assert!(&rt; client.join(&rt));
     Ok(())
 }

@@ -2,10 +2,10 @@
 ghost use Rattle.std.specs.Prelude.{◌≡◌, ◌<◌, map};
 ghost use Rattle.tc_fresh.specs.Beginning.{fresh_cache};
 
-use crate::hall::{crowd, pages, refusals, scenes};
+use crate::hall::{busy, crowd, pages, refusals, scenes};
 use crate::workers::crews::{self, Hold};
 use crate::workers::wires::Plan;
-use crate::workers::{moves, pressure, sips, talks};
+use crate::workers::{moves, pressure, sips, talks, tapes};
 use std::alloc::Global;
 use std::hash::RandomState;
 use std::marker::Brand;
@@ -20,7 +20,7 @@ use tc_item::Moment;
 use tc_kinds::{Kind, begin_all};
 use tc_locked::{Closed, Hall, Naming, Opened, Receipt, Seat};
 use tc_partition::Fast;
-use tc_plain::{Cache, Plain};
+use tc_plain::{Cache, PagedPlain};
 use tc_users::{Text, UserNo, UserSpec, Users};
 
 /// What is played in a hall.
@@ -37,6 +37,8 @@ pub enum Scene {
     FillsPage,
     /// A set and 39 gets.
     TurnsPages,
+    /// A page on which items are touched, evicted, expired and flushed.
+    ChangesAll,
     /// Fifty calls by each of four threads.
     FourThreads,
     /// A hundred calls by each of eight threads, beside a keeper.
@@ -51,6 +53,8 @@ pub enum Scene {
     Floods,
     /// A client that reads a few bytes a call.
     Sips,
+    /// A client over a wire that knows its bytes.
+    Tapes,
     /// Two users come to the worker of one.
     Comes,
     /// Bob is served while alice's worker is held.
@@ -119,6 +123,7 @@ fn perform<
         Scene::ClosesTwice => scenes::close_twice(rt, alloc, hall, seats, all),
         Scene::FillsPage => refusals::call_on_a_full_page(rt, alloc, hall, seats, all),
         Scene::TurnsPages => pages::turn_two_pages(rt, alloc, hall, seats, all),
+        Scene::ChangesAll => busy::change_all(rt, alloc, hall, seats),
         Scene::FourThreads => crowd::four_threads(rt, alloc, hall, seats, all),
         Scene::EightThreads => crowd::eight_threads(rt, alloc, hall, seats),
         Scene::Talks(one, other) => talks::talk(rt, alloc, &hall, users, &mut seats, one, other),
@@ -127,6 +132,7 @@ fn perform<
         Scene::Floods => pressure::serve_flood(rt, alloc, &hall, users, &mut seats),
         Scene::Comes => moves::come(rt, alloc, &hall, users, &mut seats),
         Scene::Sips => sips::serve_sips(rt, alloc, &hall, users, &mut seats),
+        Scene::Tapes => tapes::serve_tape(rt, alloc, &hall, users, &mut seats),
         Scene::Holds(hold) => crews::hold_alice(rt, alloc, &hall, users, &mut seats, *hold),
         Scene::Counts => crews::count(rt, alloc, hall, users, seats, all),
     }
@@ -185,7 +191,7 @@ pub fn play<R: Threads + Wait + Abort + Time + RandomSource + Copy + Send + Sync
     requires { (0 < seats) × (0 < journal) }
 {
     let hasher = RandomState::new(rt)?;
-    play_over::<Plain, R>(rt, alloc, hasher, seats, journal, &scene)?;
+    play_over::<PagedPlain, R>(rt, alloc, hasher, seats, journal, &scene)?;
     play_over::<Fast, R>(rt, alloc, hasher, seats, journal, &scene)
 }
 

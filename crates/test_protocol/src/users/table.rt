@@ -4,16 +4,17 @@ use tc_users::{Field, SettingsFault, TextFault};
 
 /// The text of `examples/partcached.toml`; `scripts/examples` compares the two.
 pub const EXAMPLE: &str =
-    "# Settings of a partcached server. Each field below but token2 and largest is needed; other \
-fields\n\
-# are passed over.\n\n\
+    "# Settings of a partcached server. Each field below is needed but where its comment says that it \
+may\n\
+# be left out. Unknown fields are passed over.\n\n\
 # Where the server listens: an IP address and a port. Names are not resolved.\n\
 listen = \"127.0.0.1:11211\"\n\n\
 # How many threads serve connections: 1 to 64. Users are dealt out to them in the order below, so\n\
 # that one thread serves all connections of a user; `serve --spread` has all threads serve each user.\n\
 workers = 4\n\n\
-# How many entries a page of the journal holds before it is turned: 16 to 65536.\n\
-journal = 4096\n\n\
+# How many of a user's last commands are kept with their outcomes, so that an audit can replay them:\n\
+# 16 to 65536, and 64 where it is left out.\n\
+# journal = 64\n\n\
 # One [[user]] table for each user, at least one. Each user has a partition of its own.\n\
 [[user]]\n\
 # 1 to 64 letters, digits, `_`, `-` and `.`; no two users have the same name.\n\
@@ -29,7 +30,7 @@ token = \"change-me-2\"\n\
 # A second token that logs in too, as while the first is being changed. It may be left out.\n\
 token2 = \"change-me-3\"\n\
 budget = 1048576\n\
-# The most data bytes of one item: 1 to 1048576, which holds where it is left out.\n\
+# The most data bytes of one item: 1 to 1048576. It may be left out, and is the latter then.\n\
 largest = 65536\n";
 
 /// The first lines of a good text.
@@ -42,7 +43,7 @@ pub const ALICE: &str = "[[user]]\nname = \"alice\"\ntoken = \"one\"\nbudget = 6
 pub type Numbered = (&'static str, &'static str, u64);
 
 /// Texts, and the numbers of their first faults.
-pub const FIRST_FAULTS: [Numbered; 9] = [
+pub const FIRST_FAULTS: [Numbered; 11] = [
     ("x =", "", 1),
     ("", "", 2),
     (
@@ -52,6 +53,8 @@ pub const FIRST_FAULTS: [Numbered; 9] = [
     ),
     ("listen = \"a\"\nworkers = 65\njournal = 15\n", ALICE, 7),
     ("listen = \"a\"\nworkers = 4\njournal = 15\n", ALICE, 8),
+    ("listen = \"a\"\nworkers = 4\n", ALICE, 0),
+    ("listen = \"a\"\nworkers = 4\njournal = true\n", "", 2),
     (TOP, "", 6),
     (
         TOP,

@@ -1,4 +1,4 @@
-//! Commands on the key `k`, and what they come to.
+//! Commands, most of them on the key `k`, and what they come to.
 use std::alloc::Global;
 use std::test::Fail;
 use tc_grammar::{Command, Form, Head, StoreKind, Way};
@@ -9,12 +9,18 @@ fn key(alloc: Global) -> Result<Key, Fail> {
     Ok(Key::new(alloc, b"k")?)
 }
 
-fn store(alloc: Global, kind: StoreKind, data: &[u8]) -> Result<Command, Fail> {
+fn store(
+    alloc: Global,
+    kind: StoreKind,
+    key: Key,
+    exptime: i64,
+    data: &[u8],
+) -> Result<Command, Fail> {
     let head = Head {
         kind,
-        key: key(alloc)?,
+        key,
         flags: 7,
-        exptime: 0,
+        exptime,
         cas_unique: 0,
         quiet: false,
     };
@@ -23,11 +29,16 @@ fn store(alloc: Global, kind: StoreKind, data: &[u8]) -> Result<Command, Fail> {
 }
 
 pub fn set(alloc: Global, data: &[u8]) -> Result<Command, Fail> {
-    store(alloc, StoreKind::Set, data)
+    store(alloc, StoreKind::Set, key(alloc)?, 0, data)
+}
+
+/// A set of another key, with this exptime.
+pub fn set_of(alloc: Global, key: &[u8], exptime: i64, data: &[u8]) -> Result<Command, Fail> {
+    store(alloc, StoreKind::Set, Key::new(alloc, key)?, exptime, data)
 }
 
 pub fn append(alloc: Global, data: &[u8]) -> Result<Command, Fail> {
-    store(alloc, StoreKind::Append, data)
+    store(alloc, StoreKind::Append, key(alloc)?, 0, data)
 }
 
 pub fn look_up(alloc: Global, form: Form) -> Result<Command, Fail> {
@@ -37,6 +48,31 @@ pub fn look_up(alloc: Global, form: Form) -> Result<Command, Fail> {
 
 pub fn get(alloc: Global) -> Result<Command, Fail> {
     look_up(alloc, Form::Bare)
+}
+
+/// A get of another key.
+pub fn get_of(alloc: Global, key: &[u8]) -> Result<Command, Fail> {
+    Ok(Command::Get {
+        form: Form::Bare,
+        keys: Keys::one(Key::new(alloc, key)?),
+    })
+}
+
+/// A touch of another key, with this exptime.
+pub fn touch_of(alloc: Global, key: &[u8], exptime: i64) -> Result<Command, Fail> {
+    Ok(Command::Touch {
+        key: Key::new(alloc, key)?,
+        exptime,
+        quiet: false,
+    })
+}
+
+/// A flush at once.
+pub fn flush() -> Command {
+    Command::Flush {
+        delay: 0,
+        quiet: false,
+    }
 }
 
 pub fn incr(alloc: Global, value: u64) -> Result<Command, Fail> {

@@ -236,7 +236,23 @@ fn has_all_entries<C: Cache, N: Naming, R: Abort>(
     for of_seat in receipts {
         assert!(rt; of_seat.len() == 100);
         assert!(rt; has_entries(closed, of_seat, commands));
+        assert!(rt; are_in_order(of_seat, 1) && are_in_order(of_seat, 2));
     }
+}
+
+/// Whether a seat's entries in a user's book stand in the order in which it called: their numbers rise,
+/// and each counts one more of the seat's.
+fn are_in_order<N: Naming>(receipts: &[Receipt<N>], user: u32) -> bool {
+    let (mut number, mut tally) = (0u64, 0u64);
+    for receipt in receipts {
+        if receipt.user.number() == user {
+            if receipt.slip.number <= number || receipt.slip.tally != tally.wrapping_add(1) {
+                return false;
+            }
+            (number, tally) = (receipt.slip.number, receipt.slip.tally);
+        }
+    }
+    tally == 50
 }
 
 /// Whether each receipt of a seat has its entry, with the command that it made and its outcome.

@@ -4,10 +4,46 @@ use std::alloc::Global;
 use std::test::*;
 use tc_grammar::Command;
 use tc_item::Moment;
-use tc_locked::{Closed, Entry, Naming, replays};
-use tc_plain::{Cache, Plain};
+use tc_locked::{Audit, Closed, Entry, Naming, audit_page};
+use tc_plain::{Cache, Plain, act};
 use tc_stats::Outcome;
 use tc_users::UserNo;
+
+/// Whether an audit compared so many calls, and found no difference.
+fn agrees(audit: &Audit, calls: usize) -> bool {
+    audit.compared == calls && audit.difference.is_none()
+}
+
+/// Whether the hall's own audit of a user's page compared so many calls, and found no difference.
+fn is_audited<C: Cache, N: Naming>(
+    alloc: Global,
+    closed: &Closed<C, N>,
+    user: UserNo,
+    entries: usize,
+) -> Result<bool, Fail> {
+    match closed.audit(alloc, user)? {
+        Some(audit) => Ok(agrees(&audit, entries)),
+        None => Ok(false),
+    }
+}
+
+/// Whether so many entries lead from an opening to their outcomes.
+fn leads(alloc: Global, opening: Plain, page: &[Entry], entries: usize) -> Result<bool, Fail> {
+    Ok(agrees(&audit_page(alloc, opening, page)?, entries))
+}
+
+/// The same by what the hall shows.
+fn is_shown<C: Cache, N: Naming>(
+    alloc: Global,
+    closed: &Closed<C, N>,
+    user: UserNo,
+    entries: usize,
+) -> Result<bool, Fail> {
+    match (closed.opening(alloc, user)?, closed.page(user)) {
+        (Some(opening), Some(page)) => leads(alloc, opening, page, entries),
+        _ => Ok(false),
+    }
+}
 
 /// Whether a user's page has so many entries, which lead from its opening to their outcomes.
 pub fn has_page<C: Cache, N: Naming>(
@@ -17,12 +53,7 @@ pub fn has_page<C: Cache, N: Naming>(
     entries: usize,
 ) -> Result<bool, Fail> {
     let user = UserNo::new(user);
-    match (closed.opening(alloc, user)?, closed.page(user)) {
-        (Some(opening), Some(page)) => {
-            Ok(page.len() == entries && replays(alloc, &opening, page)?.is_none())
-        }
-        _ => Ok(false),
-    }
+    Ok(is_audited(alloc, closed, user, entries)? && is_shown(alloc, closed, user, entries)?)
 }
 
 /// A call of a plain cache at second 5, as an entry of this number.
@@ -33,7 +64,7 @@ fn entry_of(
     command: Command,
 ) -> Result<Entry, Fail> {
     let moment = Moment::new(5);
-    let (_, outcome) = cache.act(alloc, moment, &command)?;
+    let (_, outcome) = act(cache, alloc, moment, &command)?;
     Ok(Entry {
         seat: 0,
         tally: number,
@@ -45,24 +76,63 @@ fn entry_of(
     })
 }
 
-/// A get, a set and a get of an empty cache, as entries 41 to 43.
+fn enter(
+    alloc: Global,
+    cache: &mut Plain,
+    entries: &mut Vec<Entry>,
+    number: u64,
+    command: Command,
+) -> Result<(), Fail> {
+    let entry = entry_of(alloc, cache, number, command)?;
+    entries.push(entry)?;
+    Ok(())
+}
+
+/// Enters a get, a set and a get, as entries 41 to 43.
+fn enter_three(alloc: Global, cache: &mut Plain, entries: &mut Vec<Entry>) -> Result<(), Fail> {
+    enter(alloc, cache, entries, 41, get(alloc)?)?;
+    enter(alloc, cache, entries, 42, set(alloc, b"abc")?)?;
+    enter(alloc, cache, entries, 43, get(alloc)?)
+}
+
+/// A get, a set and a get of an empty cache.
 fn three_entries(alloc: Global) -> Result<Vec<Entry>, Fail> {
     let mut cache = Plain::new(alloc, 65_536, 1_024)?;
     let mut entries = Vec::new(alloc);
-    entries.push(entry_of(alloc, &mut cache, 41, get(alloc)?)?)?;
-    entries.push(entry_of(alloc, &mut cache, 42, set(alloc, b"abc")?)?)?;
-    entries.push(entry_of(alloc, &mut cache, 43, get(alloc)?)?)?;
+    enter_three(alloc, &mut cache, &mut entries)?;
     Ok(entries)
+}
+
+/// What an audit of the entries finds, from an empty cache.
+fn audit_of(alloc: Global, entries: &[Entry]) -> Result<Audit, Fail> {
+    Ok(audit_page(alloc, Plain::new(alloc, 65_536, 1_024)?, entries)?)
+}
+
+/// Has the second of the entries keep another outcome than the call had.
+fn forge(entries: &mut Vec<Entry>) {
+    if let Some(entry) = entries.get_mut(1) {
+        entry.outcome = Outcome::NotFound;
+    }
+}
+
+/// Whether the second of the entries, a set, is found to come to another outcome than it keeps.
+fn tells_of_the_set(audit: &Audit) -> bool {
+    match &audit.difference {
+        Some(it) => {
+            let here = audit.compared == 2 && it.place == 1 && it.number == 42;
+            here && matches!(it.again, Outcome::Stored)
+        }
+        None => false,
+    }
 }
 
 #[test]
 fn a_forged_outcome_is_found(rt: HostRuntime) -> Result<(), Fail> {
     let alloc = rt.alloc();
-    let cache = Plain::new(alloc, 65_536, 1_024)?;
     let mut entries = three_entries(alloc)?;
-    assert!(&rt; entries.len() == 3);
-    assert!(&rt; replays(alloc, &cache, &entries)?.is_none());
-    entries[1].outcome = Outcome::NotFound;
-    assert!(&rt; replays(alloc, &cache, &entries)? == Some(42));
+    let agreed = agrees(&audit_of(alloc, &entries)?, 3);
+    forge(&mut entries);
+    let told = tells_of_the_set(&audit_of(alloc, &entries)?);
+    assert!(&rt; agreed && told);
     Ok(())
 }

@@ -1,6 +1,8 @@
 //! Back pressure: a client that sends on and never reads is read no more, and others of its worker are
 //! served.
 
+ghost use Rattle.std.specs.Prelude.{None};
+
 use super::talks::worker_of;
 use crate::stage::{Scene, play};
 use std::alloc::Global;
@@ -72,7 +74,9 @@ impl Flood {
 }
 
 impl Wire for Flood {
-    ghost failed = { λ _. 0 };
+    ghost gave = { λ _. None };
+
+    ghost took = { λ _. None };
 
     fn read(&mut self, into: &mut [u8]) -> Got {
         for i in 0..into.len() {
@@ -91,10 +95,6 @@ impl Wire for Flood {
             }
             Client::NeverReads => Put::Later,
         }
-    }
-
-    fn failures(&self) -> u64 {
-        0
     }
 
     fn set_key(&mut self, _key: usize) -> bool {

@@ -1,5 +1,5 @@
 //! Large data over a wire that takes a few bytes a call. Texts are by hand from the protocol's text.
-ghost use Rattle.std.specs.Prelude.{◌≤◌, length};
+ghost use Rattle.std.specs.Prelude.{None, ◌≤◌, length};
 
 use super::talks::worker_of;
 use crate::stage::{Scene, play};
@@ -112,7 +112,9 @@ impl Sipping {
 }
 
 impl Wire for Sipping {
-    ghost failed = { λ _. 0 };
+    ghost gave = { λ _. None };
+
+    ghost took = { λ _. None };
 
     fn read(&mut self, into: &mut [u8]) -> Got {
         let left = SAID.saturating_sub(self.given).min(into.len());
@@ -132,10 +134,6 @@ impl Wire for Sipping {
         taken += self.sip(second, SIP - taken);
         taken += self.sip(third, SIP - taken);
         Put::Wrote(taken)
-    }
-
-    fn failures(&self) -> u64 {
-        0
     }
 
     fn set_key(&mut self, _key: usize) -> bool {

@@ -1,5 +1,5 @@
 //! A wire in memory, which knows what it is to be sent.
-ghost use Rattle.std.specs.Prelude.{◌≡◌, ◌<◌, ◌≤◌, length};
+ghost use Rattle.std.specs.Prelude.{None, ◌≡◌, ◌<◌, ◌≤◌, length};
 
 use std::alloc::Global;
 use std::sync::Arc;
@@ -72,7 +72,7 @@ pub struct Memory {
     told: usize,
     reads: u64,
     writes: u64,
-    failed: u64,
+    has_failed: bool,
     seen: Arc<Seen, Global>,
 }
 
@@ -84,7 +84,7 @@ impl Memory {
             told: 0,
             reads: 0,
             writes: 0,
-            failed: 0,
+            has_failed: false,
             seen,
         }
     }
@@ -135,13 +135,15 @@ impl Memory {
 }
 
 impl Wire for Memory {
-    ghost failed = { λ w. w.failed };
+    ghost gave = { λ _. None };
+
+    ghost took = { λ _. None };
 
     fn read(&mut self, into: &mut [u8]) -> Got {
         self.reads = self.reads.saturating_add(1);
         self.seen.reads.fetch_add(1, SeqCst);
-        if self.plan.ending == Ending::FailsAtRead(self.reads) && self.failed == 0 {
-            self.failed = 1;
+        if self.plan.ending == Ending::FailsAtRead(self.reads) && !self.has_failed {
+            self.has_failed = true;
             return Got::Failed;
         }
         match (self.give(into), self.plan.ending) {
@@ -153,8 +155,8 @@ impl Wire for Memory {
 
     fn write(&mut self, from: &Parts<'_>) -> Put {
         self.writes = self.writes.saturating_add(1);
-        if self.plan.ending == Ending::FailsAtWrite(self.writes) && self.failed == 0 {
-            self.failed = 1;
+        if self.plan.ending == Ending::FailsAtWrite(self.writes) && !self.has_failed {
+            self.has_failed = true;
             return Put::Failed;
         }
         let (first, second, third) = from.as_slices();
@@ -162,10 +164,6 @@ impl Wire for Memory {
         self.hear(second);
         self.hear(third);
         Put::Wrote(from.len())
-    }
-
-    fn failures(&self) -> u64 {
-        self.failed
     }
 
     fn set_key(&mut self, _key: usize) -> bool {

@@ -1,0 +1,143 @@
+//! A page in which items were touched, were evicted, expired and were flushed, and what it began with.
+//! The outcomes are by hand: a budget of 65,536 holds three items of 20,000 bytes beside a small one.
+use super::commands::{flush, get_of, set_of, touch_of};
+use super::replayed::has_page;
+use crate::stage::{Scene, call, closed, first, play};
+use std::alloc::Global;
+use std::process::Abort;
+use std::sync::Wait;
+use std::test::*;
+use tc_grammar::Command;
+use tc_locked::{Hall, Naming, Seat};
+use tc_plain::Cache;
+use tc_stats::Outcome;
+
+/// What is asked of a key.
+#[derive(Clone, Copy)]
+enum Ask {
+    /// So many bytes are set, which are due after so many seconds, or never.
+    Set { exptime: i64, len: usize },
+    Get,
+    Touch { exptime: i64 },
+    Flush,
+}
+
+/// What it comes to.
+#[derive(Clone, Copy)]
+enum Want {
+    Stored,
+    Touched,
+    Done,
+    Hit,
+    Miss,
+}
+
+/// The second of a call, its key, what is asked, and what it comes to.
+type Step = (u64, &'static [u8], Ask, Want);
+
+/// Three sets; with thirteen gets behind them they are a page.
+const FIRST: [Step; 3] = [
+    (5, b"a", LARGE, Want::Stored),
+    (5, b"b", DUE_AT_25, Want::Stored),
+    (5, b"s", SMALL, Want::Stored),
+];
+
+/// The second page.
+const SECOND: [Step; 12] = [
+    (6, b"s", Ask::Touch { exptime: 100 }, Want::Touched),
+    (6, b"c", LARGE, Want::Stored),
+    (6, b"d", LARGE, Want::Stored),
+    (6, b"d", Ask::Get, Want::Miss),
+    (30, b"b", Ask::Get, Want::Miss),
+    (30, b"a", Ask::Get, Want::Hit),
+    (30, b"d", LARGE, Want::Stored),
+    (30, b"d", Ask::Get, Want::Hit),
+    (31, b"s", Ask::Flush, Want::Done),
+    (31, b"a", Ask::Get, Want::Miss),
+    (32, b"a", SMALL, Want::Stored),
+    (32, b"a", Ask::Get, Want::Hit),
+];
+
+const LARGE: Ask = Ask::Set {
+    exptime: 0,
+    len: 20_000,
+};
+
+const DUE_AT_25: Ask = Ask::Set {
+    exptime: 20,
+    len: 20_000,
+};
+
+const SMALL: Ask = Ask::Set { exptime: 0, len: 3 };
+
+/// The command that a key is asked.
+fn command(alloc: Global, key: &[u8], ask: Ask) -> Result<Command, Fail> {
+    match ask {
+        Ask::Set { exptime, len } => set_of(alloc, key, exptime, &vec![in alloc; b'd'; len]?),
+        Ask::Get => get_of(alloc, key),
+        Ask::Touch { exptime } => touch_of(alloc, key, exptime),
+        Ask::Flush => Ok(flush()),
+    }
+}
+
+fn meets(outcome: &Outcome, want: Want) -> bool {
+    match (outcome, want) {
+        (Outcome::Stored, Want::Stored) => true,
+        (Outcome::Touched, Want::Touched) => true,
+        (Outcome::Done, Want::Done) => true,
+        (Outcome::Values(hits), Want::Hit) => !hits.is_empty(),
+        (Outcome::Values(hits), Want::Miss) => hits.is_empty(),
+        _ => false,
+    }
+}
+
+fn do_step<C: Cache, N: Naming, R: Wait + Abort>(
+    rt: &R,
+    alloc: Global,
+    hall: &Hall<C, N>,
+    seat: &mut Seat<N>,
+    step: &Step,
+) -> Result<(), Fail> {
+    let (second, key, ask, want) = *step;
+    let command = command(alloc, key, ask)?;
+    let receipt = call(rt, alloc, hall, seat, 1, second, &command)?;
+    assert!(rt; meets(&receipt.slip.outcome, want));
+    Ok(())
+}
+
+/// Fills a page, and does the second one.
+fn do_pages<C: Cache, N: Naming, R: Wait + Abort>(
+    rt: &R,
+    alloc: Global,
+    hall: &Hall<C, N>,
+    seat: &mut Seat<N>,
+) -> Result<(), Fail> {
+    for step in &FIRST {
+        do_step(rt, alloc, hall, seat, step)?;
+    }
+    for _ in 0..13 {
+        do_step(rt, alloc, hall, seat, &(5, b"a", Ask::Get, Want::Hit))?;
+    }
+    for step in &SECOND {
+        do_step(rt, alloc, hall, seat, step)?;
+    }
+    Ok(())
+}
+
+/// The second page leads from its opening to its outcomes.
+pub fn change_all<C: Cache, N: Naming, R: Wait + Abort>(
+    rt: &R,
+    alloc: Global,
+    hall: Hall<C, N>,
+    mut seats: Vec<Seat<N>>,
+) -> Result<(), Fail> {
+    do_pages(rt, alloc, &hall, first(rt, &mut seats))?;
+    let closed = closed(rt, hall, seats);
+    assert!(rt; has_page(alloc, &closed, 1, SECOND.len())?);
+    Ok(())
+}
+
+#[test]
+fn a_page_with_every_change_replays(rt: HostRuntime) -> Result<(), Fail> {
+    play(&rt, rt.alloc(), 1, 16, Scene::ChangesAll)
+}

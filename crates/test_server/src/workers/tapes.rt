@@ -1,0 +1,96 @@
+//! A wire over two lists of bytes, which knows what it gave and took. Texts are by hand from the
+//! protocol's text.
+ghost use Rattle.std.specs.Prelude.{◌≤◌, Some, take, vec_len};
+
+use super::talks::worker_of;
+use crate::stage::{Scene, play};
+use std::alloc::Global;
+use std::process::Abort;
+use std::sync::atomic::AtomicU64;
+use std::sync::atomic::Ordering::SeqCst;
+use std::sync::{Arc, Wait};
+use std::test::*;
+use tc_locked::{Clock, Hall, Naming, Seat};
+use tc_plain::Cache;
+use tc_users::Users;
+use tc_workers::{Got, Open, Parts, Put, Wire, Worker};
+
+/// So many turns are enough.
+const TURNS: u32 = 4;
+
+const ASKS: &[u8] = b"set a 0 0 9\r\nalice one\r\nset k 0 0 2\r\nhi\r\nget k\r\n";
+
+const HEARS: &[u8] = b"STORED\r\nSTORED\r\nVALUE k 0 2\r\nhi\r\nEND\r\n";
+
+/// The bytes that it gives, and how many it gave; the bytes that it took.
+#[derive(Drop)]
+struct Tape {
+    sends: Vec<u8>,
+    at: usize,
+    heard: Vec<u8>,
+    /// Whether the bytes heard are those that are to be, as seen from outside.
+    whole: Arc<AtomicU64, Global>,
+    ghost within: { at ≤ vec_len sends },
+}
+
+impl Wire for Tape {
+    ghost gave = { λ t. Some (take t.at t.sends.items) };
+
+    ghost took = { λ t. Some t.heard.items };
+
+    fn read(&mut self, into: &mut [u8]) -> Got {
+        let n = (self.sends.len() - self.at).min(into.len());
+        if n == 0 {
+            return Got::Ended;
+        }
+        let part = &mut into[..n];
+        part.copy_from_slice(&self.sends[self.at..self.at + n]);
+        self.at += n;
+        Got::Bytes(n)
+    }
+
+    fn write(&mut self, from: &Parts<'_>) -> Put {
+        let (first, _, _) = from.as_slices();
+        if self.heard.extend_from_slice(first).is_err() {
+            return Put::Later;
+        }
+        if self.heard.as_slice() == HEARS {
+            self.whole.store(1, SeqCst);
+        }
+        Put::Wrote(first.len())
+    }
+
+    fn set_key(&mut self, _key: usize) -> bool {
+        false
+    }
+}
+
+/// One connection, from its first byte to its last.
+pub fn serve_tape<C: Cache, N: Naming, R: Wait + Abort>(
+    rt: &R,
+    alloc: Global,
+    hall: &Hall<C, N>,
+    users: &Users,
+    seats: &mut Vec<Seat<N>>,
+) -> Result<(), Fail> {
+    let mut worker: Worker<Tape, N> = worker_of(rt, alloc, seats);
+    let whole = Arc::new(alloc, AtomicU64::new(0))?;
+    let wire = Tape {
+        sends: Vec::from_slice(alloc, ASKS)?,
+        at: 0,
+        heard: Vec::new(alloc),
+        whole: Arc::try_clone(&whole)?,
+    };
+    assert!(rt; worker.add(1, wire).is_ok());
+    for _ in 0..TURNS {
+        worker.turn(rt, hall, users, &Clock::new(), &Open);
+    }
+    assert!(rt; worker.is_idle());
+    assert!(rt; whole.load(SeqCst) == 1);
+    Ok(())
+}
+
+#[test]
+fn a_wire_that_knows_its_bytes_is_served(rt: HostRuntime) -> Result<(), Fail> {
+    play(&rt, rt.alloc(), 1, 16, Scene::Tapes)
+}
