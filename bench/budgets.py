@@ -129,8 +129,8 @@ def bars(budgets, rates):
     print(f"{'':12} # this server, | plain LRU")
 
 
-def drawing(budgets, rates):
-    """The curves as an SVG."""
+def drawing(title, budgets, rates):
+    """The curves as an SVG, with a title and both axes' names."""
     wide, high = 560, 300
     across = [60 + n * wide / max(1, len(budgets) - 1) for n in range(len(budgets))]
     up = [[320 - high * row[which] for row in rates] for which in (0, 1)]
@@ -141,8 +141,11 @@ def drawing(budgets, rates):
     ticks = "".join(f'<text x="{x:.0f}" y="338" text-anchor="middle">{budget // 1024:,}</text>' for x, budget in zip(across, budgets))
     rules = "".join(f'<line x1="60" x2="{60 + wide}" y1="{320 - high * n / 5:.0f}" y2="{320 - high * n / 5:.0f}" stroke="#ddd"/>'
                     f'<text x="54" y="{324 - high * n / 5:.0f}" text-anchor="end">{20 * n} %</text>' for n in range(6))
-    return (f'<svg xmlns="http://www.w3.org/2000/svg" width="720" height="360" font-family="sans-serif" font-size="11">'
-            f'<rect width="720" height="360" fill="#fff"/>{rules}{lines}{ticks}<text x="340" y="356" text-anchor="middle">budget, KiB</text></svg>\n')
+    head = (f'<text x="340" y="-8" text-anchor="middle" font-size="14">{title}</text>'
+            f'<text transform="translate(16 170) rotate(-90)" text-anchor="middle">hit rate</text>')
+    return (f'<svg xmlns="http://www.w3.org/2000/svg" width="720" height="390" viewBox="0 -30 720 390" role="img" '
+            f'font-family="sans-serif" font-size="11"><title>{title}</title><rect y="-30" width="720" height="390" fill="#fff"/>'
+            f'{head}{rules}{lines}{ticks}<text x="340" y="356" text-anchor="middle">budget, KiB</text></svg>\n')
 
 
 def main():
@@ -159,7 +162,7 @@ def main():
     with tempfile.NamedTemporaryFile("w", suffix=".toml") as file:
         file.write(f'listen = "127.0.0.1:{asked.port}"\nworkers = 2\njournal = 65536\n{rows}')
         file.flush()
-        server = subprocess.Popen([asked.program, "serve", "--config", file.name])
+        server = subprocess.Popen([asked.program, "serve", "--config", file.name], stdout=subprocess.DEVNULL)
         try:
             users = [User(asked.port, number) for number in range(len(budgets))]
             lrus = [Lru(budget) for budget in budgets]
@@ -175,7 +178,8 @@ def main():
     print()
     bars(budgets, rates)
     if asked.svg:
-        Path(asked.svg).write_text(drawing(budgets, rates))
+        title = f"{Path(asked.trace).stem}: hit rate by budget, {count:,} requests"
+        Path(asked.svg).write_text(drawing(title, budgets, rates))
 
 
 if __name__ == "__main__":

@@ -1,7 +1,8 @@
 #!/usr/bin/env python3
 """What the gate costs, by part and by crate. Run it at the top of a clean clone with nothing else
-running: it runs `rt ci`, whose text goes to standard error, looks at its checks twice a second, and
-prints processor seconds by crate, and the wall and processor time of the whole run.
+running: it runs `rt ci` and then `scripts/served`, as `.ci/run` does, whose text goes to standard error.
+It looks at the checks twice a second, and prints processor seconds by crate, and the wall and processor
+time of both steps.
 
 A check has what it had used when it was last seen, so its last half second is in `other`, with
 what is no check: linking, and the programs and tests themselves."""
@@ -12,6 +13,7 @@ import sys
 import time
 from pathlib import Path
 
+ROOT = Path(__file__).resolve().parent.parent
 TICKS = os.sysconf("SC_CLK_TCK")
 PARTS = ("contracts", "tests", "edits")
 
@@ -45,22 +47,41 @@ def watched(run):
     return spent
 
 
+def used():
+    """The processor seconds of all runs that have ended."""
+    children = resource.getrusage(resource.RUSAGE_CHILDREN)
+    return children.ru_utime + children.ru_stime
+
+
+def step(*words):
+    """A step of the gate: its status, its checks' seconds, and its wall and processor time in seconds."""
+    begun, before = time.time(), used()
+    run = subprocess.Popen(words, cwd=ROOT, stdout=sys.stderr)
+    spent = watched(run)
+    return run.returncode, spent, time.time() - begun, used() - before
+
+
 def row(name, seconds):
-    print(f"| {name} | " + " | ".join(f"{it:.0f}" for it in seconds) + " |")
+    print(f"| {name} | " + " | ".join(f"{it:,.0f}" for it in seconds) + " |")
 
 
 def main():
-    begun = time.time()
-    run = subprocess.Popen(["rt", "ci"], stdout=sys.stderr)
-    spent = watched(run)
-    wall, used = time.time() - begun, resource.getrusage(resource.RUSAGE_CHILDREN)
+    status, spent, wall, processor = step("rt", "ci")
     print("| Crate | " + " | ".join(PARTS) + " |\n|---" + "|---" * len(PARTS) + "|")
-    for crate in sorted({crate for _, crate in spent}):
+    crates = sorted({crate for _, crate in spent})
+    for crate in crates:
         row(f"`{crate}`", [spent.get((part, crate), 0) for part in PARTS])
     row("all", [sum(it for (part, _), it in spent.items() if part == wanted) for wanted in PARTS])
-    whole = used.ru_utime + used.ru_stime
-    print(f"\nother {whole - sum(spent.values()):.0f} s; wall {wall / 60:.1f} min; processor {whole / 60:.1f} min")
-    sys.exit(run.returncode)
+    edits = len(list(ROOT.glob("crates/*/must-fail/*.edit")))
+    other = processor - sum(spent.values())
+    print(f"\n{len(crates)} crates, {edits} edits, other {other:,.0f} s; "
+          f"`rt ci`: {wall / 60:.1f} minutes, {processor / 60:.1f} of a processor", end="")
+    if status == 0:
+        status, _, wall, processor = step("scripts/served")
+        print(f"; `scripts/served`: {wall / 60:.1f} minutes, {processor / 60:.1f} of a processor", end="")
+    print()
+    sys.exit(status)
 
 
-main()
+if __name__ == "__main__":
+    main()

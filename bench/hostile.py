@@ -27,7 +27,7 @@ class Server:
                         '[[user]]\nname = "alice"\ntoken = "one"\nbudget = 67108864\n'
                         '[[user]]\nname = "bob"\ntoken = "two"\nbudget = 1048576\n')
         self.file.flush()
-        self.process = subprocess.Popen([program, "serve", "--config", self.file.name])
+        self.process = subprocess.Popen([program, "serve", "--config", self.file.name], stdout=subprocess.DEVNULL)
         for _ in range(100):
             try:
                 self.connect().close()

@@ -4,8 +4,8 @@ busy one with a million items.
 
 usage: bench/neighbours.py PROGRAM [--beside COMMAND] [--rounds N] [--seconds S]
 
-It starts `PROGRAM serve` with two users and 4 workers, once as it is and once with --spread, and
-COMMAND, as bench/serve.py does. The quiet user has 8 connections, one request at a time, over 10,000
+It starts `PROGRAM serve` on the settings of examples/partcached.toml, but for the port and two users,
+once as it is and once with --spread, and COMMAND, as bench/serve.py does. The quiet user has 8 connections, one request at a time, over 10,000
 keys; the busy one 25 connections with 16 requests in flight each, over a million. Nine requests of
 ten are `get`s of 100 B. Numbers are medians of the rounds, in microseconds and requests a second."""
 import argparse
@@ -18,7 +18,7 @@ import tempfile
 import time
 from pathlib import Path
 
-from serve import BENCH, free_port
+from serve import BENCH, free_port, settings
 
 USERS = ("quiet", "busy")
 LOADS = {"quiet": "-c 8 -g 90 -v 100 -k 10000", "busy": "-c 25 -P 16 -g 90 -v 100 -k 1000000"}
@@ -29,11 +29,10 @@ def start(command, folder):
     """A server that runs, and its port."""
     port = free_port()
     config, authfile = Path(folder, f"{port}.toml"), Path(folder, f"{port}.auth")
-    users = "".join(f'[[user]]\nname = "{user}"\ntoken = "one"\nbudget = {256 << 20}\n' for user in USERS)
-    config.write_text(f'listen = "127.0.0.1:{port}"\nworkers = 4\njournal = 65536\n{users}')
+    config.write_text(settings(port, [f"{user} one" for user in USERS]))
     authfile.write_text("".join(f"{user}:one\n" for user in USERS))
     words = [word.format(port=port, config=config, authfile=authfile) for word in shlex.split(command)]
-    process = subprocess.Popen(words)
+    process = subprocess.Popen(words, stdout=subprocess.DEVNULL)
     time.sleep(0.5)
     return process, port
 

@@ -1,11 +1,10 @@
 #!/usr/bin/env python3
 """Runs partcached where memory and threads are refused, one refusal after the other.
 
-usage: bench/refusals.py PROGRAM [run|start|serve|turn|request|add|threads ..]      default: all of them
-
 PROGRAM is crates/partcached/out/partcached, as `rt run` leaves it. Each call that takes memory is
 refused in a run of its own, by bench/refuse_malloc.c, until a run needs no further one. A line says what
 was run and found; the exit status is 1 where something was wrong."""
+import argparse
 import os
 import resource
 import signal
@@ -17,12 +16,13 @@ import time
 from pathlib import Path
 
 ROOT = Path(__file__).resolve().parent.parent
-PORT = 21411
 NO_MEMORY = b"partcached: out of memory\n"
 BEGINNINGS = {
-    (0, b"", b""): "served",
-    (1, b"", b"partcached: settings fault 9\n"): "status 1, settings fault 9",
-    (5, b"", NO_MEMORY): "status 5",
+    (0, b"", "listening"): "served",
+    (1, b"partcached: settings fault 9\n", "out of memory"): "status 1, settings fault 9",
+    (5, NO_MEMORY, ""): "status 5",
+    (5, NO_MEMORY, "cannot listen"): "status 5",
+    (5, NO_MEMORY, "listening"): "status 5 once it listened",
 }
 REFUSED = b"SERVER_ERROR out of memory\r\n"
 SETTINGS = """listen = "127.0.0.1:{port}"
@@ -125,7 +125,7 @@ def run():
             if ended == (5, b"", NO_MEMORY):
                 return "status 5"
             raise Wrong(f"{name} ends with {ended}")
-        say(name, each_refusal(lambda n: Refusing([PROGRAM, "run"], at=n), judge))
+        say(name, each_refusal(lambda n: Refusing([PROGRAM, "run", *KIND], at=n), judge))
 
 
 # partcached serve
@@ -135,7 +135,17 @@ class Server(Refusing):
         self.settings = tempfile.NamedTemporaryFile("w", suffix=".toml")
         self.settings.write(SETTINGS.format(port=PORT, workers=workers))
         self.settings.flush()
+        self.workers = workers
         super().__init__([PROGRAM, "serve", "--config", self.settings.name, "--until", str(until)], **how)
+
+    def ending(self):
+        """What it ends with: its status, what standard error has, and what standard output says."""
+        status, out, err = self.end()
+        several = "" if self.workers == 1 else "s"
+        line = f"listening on 127.0.0.1:{PORT}, {self.workers} worker{several}, 1 user\n"
+        said = {line: "listening", "out of memory\n": "out of memory",
+                f"cannot listen on 127.0.0.1:{PORT}: out of memory\n": "cannot listen"}
+        return status, err, said.get(out.decode(), out.decode())
 
 
 class Client:
@@ -197,8 +207,8 @@ def connect_once(server):
 
 
 def is_ended(server):
-    ended = server.end()
-    if ended != (0, b"", b""):
+    ended = server.ending()
+    if ended != (0, b"", "listening"):
         raise Wrong(f"it ends with {ended}")
 
 
@@ -206,7 +216,7 @@ def start():
     """A server that begins, or the status of refused memory, of the settings or else, and its line."""
     def judge(server):
         connect_once(server)
-        ended = server.end()
+        ended = server.ending()
         if ended not in BEGINNINGS:
             raise Wrong(f"it ends with {ended}")
         return BEGINNINGS[ended]
@@ -354,7 +364,7 @@ def threads():
     """A refused start of a thread ends the server with status 5 and its line."""
     def judge(server):
         connect_once(server)
-        ended = server.end()
+        ended = server.ending()
         if ended not in BEGINNINGS or server.refusals() and ended[0] != 5:
             raise Wrong(f"it ends with {ended}")
         return BEGINNINGS[ended]
@@ -362,17 +372,20 @@ def threads():
 
 
 def main():
-    global PROGRAM, REFUSER
+    global PROGRAM, REFUSER, KIND, PORT
     parts = {it.__name__: it for it in (run, start, serve, turn, request, add, threads)}
-    words = sys.argv[2:] or list(parts)
-    if len(sys.argv) < 2 or not set(words) <= set(parts):
-        sys.exit(__doc__)
-    PROGRAM = str(Path(sys.argv[1]).resolve())
+    words = argparse.ArgumentParser(description=__doc__, formatter_class=argparse.RawDescriptionHelpFormatter)
+    words.add_argument("program")
+    words.add_argument("parts", nargs="*", choices=[*parts, []], metavar="|".join(parts), help="default: all of them")
+    words.add_argument("--reference", action="store_true", help="scripts are run over the plain cache")
+    words.add_argument("--port", type=int, default=21411)
+    asked = words.parse_args()
+    PROGRAM, PORT, KIND = str(Path(asked.program).resolve()), asked.port, ["--reference"] * asked.reference
     resource.setrlimit(resource.RLIMIT_CORE, (0, 0))
     with tempfile.TemporaryDirectory() as room:
         REFUSER = Path(room) / "refuse_malloc.so"
         subprocess.run(["cc", "-O2", "-shared", "-fPIC", "-o", REFUSER, ROOT / "bench/refuse_malloc.c"], check=True)
-        for word in words:
+        for word in asked.parts or parts:
             try:
                 parts[word]()
             except Wrong as wrong:

@@ -90,7 +90,7 @@ def main():
         config.write_text(f'listen = "127.0.0.1:{port}"\nworkers = 1\njournal = 4096\n' + "".join(
             f'[[user]]\nname = "u{n}"\ntoken = "t"\nbudget = {max(65_536, count * WEIGHT * 21 // 20)}\n'
             for n, count in enumerate(counts)))
-        server = subprocess.Popen([asked.program, "serve", "--config", str(config)])
+        server = subprocess.Popen([asked.program, "serve", "--config", str(config)], stdout=subprocess.DEVNULL)
         try:
             print("| Items | Bytes of the large one | Evicted | Its `set`, ms |\n|---|---|---|---|", flush=True)
             for number, count in enumerate(counts):

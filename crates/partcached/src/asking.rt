@@ -3,19 +3,48 @@ use clap::error::ErrorKind;
 use clap::{Arg, ArgAction, ArgMatches, Command, Error, value_parser};
 use std::alloc::{AllocError, Global};
 use std::io;
-use tc_net::Affinity;
+use std::net::SocketAddr;
+use tc_net::{Affinity, AtEnd};
+
+/// Where a demo listens if nothing else is asked for.
+const DEMO_LISTEN: &str = "127.0.0.1:11211";
+
+/// Over which cache a script is run.
+#[derive(Clone, Copy, Debug, PartialEq, Eq)]
+pub enum Reading {
+    /// The fast one, which a server runs.
+    Served,
+    /// The plain one, which is the definition's reading.
+    Reference,
+}
+
+/// Where a server's settings come from.
+#[derive(Drop)]
+pub enum Source {
+    /// A file.
+    File(String),
+    /// The program's own, with this address to listen on, which is a loopback address.
+    Demo(String),
+}
+
+/// What is asked of a server.
+#[derive(Drop)]
+pub struct Serving {
+    pub source: Source,
+    pub affinity: Affinity,
+    /// It ends once so many connections were closed.
+    pub until: Option<u32>,
+    pub at_end: AtEnd,
+}
 
 /// What the program is to do.
 #[derive(Drop)]
 pub enum Asked {
     /// Run a script.
-    Run,
-    /// Serve by the settings in a file, until so many connections were closed.
-    Serve {
-        config: String,
-        affinity: Affinity,
-        until: Option<u32>,
-    },
+    Run(Reading),
+    /// Say what the settings in a file come to.
+    Check { config: String },
+    Serve(Serving),
 }
 
 /// Why the command line asks for nothing.
@@ -23,8 +52,12 @@ pub enum Asked {
 pub enum Unasked {
     /// It is refused, or asks for help; the parser's own text says so.
     Usage(Error),
+    /// It asks for the version, which the parser's text has.
+    Version(Error),
     /// Its words cannot be read as text.
     Words(io::Error),
+    /// A demo is to listen on what is no loopback address and port.
+    NotLoopback,
     NoMemory,
 }
 
@@ -47,23 +80,44 @@ impl From<Error> for Unasked {
     fn from(error: Error) -> Unasked {
         match error.kind() {
             ErrorKind::OutOfMemory => Unasked::NoMemory,
+            ErrorKind::DisplayVersion => Unasked::Version(error),
             _ => Unasked::Usage(error),
         }
     }
 }
 
-/// `serve` and its arguments.
-fn serve_command<'a>(alloc: Global) -> Result<Command<'a>, AllocError> {
-    let config = Arg::new(alloc, "config")
+/// `--config`, which `serve` and `check` take.
+fn config_arg<'a>(alloc: Global) -> Arg<'a> {
+    Arg::new(alloc, "config")
         .long("config")
         .value_name("FILE")
-        .required(true)
-        .help("The settings, a TOML text");
+        .help("The settings, a TOML text")
+}
+
+/// `serve` and its arguments.
+fn serve_command<'a>(alloc: Global) -> Result<Command<'a>, AllocError> {
+    let config = config_arg(alloc)
+        .required_unless_present("demo")?
+        .conflicts_with("demo")?;
+    let demo = Arg::new(alloc, "demo")
+        .long("demo")
+        .action(ArgAction::SetTrue)
+        .help("Serve two users of the program's own, on a loopback address, without a file");
+    let listen = Arg::new(alloc, "listen")
+        .long("listen")
+        .value_name("ADDRESS:PORT")
+        .requires_arg("demo")?
+        .help("Where the demo listens, if not on 127.0.0.1:11211");
     let until = Arg::new(alloc, "until")
         .long("until")
         .value_name("N")
         .value_parser(value_parser!(u32).range(1..))
         .help("End once N connections were closed");
+    let audit = Arg::new(alloc, "audit")
+        .long("audit")
+        .action(ArgAction::SetTrue)
+        .requires_arg("until")?
+        .help("At the end do each user's last calls again on the definition");
     let spread = Arg::new(alloc, "spread")
         .long("spread")
         .action(ArgAction::SetTrue)
@@ -71,44 +125,114 @@ fn serve_command<'a>(alloc: Global) -> Result<Command<'a>, AllocError> {
     Command::new(alloc, "serve")
         .about("Listen, and serve memcached's clients")
         .arg(config)?
+        .arg(demo)?
+        .arg(listen)?
         .arg(spread)?
-        .arg(until)
+        .arg(until)?
+        .arg(audit)
+}
+
+/// `run` and its argument.
+fn run_command<'a>(alloc: Global) -> Result<Command<'a>, AllocError> {
+    let reference = Arg::new(alloc, "reference")
+        .long("reference")
+        .action(ArgAction::SetTrue)
+        .help("Run it over the plain cache, which is the definition's reading, and slow");
+    Command::new(alloc, "run")
+        .about("Run the script on standard input, and print what each connection was sent")
+        .arg(reference)
 }
 
 /// What the command line may be.
 fn command<'a>(alloc: Global) -> Result<Command<'a>, AllocError> {
-    let run = Command::new(alloc, "run").about(
-        "Run the script on standard input, and print what each connection was sent",
-    );
+    let check = Command::new(alloc, "check")
+        .about("Say what is wrong with settings, or what they come to")
+        .arg(config_arg(alloc).required(true))?;
     Command::new(alloc, "partcached")
-        .version("1.0.0")
+        .version("1.1.0")
         .about("A memcached server in which each user has a partition of its own")
         .subcommand_required(true)
-        .subcommand(run)?
+        .subcommand(run_command(alloc)?)?
+        .subcommand(check)?
         .subcommand(serve_command(alloc)?)
 }
 
-/// What was asked for, by what was matched.
-fn asked_by(alloc: Global, matches: &ArgMatches<'_>) -> Result<Asked, AllocError> {
-    let Some(serve) = matches.subcommand_matches("serve") else {
-        return Ok(Asked::Run);
-    };
-    // The parser refuses a `serve` without it.
-    let config = serve.get_str("config").unwrap_or("");
+/// A copy of an argument's text.
+fn text_of(alloc: Global, matches: &ArgMatches<'_>, id: &str) -> Result<String, AllocError> {
+    String::from_str(alloc, matches.get_str(id).unwrap_or(""))
+}
+
+/// Whether a text is a loopback address and a port.
+fn is_loopback(text: &str) -> bool {
+    match text.parse::<SocketAddr>() {
+        Ok(address) => address.ip().is_loopback(),
+        Err(_) => false,
+    }
+}
+
+/// Where the settings of a `serve` come from.
+fn source_by(alloc: Global, serve: &ArgMatches<'_>) -> Result<Source, Unasked> {
+    if !serve.get_flag("demo") {
+        return Ok(Source::File(text_of(alloc, serve, "config")?));
+    }
+    let listen = serve.get_str("listen").unwrap_or(DEMO_LISTEN);
+    if !is_loopback(listen) {
+        return Err(Unasked::NotLoopback);
+    }
+    Ok(Source::Demo(String::from_str(alloc, listen)?))
+}
+
+/// What a `serve` asks for at its end.
+fn at_end_by(serve: &ArgMatches<'_>) -> AtEnd {
+    if serve.get_flag("audit") {
+        AtEnd::Audits
+    } else {
+        AtEnd::Leaves
+    }
+}
+
+/// What a `serve` asks for.
+fn serving_by(alloc: Global, serve: &ArgMatches<'_>) -> Result<Serving, Unasked> {
     let affinity = if serve.get_flag("spread") {
         Affinity::Spread
     } else {
         Affinity::ByUser
     };
-    Ok(Asked::Serve {
-        config: String::from_str(alloc, config)?,
+    Ok(Serving {
+        source: source_by(alloc, serve)?,
         affinity,
         until: serve.get_one::<u32>("until"),
+        at_end: at_end_by(serve),
     })
+}
+
+/// Over which cache a `run` asks for.
+fn reading_by(run: &ArgMatches<'_>) -> Reading {
+    if run.get_flag("reference") {
+        Reading::Reference
+    } else {
+        Reading::Served
+    }
+}
+
+/// What was asked for, by what was matched.
+fn asked_by(alloc: Global, matches: &ArgMatches<'_>) -> Result<Asked, Unasked> {
+    if let Some(serve) = matches.subcommand_matches("serve") {
+        return Ok(Asked::Serve(serving_by(alloc, serve)?));
+    }
+    if let Some(check) = matches.subcommand_matches("check") {
+        let config = text_of(alloc, check, "config")?;
+        return Ok(Asked::Check { config });
+    }
+    // The parser refuses all but these three.
+    match matches.subcommand_matches("run") {
+        Some(run) => Ok(Asked::Run(reading_by(run))),
+        None => Ok(Asked::Run(Reading::Served)),
+    }
 }
 
 /// What the words of the command line ask for.
 pub fn parse(alloc: Global, words: &[String]) -> Result<Asked, Unasked> {
     let matches = command(alloc)?.try_get_matches_from(words)?;
-    Ok(asked_by(alloc, &matches)?)
+    asked_by(alloc, &matches)
 }

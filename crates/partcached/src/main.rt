@@ -1,21 +1,33 @@
 //! The program: `partcached run` reads a script from standard input, runs it, and prints what each
-//! connection was sent; `partcached serve` listens and serves clients. All that they do is tc_script's
-//! `run_script` and tc_net's `serve`; here are the command line, what a server begins with, the exit
-//! statuses and the lines on standard error (docs/OPERATING.md, "Exit statuses").
+//! connection was sent; `partcached serve` listens and serves clients; `partcached check` says what
+//! settings come to. All that the first two do is tc_script's `run_script` and tc_net's `serve`; here are
+//! the command line, what a server begins with, the exit statuses, and the lines on standard error and
+//! standard output (docs/OPERATING.md).
 #![tactic(auto)]
 
 mod asking;
+mod checking;
+mod demo;
 mod preparing;
+mod reporting;
+mod serving;
 
-use crate::asking::{Asked, Unasked, parse};
-use crate::preparing::{Unready, prepare};
+use crate::asking::{Asked, Reading, Source, Unasked, parse};
+use crate::checking::{print_settings, warn};
+use crate::preparing::{Unready, read_text};
+use crate::reporting::{
+    report_run, report_served, report_unasked, report_unprinted, report_unready,
+};
+use crate::serving::{Printing, Ready, make_ready};
 use std::hash::RandomState;
 use std::marker::Brand;
 use std::process::ExitCode;
 use std::{env, io};
-use tc_net::{Unserved, serve};
+use tc_net::serve;
 use tc_partition::Fast;
+use tc_plain::PagedPlain;
 use tc_script::{Ended, run_script};
+use tc_users::Settings;
 
 /// What the command line asks for.
 fn asked(rt: &HostRuntime) -> Result<Asked, Unasked> {
@@ -23,93 +35,62 @@ fn asked(rt: &HostRuntime) -> Result<Asked, Unasked> {
     parse(rt.alloc(), words.as_slice())
 }
 
-/// The exit status of a program that memory, a thread or random words were refused.
-fn report_no_memory(rt: &HostRuntime) -> io::Result<u8> {
-    eprintln!(rt; "partcached: out of memory")?;
-    Ok(5)
-}
-
-/// The exit status of a run, and the line on standard error that says why it is not 0.
-fn report_run(rt: &HostRuntime, ended: Ended) -> io::Result<u8> {
-    match ended {
-        Ended::Done => Ok(0),
-        Ended::BadLine(number) => {
-            eprintln!(rt; "partcached: script line {number}")?;
-            Ok(3)
-        }
-        Ended::NoMemory => report_no_memory(rt),
-        Ended::Stream => {
-            eprintln!(rt; "partcached: stream failed")?;
-            Ok(6)
-        }
-    }
-}
-
 /// Runs the script on standard input.
-fn run(rt: &HostRuntime) -> Ended {
+fn run(rt: &HostRuntime, reading: Reading) -> Ended {
     let Ok(hasher) = RandomState::new(rt) else {
         return Ended::NoMemory;
     };
-    run_script::<Fast, _, _>(rt.alloc(), hasher, &mut rt.stdin(), &mut rt.stdout())
-}
-
-/// The exit status of a server that could not begin, and its line.
-fn report_unready(rt: &HostRuntime, unready: Unready) -> io::Result<u8> {
-    match unready {
-        Unready::Unreadable => {
-            eprintln!(rt; "partcached: cannot read settings")?;
-            Ok(1)
-        }
-        Unready::Refused(number) => {
-            eprintln!(rt; "partcached: settings fault {number}")?;
-            Ok(1)
-        }
-        Unready::NoMemory => report_no_memory(rt),
+    let alloc = rt.alloc();
+    let (input, output) = (&mut rt.stdin(), &mut rt.stdout());
+    match reading {
+        Reading::Served => run_script::<Fast, _, _>(alloc, hasher, input, output),
+        Reading::Reference => run_script::<PagedPlain, _, _>(alloc, hasher, input, output),
     }
 }
 
-/// The exit status of a server, and its line.
-fn report_served(rt: &HostRuntime, ended: Result<(), Unserved>) -> io::Result<u8> {
-    match ended {
-        Ok(()) => Ok(0),
-        Err(Unserved::CannotListen) => {
-            eprintln!(rt; "partcached: cannot listen")?;
-            Ok(4)
-        }
-        Err(Unserved::NoMemory) => report_no_memory(rt),
+/// Says of settings what they come to, or what is wrong with them.
+fn check(rt: &HostRuntime, text: &str) -> Result<io::Result<()>, Unready> {
+    if let Err(error) = warn(rt, text) {
+        return Ok(Err(error));
     }
+    let settings = Settings::from_toml(rt.alloc(), text)?;
+    Ok(print_settings(rt, &settings))
 }
 
-/// The exit status of a command line that asks for nothing, and its text.
-fn report_unasked(rt: &HostRuntime, unasked: Unasked) -> io::Result<u8> {
-    match unasked {
-        Unasked::NoMemory => report_no_memory(rt),
-        Unasked::Usage(error) => {
-            eprint!(rt; "{error}")?;
-            Ok(2)
-        }
-        Unasked::Words(error) => {
-            eprintln!(rt; "error: {error}")?;
-            Ok(2)
-        }
+/// The exit status of a check of the settings in a file.
+fn check_file(rt: &HostRuntime, config: String) -> io::Result<u8> {
+    let text = match read_text(rt, &Source::File(config)) {
+        Ok(text) => text,
+        Err(unready) => return report_unready(rt, unready),
+    };
+    match check(rt, text.as_str()) {
+        Ok(Ok(())) => Ok(0),
+        Ok(Err(error)) => report_unprinted(rt, error),
+        Err(unready) => report_unready(rt, unready),
     }
 }
 
 fn main(rt: HostRuntime) -> io::Result<ExitCode> {
     let status = match asked(&rt) {
-        Ok(Asked::Run) => report_run(&rt, run(&rt))?,
-        Ok(
-            Asked::Serve {
-                config,
-                affinity,
-                until,
-            },
-        ) => match prepare(&rt, config.as_str()) {
-            Ok(beginning) => {
-                let until = until.map(u64::from);
-                let alloc = rt.alloc();
-                let ended = serve::<Fast, Brand, HostRuntime>(
-                    &rt, alloc, beginning, affinity, until,
+        Ok(Asked::Run(reading)) => report_run(&rt, run(&rt, reading))?,
+        Ok(Asked::Check { config }) => check_file(&rt, config)?,
+        Ok(Asked::Serve(serving)) => match make_ready(&rt, &serving.source) {
+            Ok(
+                Ready {
+                    beginning,
+                    printing,
+                },
+            ) => {
+                let (alloc, affinity) = (rt.alloc(), serving.affinity);
+                let until = serving.until.map(u64::from);
+                let ended = serve::<Fast, Brand, HostRuntime, Printing<'_>>(
+                    &rt,
+                    alloc,
+                    beginning,
+                    affinity,
+                    until,
+                    serving.at_end,
+                    &printing,
                 );
                 report_served(&rt, ended)?
             }

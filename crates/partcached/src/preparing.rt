@@ -1,4 +1,6 @@
 //! What a server begins with: its settings, an empty cache for each user, and the hall's table.
+use crate::asking::Source;
+use crate::demo::SETTINGS;
 use std::alloc::AllocError;
 use std::hash::RandomState;
 use std::{fs, io};
@@ -7,15 +9,15 @@ use tc_kinds::begin_all;
 use tc_locked::Opened;
 use tc_net::Beginning;
 use tc_partition::Fast;
-use tc_users::{Settings, SettingsFault};
+use tc_users::{Address, Settings, SettingsFault};
 
-/// Why there is no server to begin.
-#[derive(Debug, Drop, Clone, Copy, PartialEq, Eq)]
+/// Why there is no server to begin, or settings say nothing.
+#[derive(Debug, Drop)]
 pub enum Unready {
     /// The settings are not there, or no text.
-    Unreadable,
-    /// The settings are refused, by the number of their fault.
-    Refused(u8),
+    Unreadable(io::Error),
+    /// The settings are refused.
+    Refused(SettingsFault),
     /// Memory or random words were refused.
     NoMemory,
 }
@@ -24,14 +26,14 @@ impl From<io::Error> for Unready {
     fn from(error: io::Error) -> Unready {
         match error.kind() {
             io::ErrorKind::OutOfMemory => Unready::NoMemory,
-            _ => Unready::Unreadable,
+            _ => Unready::Unreadable(error),
         }
     }
 }
 
 impl From<SettingsFault> for Unready {
     fn from(fault: SettingsFault) -> Unready {
-        Unready::Refused(fault.number())
+        Unready::Refused(fault)
     }
 }
 
@@ -47,11 +49,21 @@ impl From<AllocError> for Unready {
     }
 }
 
-/// Makes what the settings in a file ask for.
-pub fn prepare(rt: &HostRuntime, config: &str) -> Result<Beginning<Fast>, Unready> {
+/// The text of the settings.
+pub fn read_text(rt: &HostRuntime, source: &Source) -> Result<String, Unready> {
+    match source {
+        Source::File(path) => Ok(fs::read_to_string(rt, path.as_str())?),
+        Source::Demo(_) => Ok(String::from_str(rt.alloc(), SETTINGS)?),
+    }
+}
+
+/// Makes what the settings of this text ask for; a demo listens where its source says.
+pub fn prepare(rt: &HostRuntime, text: &str, source: &Source) -> Result<Beginning<Fast>, Unready> {
     let alloc = rt.alloc();
-    let text = fs::read_to_string(rt, config)?;
-    let settings = Settings::from_toml(alloc, text.as_str())?;
+    let mut settings = Settings::from_toml(alloc, text)?;
+    if let Source::Demo(listen) = source {
+        settings.listen = Address::copy(alloc, listen.as_str())?;
+    }
     let Ok(hasher) = RandomState::new(rt) else {
         return Err(Unready::NoMemory);
     };

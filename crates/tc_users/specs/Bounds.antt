@@ -20,3 +20,7 @@ smallest_page = 16
 -- the most entries of a journal's page
 abbrev pub largest_page : ℕ
 largest_page = 65536
+
+-- the entries of a journal's page where the settings say nothing
+abbrev pub default_page : ℕ
+default_page = 64

@@ -6,7 +6,7 @@ use Rattle.std.specs.List.{list_all}
 use Rattle.std.specs.Option.{option_or}
 use Rattle.toml.specs.Data.{Data, array, table, as_table, Members}
 use Rattle.tc_item.specs.Bounds.{largest_item}
-use Rattle.tc_users.specs.Bounds.{most_workers, smallest_page, largest_page}
+use Rattle.tc_users.specs.Bounds.{most_workers, smallest_page, largest_page, default_page}
 use Rattle.tc_users.specs.declared.settings.Settings.{Settings}
 use Rattle.tc_users.specs.declared.settings_fault.Field.TheVariants.{Listen, Workers, Journal, Users, Name, Token, Budget}
 use Rattle.tc_users.specs.declared.settings_fault.Field.TheVariants.{SecondToken, Largest}
@@ -116,10 +116,17 @@ abbrev pub workers_fault_in : Data → Option SettingsFault
 workers_fault_in d =
     option_or (missing_number_in Workers d) (range_fault 1 most_workers WorkersRange (number_in (field_in Workers d)))
 
--- the entries of a journal's page are there, and then in their range
+-- the entries of a journal's page; the default where nothing is said
+abbrev pub journal_in : Option Data → ℤ
+journal_in None = pos default_page
+journal_in (Some d) = number_in (Some d)
+
+-- the entries of a journal's page may be left out; where they are there, they are a whole number, and then in its range
 abbrev pub journal_fault_in : Data → Option SettingsFault
 journal_fault_in d =
-    option_or (missing_number_in Journal d) (range_fault smallest_page largest_page JournalRange (number_in (field_in Journal d)))
+    if_there (field_in Journal d)
+    (option_or (missing_number_in Journal d)
+    (range_fault smallest_page largest_page JournalRange (number_in (field_in Journal d))))
 
 -- the first fault of the table's own fields
 abbrev pub fields_fault : Data → Option SettingsFault
@@ -139,7 +146,7 @@ abbrev pub settings_in : Data → Settings
 settings_in d = record {
   listen = text_in (field_in Listen d);
   workers = nat_abs (number_in (field_in Workers d));
-  journal = nat_abs (number_in (field_in Journal d));
+  journal = nat_abs (journal_in (field_in Journal d));
   users = map row_in (tables_in d);
 }
 

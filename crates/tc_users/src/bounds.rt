@@ -14,3 +14,6 @@ pub const SMALLEST_PAGE: usize = 16;
 
 /// The most entries of a journal's page.
 pub const LARGEST_PAGE: usize = 65_536;
+
+/// The entries of a journal's page where the settings say nothing.
+pub const DEFAULT_PAGE: usize = 64;

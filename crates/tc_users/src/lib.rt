@@ -19,7 +19,9 @@ mod user_no;
 mod user_table;
 mod users;
 
-pub use bounds::{LARGEST_PAGE, LONGEST_NAME, LONGEST_TOKEN, MOST_WORKERS, SMALLEST_PAGE};
+pub use bounds::{
+    DEFAULT_PAGE, LARGEST_PAGE, LONGEST_NAME, LONGEST_TOKEN, MOST_WORKERS, SMALLEST_PAGE,
+};
 pub use settings::{Address, Settings};
 pub use settings_fault::{Field, Found, SettingsFault, TextFault};
 pub use text::Text;

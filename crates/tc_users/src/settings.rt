@@ -12,7 +12,9 @@ ghost use Rattle.tc_users.specs.SettingsTable.{AreSoundNumbers};
 
 use crate::fields::{find_field, found_of, read_number, read_text};
 use crate::user_table::read_rows;
-use crate::{Field, Found, LARGEST_PAGE, MOST_WORKERS, SMALLEST_PAGE, SettingsFault, Users};
+use crate::{
+    DEFAULT_PAGE, Field, Found, LARGEST_PAGE, MOST_WORKERS, SMALLEST_PAGE, SettingsFault, Users,
+};
 use std::alloc::Global;
 use std::marker::Model;
 use tc_item::NoMemory;
@@ -57,7 +59,7 @@ pub struct Settings {
     pub listen: Address,
     /// How many threads serve connections, 1 to 64.
     pub workers: usize,
-    /// How many entries a journal's page has, 16 to 65,536.
+    /// How many entries a journal's page has, 16 to 65,536; 64 where the text says nothing.
     pub journal: usize,
     /// At least one user.
     pub users: Users,
@@ -78,6 +80,9 @@ fn read_journal(table: &Value) -> Result<usize, SettingsFault>
     ensures fault { result_err result ≡ journal_fault_in (view table.now) }
     ensures journal { IfOk result (λ journal. journal ≡ (settings_in (view table.now)).journal) }
 {
+    if find_field(Field::Journal, table).is_none() {
+        return Ok(DEFAULT_PAGE);
+    }
     let found = read_number(Field::Journal, table)?;
     if found >= SMALLEST_PAGE as i64 && found <= LARGEST_PAGE as i64 {
         return Ok(found as usize);
