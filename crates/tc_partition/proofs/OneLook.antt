@@ -1,0 +1,159 @@
+-- Keys that are looked up, and noted where they were found.
+use Rattle.std.specs.Prelude.{max, map, nat_lt, option_map, option_to_list}
+use Rattle.std.proofs.Common.{◌≡◌, ℕ, zero, suc, ◌+◌, ◌≤◌, Bool, true, false, cond, List, [], ◌∷◌, ◌++◌, length, get_or, Option}
+use Rattle.std.proofs.Common.{Some, None, refl, sym, ◌∙◌, ap, subst, append_assoc, append-nil, arith}
+use Rattle.tc_item.specs.declared.slot.Slot.{Slot}
+use Rattle.tc_readbuf.specs.declared.noted.Noted.{Noted}
+use Rattle.tc_sketch.specs.Sketch.{hash}
+use Rattle.tc_plain.specs.declared.entry.Entry.{Entry}
+use Rattle.tc_plain.specs.Entries.{hit_of}
+use Rattle.tc_plain.specs.EvictionState.{EvictionState, held, advanced}
+use Rattle.tc_plain.specs.Doing.{looked_up, all_looked_up}
+use Rattle.tc_partition.specs.LiveSlots.{live_of}
+use Rattle.tc_partition.specs.declared.live_slots.LiveSlots.{LiveSlots}
+use Rattle.tc_partition.specs.Deferred.{Lazy, IsLazy, hit, settled, peeked}
+use Rattle.tc_plain.specs.AreaLists.{found_in}
+use Rattle.tc_readbuf.specs.Places.{places}
+use Rattle.tc_partition.specs.WaitingSlots.{lazy_by, ArePlaced, SeeksSlot, placed_in}
+use Rattle.tc_partition.specs.Seeking.{noted_of, all_noted, SeekSlots}
+use Rattle.tc_partition.specs.Delayed.{waits_next, waits_after}
+use Rattle.tc_partition.proofs.Deferral.{look_state, noted_lazy, raised_lazy, raised_settled}
+use Rattle.tc_partition.proofs.Draining.{IsPut, put_hit, put_miss}
+use Rattle.tc_partition.proofs.Sought.{held_then, placed_sought}
+
+put_found : (s : LiveSlots) (rs : List (Noted × ℕ)) (m : ℕ) (key : List ℕ) (place : Option Slot) → SeeksSlot place m key s
+    → ArePlaced s.held.slots rs → IsPut s rs m key (rs ++ (noted_of key place, m) ∷ [])
+put_found s rs m key None h p = put_miss s rs m key (hash key) refl h p
+put_found s rs m key (Some slot) h p = put_hit s rs m key slot h.0 h.1 h.2 h.3 p
+
+-- what is true once it waits, at the moment that the cache then comes to
+pub record IsLookedUp (s : LiveSlots) (rs : List (Noted × ℕ)) (before now : ℕ) (key : List ℕ) (rs' : List (Noted × ℕ)) (m : ℕ)
+    : Type 0 where
+  pub lazy : IsLazy (lazy_by s rs' m)
+  pub placed : ArePlaced s.held.slots rs'
+  pub settled : settled (lazy_by s rs' m) ≡ hit key (advanced (settled (lazy_by s rs before)) now)
+
+pub look_now : (s : LiveSlots) (rs : List (Noted × ℕ)) (before now : ℕ) (key : List ℕ) (place : Option Slot) (m : ℕ)
+    → m ≡ max before now → IsLazy (lazy_by s rs before) → ArePlaced s.held.slots rs → SeeksSlot place m key s
+    → IsLookedUp s rs before now key (rs ++ (noted_of key place, m) ∷ []) m
+look_now s rs before now key place m e h p at =
+    let up : IsLazy (lazy_by s rs m) =
+    subst (λ t. IsLazy (lazy_by s rs t)) (sym e) (raised_lazy (lazy_by s rs before) now h) in
+    let put = put_found s rs m key place at p in
+    record {
+      lazy = subst IsLazy (sym put.state) (noted_lazy (lazy_by s rs m) key up);
+      placed = put.placed;
+      settled = ap settled put.state ∙ look_state (lazy_by s rs m) key up
+          ∙ ap (hit key)
+          (ap (λ t. settled (lazy_by s rs t)) e ∙ raised_settled (lazy_by s rs before) now h);
+    }
+
+shown_alone : (o : Option Entry) (key : List ℕ) (l : EvictionState)
+    → option_to_list (option_map hit_of o) ≡ (looked_up (λ i. i) key o l).0 ++ []
+shown_alone None key l = refl
+shown_alone (Some e) key l = refl
+
+-- what it shows
+pub shown_now : (f : Lazy) (now m : ℕ) (key : List ℕ) (o : Option Entry) → IsLazy f → m ≡ max f.moment now
+    → o ≡ peeked m key f.base
+    → option_to_list (option_map hit_of o) ≡ (all_looked_up (λ i. i) (key ∷ []) (advanced (settled f) now)).0
+shown_now f now m key o h e seen =
+    let l : EvictionState = advanced (settled f) now in
+    ap (λ z. option_to_list (option_map hit_of z)) (seen ∙ sym (held_then f now m key h e))
+    ∙ shown_alone (held key l.areas) key l
+
+-- the same of keys, one after another, at the moment that the cache then comes to
+module _ (s : LiveSlots) (m : ℕ) where
+  pub record AreLookedUp (rs : List (Noted × ℕ)) (keys : List (List ℕ)) (rs' : List (Noted × ℕ)) : Type 0 where
+    pub lazy : IsLazy (lazy_by s rs' m)
+    pub placed : ArePlaced s.held.slots rs'
+    pub settled : settled (lazy_by s rs' m) ≡ (all_looked_up (λ i. i) keys (settled (lazy_by s rs m))).1
+
+  look_each : (rs : List (Noted × ℕ)) (keys : List (List ℕ)) (found : List (Option Slot)) → IsLazy (lazy_by s rs m)
+      → ArePlaced s.held.slots rs → SeekSlots m keys found s → AreLookedUp rs keys (rs ++ all_noted m keys found)
+  look_each rs [] found h p at =
+      subst (AreLookedUp rs []) (sym (append-nil rs)) (record { lazy = h; placed = p; settled = refl })
+  look_each rs (key ∷ keys) [] h p at = absurd at
+  look_each rs (key ∷ keys) (place ∷ found) h p at =
+      let r : Noted × ℕ = (noted_of key place, m) in
+      let put = put_found s rs m key place at.0 p in
+      let up : IsLazy (lazy_by s (rs ++ r ∷ []) m) = subst IsLazy (sym put.state) (noted_lazy (lazy_by s rs m) key h) in
+      let one : settled (lazy_by s (rs ++ r ∷ []) m) ≡ hit key (settled (lazy_by s rs m)) =
+      ap settled put.state ∙ look_state (lazy_by s rs m) key h in
+      let rest = look_each (rs ++ r ∷ []) keys found up put.placed at.1 in
+      subst (AreLookedUp rs (key ∷ keys)) (append_assoc rs (r ∷ []) (all_noted m keys found)) (record {
+        lazy = rest.lazy;
+        placed = rest.placed;
+        settled = rest.settled ∙ ap (λ l. (all_looked_up (λ i. i) keys l).1) one;
+      })
+
+pub look_all_now : (s : LiveSlots) (rs : List (Noted × ℕ)) (before now : ℕ) (keys : List (List ℕ)) (found : List (Option Slot))
+    (m : ℕ) → m ≡ max before now → IsLazy (lazy_by s rs before) → ArePlaced s.held.slots rs → SeekSlots m keys found s
+    → (let rs' = rs ++ all_noted m keys found in
+    IsLazy (lazy_by s rs' m) × ArePlaced s.held.slots rs'
+    × (settled (lazy_by s rs' m) ≡ (all_looked_up (λ i. i) keys (advanced (settled (lazy_by s rs before)) now)).1))
+look_all_now s rs before now keys found m e h p at =
+    let up : IsLazy (lazy_by s rs m) =
+    subst (λ t. IsLazy (lazy_by s rs t)) (sym e) (raised_lazy (lazy_by s rs before) now h) in
+    let all = look_each s m rs keys found up p at in (
+      all.lazy,
+      all.placed,
+      all.settled
+          ∙ ap (λ l. (all_looked_up (λ i. i) keys l).1)
+          (ap (λ t. settled (lazy_by s rs t)) e ∙ raised_settled (lazy_by s rs before) now h),
+    )
+
+-- what stands at the places is what the keys will hold
+pub found_sought : (m : ℕ) (keys : List (List ℕ)) (found : List (Option Slot)) (s : LiveSlots) → SeekSlots m keys found s
+    → map (placed_in s.held.slots) found ≡ found_in m keys (live_of s)
+found_sought m [] [] s h = refl
+found_sought m [] (p ∷ found) s h = absurd h
+found_sought m (k ∷ keys) [] s h = absurd h
+found_sought m (k ∷ keys) (p ∷ found) s h =
+    ap (λ o. o ∷ map (placed_in s.held.slots) found) (placed_sought p m k s h.0)
+    ∙ ap (λ os. peeked m k (live_of s) ∷ os) (found_sought m keys found s h.1)
+
+pub found_long : (m : ℕ) (keys : List (List ℕ)) (found : List (Option Slot)) (s : LiveSlots) → SeekSlots m keys found s
+    → length found ≡ length keys
+found_long m [] [] s h = refl
+found_long m [] (p ∷ found) s h = absurd h
+found_long m (k ∷ keys) [] s h = absurd h
+found_long m (k ∷ keys) (p ∷ found) s h = let rest = found_long m keys found s h.1 in omega (arith, rest)
+
+pub found_push : (m : ℕ) (keys : List (List ℕ)) (found : List (Option Slot)) (s : LiveSlots) (key : List ℕ) (place : Option Slot)
+    → SeekSlots m keys found s → SeeksSlot place m key s → SeekSlots m (keys ++ key ∷ []) (found ++ place ∷ []) s
+found_push m [] [] s key place h at = (at, tt)
+found_push m [] (p ∷ found) s key place h at = absurd h
+found_push m (k ∷ keys) [] s key place h at = absurd h
+found_push m (k ∷ keys) (p ∷ found) s key place h at = (h.0, found_push m keys found s key place h.1 at)
+
+pub noted_push : (m : ℕ) (keys : List (List ℕ)) (found : List (Option Slot)) (key : List ℕ) (place : Option Slot)
+    → length found ≡ length keys
+    → all_noted m (keys ++ key ∷ []) (found ++ place ∷ []) ≡ all_noted m keys found ++ (noted_of key place, m) ∷ []
+noted_push m [] [] key place e = refl
+noted_push m [] (p ∷ found) key place e = absurd (omega (arith, e))
+noted_push m (k ∷ keys) [] key place e = absurd (omega (arith, e))
+noted_push m (k ∷ keys) (p ∷ found) key place e =
+    ap (λ rs. (noted_of k p, m) ∷ rs) (noted_push m keys found key place (omega (arith, e)))
+
+pub noted_long : (m : ℕ) (keys : List (List ℕ)) (found : List (Option Slot)) → length found ≡ length keys
+    → length (all_noted m keys found) ≡ length keys
+noted_long m [] found e = refl
+noted_long m (k ∷ keys) [] e = absurd (omega (arith, e))
+noted_long m (k ∷ keys) (p ∷ found) e = let rest = noted_long m keys found (omega (arith, e)) in omega (arith, rest)
+
+-- how many wait where there is room for all
+pub waits_room : (k n : ℕ) → n + k ≤ places → waits_after k n ≡ n + k
+waits_room zero n h = omega arith
+waits_room (suc k) n h =
+    let before : waits_after k n ≡ n + k = waits_room k n (omega (arith, h)) in
+    ap waits_next before ∙ at (nat_lt (n + k) places) refl
+  where
+    at : (b : Bool) → nat_lt (n + k) places ≡ b → cond b (n + k + 1) 1 ≡ n + suc k
+    at true e = omega arith
+    at false e = absurd (grind (arith, e, h))
+
+pub alone : (keys : List (List ℕ)) (d : List ℕ) → length keys ≡ 1 → get_or keys 0 d ∷ [] ≡ keys
+alone [] d e = absurd (omega (arith, e))
+alone (k ∷ []) d e = refl
+alone (k ∷ j ∷ keys) d e = absurd (omega (arith, e))

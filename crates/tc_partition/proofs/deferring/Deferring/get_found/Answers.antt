@@ -1,0 +1,82 @@
+use Rattle.std.specs.Prelude.{length}
+use Rattle.std.proofs.Common.{◌≡◌, ◌++◌, sym, ◌∙◌, ap, subst, arith}
+use Rattle.std.proofs.lemmas.List.{length-append}
+use Rattle.tc_plain.specs.EvictionState.{advanced}
+use Rattle.tc_plain.specs.UserCache.{advance}
+use Rattle.tc_plain.specs.Doing.{with_live, all_looked_up}
+use Rattle.tc_partition.specs.Deferred.{IsLazy, settled}
+use Rattle.tc_partition.specs.WaitingSlots.{lazy_by, waiting_of, ArePlaced}
+use Rattle.tc_partition.specs.Seeking.{all_noted}
+use Rattle.tc_partition.specs.SlotCaches.{cache_of}
+use Rattle.tc_partition.specs.Delayed.{Delayed, settled_in, lazy_in}
+use Rattle.tc_partition.proofs.Joined.{peeked_hits}
+use Rattle.tc_partition.proofs.OneLook.{look_all_now, found_long, noted_long, waits_room}
+use Rattle.tc_partition.proofs.Tally.{length_map}
+use Rattle.tc_partition.proofs.deferring.Deferring.get_found.Goals as goal
+
+pub note_all_found-requires-clause-long : goal.note_all_found-requires-clause-long
+note_all_found-requires-clause-long c =
+    ap length c.as_slice.ensures
+    ∙ found_long c.later-moment.result c.args.keys.now c.in_ok-first.found.items c.self.inside.cache.live
+    c.in_ok-first.ensures.seen
+
+pub invariant_of-self : goal.invariant_of-self
+invariant_of-self c =
+    let i = c.self.inside in
+    let keys = c.args.keys.now in
+    let m = c.later-moment.result in
+    let found = c.in_ok-first.found.items in
+    let is : c.note_all_found.new.waiting ≡ i.waiting ++ all_noted m keys found =
+    c.note_all_found.ensures ∙ ap (λ f. i.waiting ++ all_noted m keys f) c.as_slice.ensures in
+    let all = look_all_now i.cache.live i.waiting i.moment c.args.now keys found m c.later-moment.ensures
+    c.self.invariant.lazy c.self.invariant.placed c.in_ok-first.ensures.seen in
+    record {
+      sound = c.self.invariant.sound;
+      lazy = subst (λ rs. IsLazy (lazy_by i.cache.live rs m)) (sym is) all.0;
+      placed = subst (ArePlaced i.cache.live.held.slots) (sym is) all.1;
+    }
+
+pub returns-clause-first : goal.returns-clause-first
+returns-clause-first c =
+    let i = c.self.inside in
+    let keys = c.args.keys.now in
+    c.in_ok-first.ensures.hits
+    ∙ peeked_hits (lazy_by i.cache.live i.waiting i.moment) c.args.now c.later-moment.result keys c.self.invariant.lazy
+    c.later-moment.ensures
+    ∙ ap (λ (z : Delayed). (all_looked_up (λ i. i) keys (advanced (settled (lazy_in z)) c.args.now)).0) c.self.view_is
+
+pub returns-clause-second : goal.returns-clause-second
+returns-clause-second c = c.in_ok-second.ensures ∙ returns-clause-first c
+
+pub returns-clause-state : goal.returns-clause-state
+returns-clause-state c =
+    let i = c.self.inside in
+    let keys = c.args.keys.now in
+    let m = c.later-moment.result in
+    let found = c.in_ok-first.found.items in
+    let is : c.note_all_found.new.waiting ≡ i.waiting ++ all_noted m keys found =
+    c.note_all_found.ensures ∙ ap (λ f. i.waiting ++ all_noted m keys f) c.as_slice.ensures in
+    let all = look_all_now i.cache.live i.waiting i.moment c.args.now keys found m c.later-moment.ensures
+    c.self.invariant.lazy c.self.invariant.placed c.in_ok-first.ensures.seen in
+    ap (with_live (cache_of i.cache)) (ap (λ rs. settled (lazy_by i.cache.live rs m)) is ∙ all.2)
+    ∙ ap (λ (z : Delayed). with_live (advance (settled_in z) c.args.now) (all_looked_up (λ i. i) keys
+    (advance (settled_in z) c.args.now).live).1)
+    c.self.view_is
+
+pub returns-clause-waits : goal.returns-clause-waits
+returns-clause-waits c =
+    let i = c.self.inside in
+    let keys = c.args.keys.now in
+    let m = c.later-moment.result in
+    let found = c.in_ok-first.found.items in
+    let is : c.note_all_found.new.waiting ≡ i.waiting ++ all_noted m keys found =
+    c.note_all_found.ensures ∙ ap (λ f. i.waiting ++ all_noted m keys f) c.as_slice.ensures in
+    let long = found_long m keys found i.cache.live c.in_ok-first.ensures.seen in
+    length_map _ c.note_all_found.new.waiting ∙ ap length is ∙ length-append i.waiting (all_noted m keys found)
+    ∙ omega (
+      arith,
+      noted_long m keys found long,
+      length_map (waiting_of i.cache.live.held.slots) i.waiting,
+      ap (λ (z : Delayed). length z.waiting) c.self.view_is,
+      waits_room (length keys) (length c.args.self.now.waiting) c.requires.room,
+    )
