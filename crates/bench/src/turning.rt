@@ -1,10 +1,10 @@
-//! How long the call of a hall takes that turns a page.
+//! How long the call of a hall takes that turns a page, on the average and at most.
 ghost use Rattle.std.specs.Prelude.{◌≡◌, ◌<◌, map};
 ghost use Rattle.tc_fresh.specs.Beginning.{fresh_cache};
 
 use crate::calling::{begin, call, store_all, users_of};
 use crate::fault::Fault;
-use crate::measuring::{Extent, Spent, Tally, Topic, print_spent};
+use crate::measuring::{Extent, Spent, Tally, Topic, print_spent, print_time};
 use std::hash::RandomState;
 use std::marker::Brand;
 use std::sync::Wait;
@@ -27,6 +27,13 @@ struct Load {
     turns: u32,
 }
 
+/// What the calls took that turned pages.
+#[derive(Clone, Copy)]
+struct Turns {
+    all: Duration,
+    longest: Duration,
+}
+
 const LIGHT: Load = Load {
     part: "hall",
     items: 20,
@@ -35,7 +42,7 @@ const LIGHT: Load = Load {
     turns: 3,
 };
 
-const LOADS: [Load; 3] = [
+const LOADS: [Load; 4] = [
     Load {
         part: "hall of 10000 items",
         items: 10_000,
@@ -56,6 +63,13 @@ const LOADS: [Load; 3] = [
         budget: 1 << 28,
         journal: 4_096,
         turns: 5,
+    },
+    Load {
+        part: "hall of 1000000 items, pages of 64",
+        items: 1_000_000,
+        budget: 1 << 28,
+        journal: 64,
+        turns: 100,
     },
 ];
 
@@ -81,7 +95,7 @@ fn time_turn<C: Cache, N: Naming, R: Wait>(
 }
 
 /// Has so many pages turned once the user holds all items, and says what the calls took that turned
-/// them.
+/// them. The first of these pages has notes of what was stored last.
 fn time_turns<C: Cache, N: Naming, R: Wait>(
     rt: &HostRuntime,
     waiting: &R,
@@ -89,17 +103,21 @@ fn time_turns<C: Cache, N: Naming, R: Wait>(
     seats: &mut Vec<Seat<N>>,
     command: &Command,
     load: Load,
-) -> Result<Duration, Fault> {
+) -> Result<Turns, Fault> {
     store_all(waiting, rt.alloc(), hall, seats, load.items)?;
     let Some(seat) = seats.first_mut() else {
         return Err(Fault::Unfit);
     };
-    let mut time = Duration::ZERO;
+    let mut turns = Turns {
+        all: Duration::ZERO,
+        longest: Duration::ZERO,
+    };
     for _ in 0..load.turns {
         let turn = time_turn(rt, waiting, hall, seat, command, load.journal)?;
-        time = time.saturating_add(turn);
+        turns.all = turns.all.saturating_add(turn);
+        turns.longest = turns.longest.max(turn);
     }
-    Ok(time)
+    Ok(turns)
 }
 
 /// Turns pages of the hall N, which begins so.
@@ -110,7 +128,7 @@ fn turn_hall<C: Cache, N: Naming, R: Wait>(
     begun: (Opened, Vec<C>),
     command: &Command,
     load: Load,
-) -> Result<Duration, Fault>
+) -> Result<Turns, Fault>
     requires name { begun.0 ≡ N.table }
     requires begins { N.terms.begins ≡ map fresh_cache users.now }
     requires caches { map C.settled begun.1.items ≡ map fresh_cache users.now }
@@ -129,12 +147,34 @@ fn turn_users<C: Kind, R: Wait>(
     users: &Users,
     command: &Command,
     load: Load,
-) -> Result<Duration, Fault> {
+) -> Result<Turns, Fault> {
     if load.journal == 0 {
         return Err(Fault::Unfit);
     }
     let begun = begin::<C>(rt.alloc(), users, RandomState::new(rt)?)?;
     turn_hall::<C, Brand, R>(rt, waiting, users, begun, command, load)
+}
+
+/// Prints what the longest of calls took that turned a page. Times are for a reader alone.
+fn report_longest(
+    rt: &HostRuntime,
+    longest: Duration,
+    load: Load,
+    extent: Extent,
+) -> Result<(), Fault> {
+    let topic = Topic {
+        part: load.part,
+        calls: "the longest call that turned a page",
+        sum: "items held",
+    };
+    let tally = Tally {
+        calls: 1,
+        sum: load.items,
+    };
+    match extent {
+        Extent::Counted => Ok(()),
+        Extent::Measured => print_time(rt, topic, longest, tally),
+    }
 }
 
 fn report_load<R: Wait>(
@@ -145,7 +185,7 @@ fn report_load<R: Wait>(
     extent: Extent,
 ) -> Result<(), Fault> {
     let users = users_of(rt.alloc(), 1, load.budget)?;
-    let time = turn_users::<Fast, R>(rt, waiting, &users, command, load)?;
+    let turns = turn_users::<Fast, R>(rt, waiting, &users, command, load)?;
     let topic = Topic {
         part: load.part,
         calls: "calls that turned a page",
@@ -155,7 +195,9 @@ fn report_load<R: Wait>(
         calls: load.turns,
         sum: load.items.wrapping_mul(load.turns),
     };
-    print_spent(rt, topic, Spent { time, tally }, extent)
+    let time = turns.all;
+    print_spent(rt, topic, Spent { time, tally }, extent)?;
+    report_longest(rt, turns.longest, load, extent)
 }
 
 /// Turns pages of halls whose user holds an item that `command` asks for, among others.
