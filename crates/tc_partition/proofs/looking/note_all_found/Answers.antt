@@ -1,5 +1,5 @@
-use Rattle.tc_readbuf.specs.declared.noted.Noted.{Noted}
-use Rattle.std.proofs.Common.{◌≡◌, ℕ, ◌<◌, ◌+◌, ◌∷◌, ◌++◌, [], List, None, Option, length, take, get_or, append_assoc, sym, ◌∙◌, ap, arith}
+use Rattle.std.proofs.Common.{◌≡◌, ℕ, ◌<◌, ◌+◌, ◌∷◌, ◌++◌, [], List, None, Option, length, take, get_or, append_assoc}
+use Rattle.std.proofs.Common.{sym, ◌∙◌, ap, arith}
 use Rattle.std.proofs.lemmas.List.{take_more, length-take-le, length-append}
 use Rattle.tc_item.specs.declared.slot.Slot.{Slot}
 use Rattle.tc_partition.specs.Seeking.{noted_of, all_noted}

@@ -1,4 +1,4 @@
-use Rattle.std.proofs.Common.{◌∷◌, ◌++◌, [], List, Option, ◌+◌, take, get_or, sym, ap, subst}
+use Rattle.std.proofs.Common.{◌∷◌, ◌++◌, [], List, Option, ◌+◌, take, get_or, sym, subst}
 use Rattle.std.proofs.lemmas.List.{take_more}
 use Rattle.tc_item.specs.declared.slot.Slot.{Slot}
 use Rattle.tc_partition.specs.WaitingSlots.{SeeksSlot}

@@ -1,6 +1,5 @@
 use Rattle.std.specs.Prelude.{length}
-use Rattle.std.proofs.Common.{◌∷◌, [], List, ℕ, sym, ◌∙◌, ap, subst, arith}
-use Rattle.tc_readbuf.specs.declared.noted.Noted.{Noted}
+use Rattle.std.proofs.Common.{◌∷◌, [], sym, ◌∙◌, ap, subst, arith}
 use Rattle.tc_plain.specs.EvictionState.{advanced}
 use Rattle.tc_plain.specs.UserCache.{advance}
 use Rattle.tc_plain.specs.Doing.{with_live, all_looked_up}
