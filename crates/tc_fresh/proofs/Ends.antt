@@ -13,7 +13,7 @@ use Rattle.tc_grammar.specs.declared.command.Command.TheVariants.{Store, Get, Ga
 use Rattle.tc_grammar.specs.declared.command.Command.TheVariants.{Version as AskVersion, Verbosity, Quit}
 use Rattle.tc_stats.specs.declared.outcome.Outcome.{Outcome}
 use Rattle.tc_stats.specs.declared.outcome.Outcome.TheVariants.{Stored, TooLarge, CasWorn, Exists, Number}
-use Rattle.tc_plain.specs.declared.entry.Entry.{Entry}
+use Rattle.tc_plain.specs.declared.shared.entry.Entry.{Entry}
 use Rattle.tc_plain.specs.EvictionState.{held}
 use Rattle.tc_plain.specs.UserCache.{UserCache, advance}
 use Rattle.tc_plain.specs.Storing.{Offered, Refused, offer_by, accepted, stored, changed, is_too_large, is_worn}

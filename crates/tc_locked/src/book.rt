@@ -11,7 +11,7 @@ ghost use Rattle.tc_locked.specs.declared.call_fault.CallFault.TheVariants.{Worn
 use crate::call_fault::CallFault;
 use crate::called::Called;
 use crate::entry::{Entry, Slip};
-use crate::old_entries::read_ahead;
+use crate::old_entries::prefetch;
 use std::alloc::Global;
 use std::marker::Model;
 use std::mem;
@@ -84,7 +84,7 @@ fn put(entries: &mut Vec<Entry>, used: usize, entry: Entry)
     ensures within { used + 1 ≤ length entries.new.items }
 {
     if used < entries.len() {
-        read_ahead(entries.as_slice(), used);
+        prefetch(entries.as_slice(), used);
         drop(mem::replace(&mut entries[used], entry));
     } else {
         entries.push_reserved(entry);

@@ -53,7 +53,7 @@ fn data_from(entries: &[Entry], from: usize) -> u64 {
 /// wait for the memory of each data, whose holders are counted by an atomic that no later read
 /// overtakes; these reads wait together. What they come to goes to an atomic, so that a compiler leaves
 /// them in.
-pub(crate) fn read_ahead(entries: &[Entry], from: usize) {
+pub(crate) fn prefetch(entries: &[Entry], from: usize) {
     let Some(entry) = entries.get(from) else {
         return;
     };

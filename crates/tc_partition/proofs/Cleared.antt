@@ -7,7 +7,7 @@ use Rattle.std.proofs.lemmas.List.{length-replicate}
 use Rattle.indexmap.specs.IndexMap.{IndexMap, get as index_get, index_map_len, spare}
 use Rattle.slab.specs.Slab.{Slab, get as slab_get, slab_len}
 use Rattle.tc_item.specs.declared.slot.Slot.{Slot}
-use Rattle.tc_plain.specs.declared.entry.Entry.{Entry}
+use Rattle.tc_plain.specs.declared.shared.entry.Entry.{Entry}
 use Rattle.tc_plain.specs.EvictionState.{no_entries}
 use Rattle.tc_slru.specs.SlotLists.{SlotLists, cleared}
 use Rattle.tc_wheel.specs.Dues.{Dues, due_at, cleared as untimed}

@@ -9,10 +9,10 @@ use Rattle.std.proofs.lemmas.Bool.{eqb-true, cases_lt, eq-eqb}
 use Rattle.std.proofs.lemmas.List.{get_or_append_left, get_or-append_right, get_or_past, take_all, get_or-set_same, get_or-set_other}
 use Rattle.std.proofs.lemmas.Bool.Decides.{eqb_tells}
 use Rattle.slab.specs.Slab.{Slab, get as slab_get}
-use Rattle.tc_plain.specs.declared.entry.Entry.{Entry}
-use Rattle.tc_plain.specs.declared.change.Change.{Change}
-use Rattle.tc_plain.specs.declared.change.Was.{Was}
-use Rattle.tc_plain.specs.declared.change.Was.TheVariants.{Held, Due}
+use Rattle.tc_plain.specs.declared.shared.entry.Entry.{Entry}
+use Rattle.tc_plain.specs.declared.shared.change.Change.{Change}
+use Rattle.tc_plain.specs.declared.shared.change.Was.{Was}
+use Rattle.tc_plain.specs.declared.shared.change.Was.TheVariants.{Held, Due}
 use Rattle.tc_partition.specs.Agreement.{set_at}
 use Rattle.tc_partition.specs.Undoing.{Noted, Notes, undo, undo_one, was_in, keeps_by, keeps, is_kept, is_told, back_by, level_by, IsNoted, IsLog}
 use Rattle.tc_partition.proofs.Undoing.{set_other, set_same, held_pushed, due_pushed}

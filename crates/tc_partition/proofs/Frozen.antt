@@ -5,7 +5,7 @@ use Rattle.std.proofs.Common.{ap, subst, arith}
 use Rattle.std.proofs.lemmas.List.{take_all}
 use Rattle.tc_model.specs.Areas.{Limits, total}
 use Rattle.tc_readbuf.specs.declared.noted.Noted.{Noted}
-use Rattle.tc_plain.specs.declared.entry.Entry.{Entry}
+use Rattle.tc_plain.specs.declared.shared.entry.Entry.{Entry}
 use Rattle.tc_plain.specs.Entries.{weight}
 use Rattle.tc_plain.specs.EvictionState.{EvictionState, advanced}
 use Rattle.tc_plain.specs.UserCache.{UserCache}

@@ -6,7 +6,7 @@ use Rattle.std.proofs.lemmas.List.Elements.{filter-append}
 use Rattle.std.proofs.lemmas.List.Sums.{sum_by-cons, sum_by-append}
 use Rattle.tc_model.specs.Areas.{Areas, accessed}
 use Rattle.tc_sketch.specs.Sketch.{Sketch, recorded, hash}
-use Rattle.tc_plain.specs.declared.entry.Entry.{Entry}
+use Rattle.tc_plain.specs.declared.shared.entry.Entry.{Entry}
 use Rattle.tc_plain.specs.Entries.{weight, lives, has_key}
 use Rattle.tc_plain.specs.EvictionState.{EvictionState, held, kept, entries_of}
 use Rattle.tc_plain.specs.Placing.{at_front, without_key, placed, used}

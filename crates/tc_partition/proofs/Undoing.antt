@@ -8,9 +8,9 @@ use Rattle.std.proofs.lemmas.List.Sums.{sum_by-cons}
 use Rattle.std.proofs.lemmas.List.{get_or-set_same, get_or-set_other}
 use Rattle.std.proofs.lemmas.Bool.{eq-eqb}
 use Rattle.std.proofs.lemmas.Bool.Decides.{eqb_tells}
-use Rattle.tc_plain.specs.declared.entry.Entry.{Entry}
-use Rattle.tc_plain.specs.declared.change.Change.{Change}
-use Rattle.tc_plain.specs.declared.change.Was.TheVariants.{Held, Due}
+use Rattle.tc_plain.specs.declared.shared.entry.Entry.{Entry}
+use Rattle.tc_plain.specs.declared.shared.change.Change.{Change}
+use Rattle.tc_plain.specs.declared.shared.change.Was.TheVariants.{Held, Due}
 use Rattle.tc_item.specs.declared.moment.Due.{Due as KeptDue}
 use Rattle.tc_plain.specs.Entries.{with_item, with_due}
 use Rattle.tc_partition.specs.Agreement.{set_at}

@@ -7,7 +7,7 @@ use Rattle.tc_item.specs.Bounds.{moment_limit}
 use Rattle.tc_item.specs.declared.moment.Due.{Due}
 use Rattle.tc_item.specs.declared.moment.Due.TheVariants.{Never, At}
 use Rattle.tc_item.specs.declared.slot.Slot.{Slot}
-use Rattle.tc_plain.specs.declared.entry.Entry.{Entry}
+use Rattle.tc_plain.specs.declared.shared.entry.Entry.{Entry}
 use Rattle.tc_slru.specs.Slots.{Placed, is_slot}
 use Rattle.tc_plain.specs.BySlot.{stray}
 

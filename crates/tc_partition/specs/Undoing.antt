@@ -2,10 +2,10 @@
 use Rattle.std.specs.Prelude.{Bool, true, false, ◌==◌, ◌||◌}
 use Rattle.std.specs.Prelude.{◌≡◌, ◌+◌, ◌≤◌, length, ℕ, List, [], ◌∷◌, Option, Some, None, option_map, slice_index_or, ◌<◌, ◌++◌, ◌⊎◌, ◌^◌}
 use Rattle.slab.specs.Slab.{Slab, get as slab_get, slab_len}
-use Rattle.tc_plain.specs.declared.entry.Entry.{Entry}
-use Rattle.tc_plain.specs.declared.change.Was.{Was}
-use Rattle.tc_plain.specs.declared.change.Was.TheVariants.{Held, Due}
-use Rattle.tc_plain.specs.declared.change.Change.{Change}
+use Rattle.tc_plain.specs.declared.shared.entry.Entry.{Entry}
+use Rattle.tc_plain.specs.declared.shared.change.Was.{Was}
+use Rattle.tc_plain.specs.declared.shared.change.Was.TheVariants.{Held, Due}
+use Rattle.tc_plain.specs.declared.shared.change.Change.{Change}
 use Rattle.tc_plain.specs.Then.{Then}
 use Rattle.tc_plain.specs.Entries.{with_item, with_due}
 use Rattle.tc_partition.specs.Agreement.{set_at}

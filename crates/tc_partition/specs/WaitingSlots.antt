@@ -3,7 +3,7 @@ use Rattle.std.specs.Prelude.{◌≡◌, ℕ, List, [], ◌∷◌, Option, Some,
 use Rattle.tc_item.specs.declared.slot.Slot.{Slot}
 use Rattle.tc_readbuf.specs.declared.noted.Noted.{Noted}
 use Rattle.tc_readbuf.specs.declared.noted.Noted.TheVariants.{Hit as HitNoted, Miss as MissNoted}
-use Rattle.tc_plain.specs.declared.entry.Entry.{Entry}
+use Rattle.tc_plain.specs.declared.shared.entry.Entry.{Entry}
 use Rattle.tc_plain.specs.EvictionState.{EvictionState, held}
 use Rattle.tc_plain.specs.BySlot.{entry_or}
 use Rattle.tc_partition.specs.Deferred.{Note, Hit, Miss, Waiting, Lazy, peeked}

@@ -7,7 +7,7 @@ ghost use Rattle.slab.specs.Slab.{get as slab_get, slab_len, HasRoomFor};
 ghost use Rattle.tc_past.specs.Told.{IsSamePage};
 ghost use Rattle.tc_slru.specs.SlotLists.{DropsNext};
 ghost use Rattle.tc_plain.specs.Entries.{weight, with_item, with_due};
-ghost use Rattle.tc_plain.specs.declared.entry.Entry.{Entry};
+ghost use Rattle.tc_plain.specs.declared.shared.entry.Entry.{Entry};
 ghost use Rattle.tc_wheel.specs.Dues.{due_at};
 ghost use Rattle.tc_plain.specs.BySlot.{entries_at};
 ghost use Rattle.tc_partition.specs.Agreement.{set_at, due_by};
@@ -280,7 +280,7 @@ pub fn add_copy(
 /// Reads what the next slots from a place on hold, and does nothing with it. To copy an entry is to
 /// wait for its memory, and then for its data's, whose holders are counted by an atomic that no
 /// later read overtakes.
-fn read_ahead(entries: &Slab<Entry>, slots: &[Slot], from: usize) {
+fn prefetch(entries: &Slab<Entry>, slots: &[Slot], from: usize) {
     let mut sum: u64 = 0;
     for place in from..from.saturating_add(AHEAD) {
         if let Some(slot) = slots.get(place) {
@@ -297,7 +297,7 @@ pub fn copy_at(alloc: Global, entries: &Slab<Entry>, slots: &[Slot]) -> Result<V
     let mut copied = Vec::with_capacity(alloc, slots.len())?;
     for (i, slot) in slots.iter().enumerate() {
         if i % AHEAD == 0 {
-            read_ahead(entries, slots, i + AHEAD);
+            prefetch(entries, slots, i + AHEAD);
         }
         add_copy(alloc, entries, slot, &mut copied)?;
     }

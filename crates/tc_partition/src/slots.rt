@@ -25,7 +25,7 @@ ghost use Rattle.tc_plain.specs.Soundness.{AreSound};
 ghost use Rattle.tc_plain.specs.Entries.{weight, has_key, lives, with_item, with_due};
 ghost use Rattle.tc_plain.specs.EvictionState.{held, kept, no_entries, entries_of};
 ghost use Rattle.tc_plain.specs.Placing.{without_key, at_front};
-ghost use Rattle.tc_plain.specs.declared.entry.Entry.{Entry};
+ghost use Rattle.tc_plain.specs.declared.shared.entry.Entry.{Entry};
 ghost use Rattle.tc_sketch.specs.Sketch.{hash};
 ghost use Rattle.tc_plain.specs.BySlot.{entry_or};
 ghost use Rattle.tc_partition.specs.Held.{filled, IsFound, FindsSlot, DropsEntry};

@@ -6,7 +6,7 @@ use Rattle.tc_model.specs.Caching.{IsLawful}
 use Rattle.tc_item.specs.declared.moment.Due.{Due}
 use Rattle.tc_item.specs.declared.moment.Due.TheVariants.{Never, At}
 use Rattle.tc_item.specs.Expiry.{is_before}
-use Rattle.tc_plain.specs.declared.entry.Entry.{Entry}
+use Rattle.tc_plain.specs.declared.shared.entry.Entry.{Entry}
 use Rattle.tc_plain.specs.Entries.{lives}
 use Rattle.tc_plain.specs.EvictionState.{EvictionState, no_entries, kept, is_flush_due, at_moment, advanced}
 use Rattle.tc_plain.specs.Doing.{done, with_note}

@@ -13,7 +13,7 @@ use Rattle.tc_item.specs.declared.moment.Due.{Due}
 use Rattle.tc_item.specs.declared.item.Item.{Item}
 use Rattle.tc_item.specs.Expiry.{is_before}
 use Rattle.tc_stats.specs.declared.hits.Hit.{Hit}
-use Rattle.tc_plain.specs.declared.entry.Entry.{Entry}
+use Rattle.tc_plain.specs.declared.shared.entry.Entry.{Entry}
 use Rattle.tc_plain.specs.Entries.{weight, lives, has_key, hit_of, with_item}
 use Rattle.tc_plain.specs.EvictionState.{EvictionState, held, entries_of, kept, no_entries, is_flush_due, at_moment}
 use Rattle.tc_plain.specs.Placing.{seen, at_front, put_in, without_key, placed, used}

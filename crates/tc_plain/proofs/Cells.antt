@@ -9,7 +9,7 @@ use Rattle.tc_item.specs.declared.item.Item.{Item}
 use Rattle.tc_item.specs.Expiry.{is_before}
 use Rattle.tc_grammar.specs.declared.command.Command.{Command}
 use Rattle.tc_stats.specs.declared.outcome.Outcome.{Outcome}
-use Rattle.tc_plain.specs.declared.entry.Entry.{Entry}
+use Rattle.tc_plain.specs.declared.shared.entry.Entry.{Entry}
 use Rattle.tc_plain.specs.Entries.{lives}
 use Rattle.tc_plain.specs.EvictionState.{EvictionState, kept, no_entries, is_flush_due, at_moment}
 use Rattle.tc_plain.specs.UserCache.{UserCache, fresh, advance}

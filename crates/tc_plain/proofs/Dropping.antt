@@ -12,8 +12,8 @@ use Rattle.tc_model.proofs.Last.{fitting_all, fitting_last, beyond_last, shortes
 use Rattle.tc_model.proofs.Steps.{areas_by, beyond_none, none_shortest, without_none, Popped, popped_probation, popped_protected}
 use Rattle.tc_model.proofs.Totals.{total-demoted, total-without_last, total-admitted}
 use Rattle.tc_model.proofs.Within.{sum-reverse}
-use Rattle.tc_plain.specs.declared.entry.Entry.{Entry}
-use Rattle.tc_plain.specs.declared.areas.Areas.{Areas as AreaLists}
+use Rattle.tc_plain.specs.declared.shared.entry.Entry.{Entry}
+use Rattle.tc_plain.specs.declared.reference.areas.Areas.{Areas as AreaLists}
 use Rattle.tc_plain.specs.Entries.{weight}
 use Rattle.tc_sketch.specs.Sketch.{Sketch}
 use Rattle.tc_plain.specs.AreaLists.{areas_of, HasRoom, IsPopped, frequency_in}

@@ -2,7 +2,7 @@
 use Rattle.std.specs.Prelude.{filter, option_map, find, ◌&&◌}
 use Rattle.std.proofs.Common.{◌≡◌, ℕ, zero, suc, Bool, true, false, cond, List, [], ◌∷◌, get_or, Option, Some, None, refl, arith}
 use Rattle.tc_model.specs.Place.{first_place}
-use Rattle.tc_plain.specs.declared.entry.Entry.{Entry}
+use Rattle.tc_plain.specs.declared.shared.entry.Entry.{Entry}
 use Rattle.tc_plain.specs.Entries.{lives, has_key}
 
 -- an entry is alive and under this key

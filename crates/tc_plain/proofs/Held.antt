@@ -7,7 +7,7 @@ use Rattle.std.proofs.lemmas.Slice.Eq.{bytes_eq-Decides}
 use Rattle.tc_model.specs.Areas.{Areas, Limits, accessed}
 use Rattle.tc_model.proofs.Every.{Every, Every-append, Every-filter, EveryIn, EveryIn-weaker, EveryIn-accessed}
 use Rattle.tc_item.specs.declared.item.Item.{Item}
-use Rattle.tc_plain.specs.declared.entry.Entry.{Entry}
+use Rattle.tc_plain.specs.declared.shared.entry.Entry.{Entry}
 use Rattle.tc_plain.specs.Entries.{lives, weight, has_key}
 use Rattle.tc_plain.specs.EvictionState.{EvictionState, held, entries_of}
 use Rattle.tc_plain.specs.Placing.{at_front, put_in, without_key, placed}

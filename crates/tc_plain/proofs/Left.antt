@@ -17,7 +17,7 @@ use Rattle.tc_grammar.specs.declared.command.Command.TheVariants.{Store, Get, Ga
 use Rattle.tc_grammar.specs.declared.command.Command.TheVariants.{Version as AskVersion, Verbosity, Quit}
 use Rattle.tc_stats.specs.declared.outcome.Outcome.{Outcome}
 use Rattle.tc_stats.specs.declared.outcome.Outcome.TheVariants.{Stored, TooLarge, CasWorn}
-use Rattle.tc_plain.specs.declared.entry.Entry.{Entry}
+use Rattle.tc_plain.specs.declared.shared.entry.Entry.{Entry}
 use Rattle.tc_plain.specs.Entries.{weight, lives, has_key, with_item, with_due}
 use Rattle.tc_plain.specs.EvictionState.{EvictionState, no_entries, held, kept, is_flush_due, at_moment, advanced}
 use Rattle.tc_plain.specs.Placing.{frequency, at_front, placed, used}

@@ -7,7 +7,7 @@ use Rattle.std.proofs.lemmas.Slice.Eq.{bytes_eq-Decides}
 use Rattle.tc_model.proofs.Every.{Every, Every-weaker}
 use Rattle.tc_item.specs.declared.item.Item.{Item}
 use Rattle.tc_stats.specs.declared.hits.Hit.{Hit}
-use Rattle.tc_plain.specs.declared.entry.Entry.{Entry}
+use Rattle.tc_plain.specs.declared.shared.entry.Entry.{Entry}
 use Rattle.tc_plain.specs.Entries.{shown_as, hit_of, with_item}
 use Rattle.tc_plain.specs.EvictionState.{EvictionState, held}
 use Rattle.tc_plain.specs.Placing.{seen, used}

@@ -7,10 +7,10 @@ use Rattle.tc_item.specs.declared.moment.Due.{Due}
 use Rattle.tc_grammar.specs.declared.command.Head.{Head}
 use Rattle.tc_stats.specs.declared.outcome.Outcome.{Outcome}
 use Rattle.tc_stats.specs.declared.outcome.Outcome.TheVariants.{CasWorn}
-use Rattle.tc_plain.specs.declared.entry.Entry.{Entry}
-use Rattle.tc_plain.specs.declared.offers.Bid.{Bid}
-use Rattle.tc_plain.specs.declared.plans.Plan.{Plan}
-use Rattle.tc_plain.specs.declared.plans.Plan.TheVariants.{Ends, Changes}
+use Rattle.tc_plain.specs.declared.shared.entry.Entry.{Entry}
+use Rattle.tc_plain.specs.declared.shared.offers.Bid.{Bid}
+use Rattle.tc_plain.specs.declared.shared.plans.Plan.{Plan}
+use Rattle.tc_plain.specs.declared.shared.plans.Plan.TheVariants.{Ends, Changes}
 use Rattle.tc_plain.specs.Entries.{weight}
 use Rattle.tc_plain.specs.EvictionState.{limits_of, held, at_moment}
 use Rattle.tc_plain.specs.Placing.{without_key}

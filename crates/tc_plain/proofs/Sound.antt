@@ -10,7 +10,7 @@ use Rattle.tc_model.proofs.Every.{Every, Every-filter, every_of_all, all_of_ever
 use Rattle.tc_model.proofs.Within.{settles_within, settles_once}
 use Rattle.tc_model.proofs.Accessed.{accessed_within}
 use Rattle.tc_model.proofs.Totals.{sum-filter-le, total-settle, total-accessed}
-use Rattle.tc_plain.specs.declared.entry.Entry.{Entry}
+use Rattle.tc_plain.specs.declared.shared.entry.Entry.{Entry}
 use Rattle.tc_plain.specs.Entries.{weight, lives, has_key, with_item}
 use Rattle.tc_plain.specs.EvictionState.{EvictionState, kept, held, entries_of, no_entries, is_flush_due, at_moment}
 use Rattle.tc_plain.specs.Placing.{frequency, at_front, put_in, without_key, placed, used}

@@ -21,7 +21,7 @@ use Rattle.tc_grammar.specs.declared.command.Command.TheVariants.{Store, Get, Ga
 use Rattle.tc_grammar.specs.declared.command.Command.TheVariants.{Version as AskVersion, Verbosity, Quit}
 use Rattle.tc_stats.specs.declared.outcome.Outcome.{Outcome}
 use Rattle.tc_stats.specs.declared.outcome.Outcome.TheVariants.{Stored, Number, TooLarge, CasWorn}
-use Rattle.tc_plain.specs.declared.entry.Entry.{Entry}
+use Rattle.tc_plain.specs.declared.shared.entry.Entry.{Entry}
 use Rattle.tc_plain.specs.Entries.{weight, with_item, with_due, with_data}
 use Rattle.tc_plain.specs.EvictionState.{EvictionState, limits_of, held, at_moment}
 use Rattle.tc_plain.specs.Placing.{seen, frequency, used}

@@ -18,7 +18,7 @@ use Rattle.tc_grammar.specs.declared.command.Command.TheVariants.{Version as Ask
 use Rattle.tc_stats.specs.declared.outcome.Outcome.{Outcome}
 use Rattle.tc_stats.specs.declared.outcome.Outcome.TheVariants.{Stored, Exists, NotFound, Deleted, Touched, Number, TooLarge}
 use Rattle.tc_stats.specs.declared.outcome.Outcome.TheVariants.{CasWorn}
-use Rattle.tc_plain.specs.declared.entry.Entry.{Entry}
+use Rattle.tc_plain.specs.declared.shared.entry.Entry.{Entry}
 use Rattle.tc_plain.specs.Entries.{weight, with_item, with_due, with_data}
 use Rattle.tc_plain.specs.EvictionState.{held}
 use Rattle.tc_plain.specs.Placing.{frequency, used}

@@ -2,7 +2,7 @@
 use Rattle.std.specs.Prelude.{find, ◌||◌}
 use Rattle.std.proofs.Common.{◌≡◌, ℕ, Bool, true, false, cond, List, [], ◌∷◌, ◌++◌, Some, None, refl, sym, ◌∙◌, arith}
 use Rattle.tc_model.specs.Areas.{Areas, is_in}
-use Rattle.tc_plain.specs.declared.entry.Entry.{Entry}
+use Rattle.tc_plain.specs.declared.shared.entry.Entry.{Entry}
 use Rattle.tc_plain.specs.Entries.{has_key}
 use Rattle.tc_plain.specs.EvictionState.{held}
 

@@ -9,7 +9,7 @@ use Rattle.tc_model.proofs.Totals.{sum-filter-le, total-accessed}
 use Rattle.tc_sketch.specs.Sketch.{Sketch, recorded, hash}
 use Rattle.tc_item.specs.declared.moment.Due.{Due}
 use Rattle.tc_item.specs.declared.item.Item.{Item}
-use Rattle.tc_plain.specs.declared.entry.Entry.{Entry}
+use Rattle.tc_plain.specs.declared.shared.entry.Entry.{Entry}
 use Rattle.tc_plain.specs.Entries.{weight, lives, has_key, with_item}
 use Rattle.tc_plain.specs.EvictionState.{EvictionState, held, entries_of, kept, no_entries, is_flush_due, at_moment}
 use Rattle.tc_plain.specs.Placing.{seen, at_front, put_in, without_key, placed, used}

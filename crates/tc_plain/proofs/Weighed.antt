@@ -5,8 +5,8 @@ use Rattle.std.proofs.lemmas.List.Sums.{sum_by-cons, sum_by_push}
 use Rattle.tc_model.specs.Areas.{Areas, Limits, fitting, beyond, demoted, total}
 use Rattle.tc_model.proofs.Last.{fitting_all, fitting_last, beyond_last}
 use Rattle.tc_model.proofs.Steps.{areas_by, beyond_none}
-use Rattle.tc_plain.specs.declared.entry.Entry.{Entry}
-use Rattle.tc_plain.specs.declared.areas.Areas.{Areas as AreaLists}
+use Rattle.tc_plain.specs.declared.shared.entry.Entry.{Entry}
+use Rattle.tc_plain.specs.declared.reference.areas.Areas.{Areas as AreaLists}
 use Rattle.tc_plain.specs.Entries.{weight}
 use Rattle.tc_plain.specs.AreaLists.{areas_of, count_of}
 

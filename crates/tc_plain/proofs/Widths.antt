@@ -4,7 +4,7 @@ use Rattle.std.specs.Prelude.{ℕ, ◌+◌, Bool, true, false, cond, List, [], �
 use Rattle.std.proofs.Common.{◌≡◌, refl, ◌∙◌}
 use Rattle.tc_sketch.specs.Sketch.{Sketch, empty_sketch, hash, aged, recorded, halved, raised, place0, place1, place2, place3}
 use Rattle.tc_item.specs.declared.item.Item.{Item}
-use Rattle.tc_plain.specs.declared.entry.Entry.{Entry}
+use Rattle.tc_plain.specs.declared.shared.entry.Entry.{Entry}
 use Rattle.tc_plain.specs.Entries.{lives}
 use Rattle.tc_plain.specs.EvictionState.{EvictionState, held, kept, no_entries, is_flush_due, at_moment}
 use Rattle.tc_plain.specs.Doing.{looked_up, all_looked_up}

@@ -6,11 +6,11 @@ use Rattle.tc_sketch.specs.Sketch.{Sketch, freq, hash}
 use Rattle.tc_item.specs.declared.moment.Due.{Due}
 use Rattle.tc_item.specs.declared.item.Item.{Item}
 use Rattle.tc_item.specs.Expiry.{is_before}
-use Rattle.tc_plain.specs.declared.entry.Entry.{Entry}
-use Rattle.tc_plain.specs.declared.areas.Areas.{Areas as AreaLists}
-use Rattle.tc_plain.specs.declared.areas.Origin.{Origin}
-use Rattle.tc_plain.specs.declared.areas.Origin.TheVariants.{Window, Main}
-use Rattle.tc_plain.specs.declared.eviction_state.EvictionState.{EvictionState as LiveLists}
+use Rattle.tc_plain.specs.declared.shared.entry.Entry.{Entry}
+use Rattle.tc_plain.specs.declared.reference.areas.Areas.{Areas as AreaLists}
+use Rattle.tc_plain.specs.declared.reference.areas.Origin.{Origin}
+use Rattle.tc_plain.specs.declared.reference.areas.Origin.TheVariants.{Window, Main}
+use Rattle.tc_plain.specs.declared.reference.eviction_state.EvictionState.{EvictionState as LiveLists}
 use Rattle.tc_plain.specs.Entries.{with_due}
 use Rattle.tc_plain.specs.EvictionState.{EvictionState, at_moment, held}
 

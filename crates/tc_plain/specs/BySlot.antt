@@ -5,7 +5,7 @@ use Rattle.tc_model.specs.Mapped.{map_areas}
 use Rattle.tc_item.specs.declared.slot.Slot.{Slot}
 use Rattle.tc_item.specs.declared.moment.Due.TheVariants.{Never}
 use Rattle.tc_slru.specs.Slots.{Placed}
-use Rattle.tc_plain.specs.declared.entry.Entry.{Entry}
+use Rattle.tc_plain.specs.declared.shared.entry.Entry.{Entry}
 use Rattle.tc_plain.specs.Entries.{weight}
 
 -- what a slot holds; where it holds nothing, an entry of no key

@@ -15,7 +15,7 @@ use Rattle.tc_stats.specs.declared.outcome.Outcome.{Outcome}
 use Rattle.tc_stats.specs.declared.outcome.Outcome.TheVariants.{NotFound, Deleted, Touched, Number, Values, Done, Stats, Version}
 use Rattle.tc_stats.specs.declared.outcome.Outcome.TheVariants.{NotNumeric, CasWorn}
 use Rattle.tc_stats.specs.UserCounters.{noted}
-use Rattle.tc_plain.specs.declared.entry.Entry.{Entry}
+use Rattle.tc_plain.specs.declared.shared.entry.Entry.{Entry}
 use Rattle.tc_plain.specs.Entries.{weight, hit_of, with_item, with_due, with_data}
 use Rattle.tc_plain.specs.EvictionState.{EvictionState, no_entries, entries_of, held}
 use Rattle.tc_plain.specs.Placing.{seen, without_key, used}

@@ -7,7 +7,7 @@ use Rattle.tc_item.specs.declared.item.Item.{Item}
 use Rattle.tc_item.specs.Expiry.{is_before}
 use Rattle.tc_item.specs.Weight.{weight_of}
 use Rattle.tc_stats.specs.declared.hits.Hit.{Hit}
-use Rattle.tc_plain.specs.declared.entry.Entry.{Entry}
+use Rattle.tc_plain.specs.declared.shared.entry.Entry.{Entry}
 
 -- what an entry weighs
 abbrev pub weight : Entry → ℕ

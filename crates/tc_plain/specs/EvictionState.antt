@@ -3,7 +3,7 @@
 use Rattle.std.specs.Prelude.{ℕ, ◌-◌, ◌*◌, ◌/◌, cond, nat_le, max, Bool, false, List, [], ◌++◌, Option, Some, None, filter, find}
 use Rattle.tc_model.specs.Areas.{Areas, Limits}
 use Rattle.tc_sketch.specs.Sketch.{Sketch}
-use Rattle.tc_plain.specs.declared.entry.Entry.{Entry}
+use Rattle.tc_plain.specs.declared.shared.entry.Entry.{Entry}
 use Rattle.tc_plain.specs.Entries.{lives, has_key}
 
 -- what look-ups touch of a user's cache

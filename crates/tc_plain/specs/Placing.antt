@@ -2,7 +2,7 @@
 use Rattle.std.specs.Prelude.{ℕ, cond, not, is_some, List, ◌∷◌}
 use Rattle.tc_model.specs.Areas.{Areas, Limits, accessed}
 use Rattle.tc_sketch.specs.Sketch.{recorded, freq, hash}
-use Rattle.tc_plain.specs.declared.entry.Entry.{Entry}
+use Rattle.tc_plain.specs.declared.shared.entry.Entry.{Entry}
 use Rattle.tc_plain.specs.Entries.{weight, lives, has_key}
 use Rattle.tc_plain.specs.EvictionState.{EvictionState, held, kept}
 

@@ -6,17 +6,17 @@ use Rattle.tc_item.specs.Weight.{weight_of}
 use Rattle.tc_stats.specs.declared.outcome.Outcome.{Outcome}
 use Rattle.tc_stats.specs.declared.outcome.Outcome.TheVariants.{Stored, NotStored, Exists, NotFound, Deleted, Touched, Number}
 use Rattle.tc_stats.specs.declared.outcome.Outcome.TheVariants.{Done, Version, TooLarge, NotNumeric, CasWorn}
-use Rattle.tc_plain.specs.declared.end.End.{End}
-use Rattle.tc_plain.specs.declared.end.End.TheVariants.{Stored as StoredEnd, NotStored as NotStoredEnd, Exists as ExistsEnd}
-use Rattle.tc_plain.specs.declared.end.End.TheVariants.{NotFound as NotFoundEnd, Deleted as DeletedEnd, Touched as TouchedEnd}
-use Rattle.tc_plain.specs.declared.end.End.TheVariants.{Number as NumberEnd, Done as DoneEnd, Version as VersionEnd}
-use Rattle.tc_plain.specs.declared.end.End.TheVariants.{TooLarge as TooLargeEnd, NotNumeric as NotNumericEnd}
-use Rattle.tc_plain.specs.declared.end.End.TheVariants.{CasWorn as CasWornEnd}
-use Rattle.tc_plain.specs.declared.plans.Plan.{Plan}
-use Rattle.tc_plain.specs.declared.plans.Plan.TheVariants.{Ends, Changes}
-use Rattle.tc_plain.specs.declared.offers.Draft.{Draft}
-use Rattle.tc_plain.specs.declared.offers.Bid.{Bid}
-use Rattle.tc_plain.specs.declared.offers.Bid.TheVariants.{Refused as RefusedBid, Offered as OfferedBid}
+use Rattle.tc_plain.specs.declared.shared.end.End.{End}
+use Rattle.tc_plain.specs.declared.shared.end.End.TheVariants.{Stored as StoredEnd, NotStored as NotStoredEnd, Exists as ExistsEnd}
+use Rattle.tc_plain.specs.declared.shared.end.End.TheVariants.{NotFound as NotFoundEnd, Deleted as DeletedEnd, Touched as TouchedEnd}
+use Rattle.tc_plain.specs.declared.shared.end.End.TheVariants.{Number as NumberEnd, Done as DoneEnd, Version as VersionEnd}
+use Rattle.tc_plain.specs.declared.shared.end.End.TheVariants.{TooLarge as TooLargeEnd, NotNumeric as NotNumericEnd}
+use Rattle.tc_plain.specs.declared.shared.end.End.TheVariants.{CasWorn as CasWornEnd}
+use Rattle.tc_plain.specs.declared.shared.plans.Plan.{Plan}
+use Rattle.tc_plain.specs.declared.shared.plans.Plan.TheVariants.{Ends, Changes}
+use Rattle.tc_plain.specs.declared.shared.offers.Draft.{Draft}
+use Rattle.tc_plain.specs.declared.shared.offers.Bid.{Bid}
+use Rattle.tc_plain.specs.declared.shared.offers.Bid.TheVariants.{Refused as RefusedBid, Offered as OfferedBid}
 use Rattle.tc_plain.specs.UserCache.{UserCache}
 use Rattle.tc_plain.specs.Storing.{Offer, Refused, Offered, is_worn, changed}
 

@@ -7,7 +7,7 @@ use Rattle.tc_item.specs.declared.item.Item.{Item}
 use Rattle.tc_sketch.specs.Sketch.{width_of}
 use Rattle.tc_grammar.specs.declared.command.Command.{Command}
 use Rattle.tc_grammar.specs.declared.command.Command.TheVariants.{Count}
-use Rattle.tc_plain.specs.declared.entry.Entry.{Entry}
+use Rattle.tc_plain.specs.declared.shared.entry.Entry.{Entry}
 use Rattle.tc_plain.specs.Entries.{weight, has_key, with_item}
 use Rattle.tc_plain.specs.EvictionState.{limits_of, entries_of, held}
 use Rattle.tc_plain.specs.Placing.{used, frequency}

@@ -12,7 +12,7 @@ use Rattle.tc_grammar.specs.declared.command.Head.{Head}
 use Rattle.tc_stats.specs.declared.outcome.Outcome.{Outcome}
 use Rattle.tc_stats.specs.declared.outcome.Outcome.TheVariants.{Stored, NotStored, Exists, NotFound, TooLarge, CasWorn}
 use Rattle.tc_stats.specs.UserCounters.{more}
-use Rattle.tc_plain.specs.declared.entry.Entry.{Entry}
+use Rattle.tc_plain.specs.declared.shared.entry.Entry.{Entry}
 use Rattle.tc_plain.specs.Entries.{weight, with_data}
 use Rattle.tc_plain.specs.EvictionState.{held}
 use Rattle.tc_plain.specs.Placing.{frequency, used}

@@ -2,7 +2,7 @@ use Rattle.std.specs.Prelude.{length}
 use Rattle.std.proofs.Common.{◌∙◌, ap}
 use Rattle.tc_model.specs.Areas.{Areas, Limits, settle}
 use Rattle.tc_stats.specs.UserCounters.{more}
-use Rattle.tc_plain.specs.declared.entry.Entry.{Entry}
+use Rattle.tc_plain.specs.declared.shared.entry.Entry.{Entry}
 use Rattle.tc_plain.specs.Entries.{weight}
 use Rattle.tc_plain.specs.EvictionState.{EvictionState}
 use Rattle.tc_plain.specs.Placing.{frequency}

@@ -1,6 +1,6 @@
 use Rattle.std.specs.Prelude.{◌==◌, slice_index_or}
 use Rattle.std.proofs.Common.{◌≡◌, ℕ, List, true, sym, subst, ◌⊎◌}
-use Rattle.tc_plain.specs.declared.change.Change.{Change}
+use Rattle.tc_plain.specs.declared.shared.change.Change.{Change}
 use Rattle.tc_partition.specs.Undoing.{IsLog}
 use Rattle.tc_partition.proofs.FirstChange.{log_noted}
 use Rattle.tc_partition.proofs.log.Log.note.Goals as goal

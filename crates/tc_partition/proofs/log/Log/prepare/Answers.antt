@@ -1,5 +1,5 @@
 use Rattle.std.proofs.Common.{List, sym, subst}
-use Rattle.tc_plain.specs.declared.change.Change.{Change}
+use Rattle.tc_plain.specs.declared.shared.change.Change.{Change}
 use Rattle.tc_partition.specs.Undoing.{IsLog}
 use Rattle.tc_partition.proofs.FirstChange.{log_begun}
 use Rattle.tc_partition.proofs.log.Log.prepare.Goals as goal

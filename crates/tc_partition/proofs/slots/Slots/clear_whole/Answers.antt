@@ -7,7 +7,7 @@ use Rattle.std.proofs.Common.{List, Option, None, subst}
 use Rattle.std.proofs.lemmas.List.{length-replicate}
 use Rattle.slab.specs.Slab.{slab_len}
 use Rattle.tc_wheel.specs.Dues.{Dues}
-use Rattle.tc_plain.specs.declared.entry.Entry.{Entry}
+use Rattle.tc_plain.specs.declared.shared.entry.Entry.{Entry}
 use Rattle.tc_partition.specs.Undoing.{AreNoted}
 use Rattle.tc_partition.proofs.Undoing.{logged_all, none_counts}
 use Rattle.tc_past.specs.Told.{Told}

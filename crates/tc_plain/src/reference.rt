@@ -1,0 +1,14 @@
+//! The reference: one user's cache as the definition has it, three lists with nothing deferred.
+//!
+//! It looks through its entries at each command, so no server runs it. `partcached run --reference` and
+//! the audit of a page do, and tests hold the served cache against it.
+
+pub(crate) mod areas;
+pub(crate) mod eviction_state;
+pub(crate) mod limits;
+pub(crate) mod lists;
+pub(crate) mod look_ups;
+pub(crate) mod lookup;
+pub(crate) mod paged_plain;
+pub(crate) mod plain;
+pub(crate) mod settling;

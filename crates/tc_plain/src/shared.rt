@@ -1,0 +1,16 @@
+//! What every cache shares of a command: the law that it keeps (`Cache`), the entry under a key, which
+//! work each command is (`Commands`, `act`), what a storage line offers (`offer`), what a command will
+//! do (`Plan`), how it ends (`End`), the hits that it shows, and what the turn of a page leaves over.
+//!
+//! The cache that a server runs (`tc_partition`) and the reference keep these alike. Nothing here looks
+//! through a list of entries.
+
+pub(crate) mod cache;
+pub(crate) mod change;
+pub(crate) mod commands;
+pub(crate) mod end;
+pub(crate) mod entry;
+pub(crate) mod hits;
+pub(crate) mod left_over;
+pub(crate) mod offers;
+pub(crate) mod plans;
