@@ -1,22 +1,36 @@
 //! Books under locks: what each thread did to one user's cache is a history of that cache.
 //!
-//! A `Book` is a cache and the calls that it did since its page began; it is always legal
-//! (`specs/Books.antt`): from what the page began with, its entries give their outcomes, and what they
-//! leave, brought to the book's moment, is what the cache stands for. Under a user's lock lies a `Kept`
-//! (`specs/KeptBooks.antt`), which has the same over all pages, from the user's empty cache on. A `Hall`
-//! has a `Kept` for each user and gives out `Seat`s; a seat shows the entries that it wrote
-//! (`specs/Calls.antt`). `Hall::close` gives the books and the seats, and says that each seat's entries
-//! in a book are what the seat wrote there (`specs/Closing.antt`).
-//! `Closed::audit` does the calls of a user's last page again on the plain cache, from what the page
-//! began with, and tells the first that comes to another outcome; that none does is proved
-//! (`specs/Audits.antt`).
+//! # Terms
 //!
-//! The tie between seats and books is one history in the rule of the hall's table (`specs/Rule.antt`),
-//! of which each seat of the table has a part (`specs/Views.antt`). A call joins the caller's seat and
-//! the book's, notes its entry in both at once, and parts them again, all while it holds the lock.
+//! - An **entry** is one call as it was done: by which seat, when, for which connection, the command
+//!   and its outcome, with its number in the book and in its seat.
+//! - A **page** is the entries since it began, and its **opening** what the cache stood for then. A full
+//!   page is turned before the next call: a new one begins with what the cache stands for.
+//! - A **book** is one user's cache with its page and the counts of its entries. A `Kept` is a book as it
+//!   lies under its user's lock, with the notes of all its pages.
+//! - A **hall** has a `Kept` for each user. It has a name, which is a type (`Naming`): its table, the
+//!   caches that its users begin with, how many seats there are and how long a page is.
+//! - A **seat** is by what a thread calls. It shows the entries that it wrote, of whatever book. One of
+//!   another hall doesn't fit.
+//! - A **receipt** is what a call gives: whose book it was entered in, and as what.
 //!
-//! A hall has a name, which is a type (`Naming`): its table, the caches that its users begin with, how
-//! many seats there are and how long a page is. So a seat of another hall doesn't fit.
+//! # What is always true
+//!
+//! 1. A book is legal: from its opening, its entries give their outcomes, and what they leave, brought to
+//!    the book's moment, is what the cache stands for (`IsBook` in `specs/Books.antt`).
+//! 2. A `Kept` is legal over all its pages, from the user's empty cache on; each turned page had the
+//!    hall's number of entries (`IsKept` in `specs/KeptBooks.antt`).
+//! 3. An entry stands in the notes of its seat and of its book, or in neither: a call joins the caller's
+//!    seat and the book's, notes its entry in both at once, and parts them again, all while it holds the
+//!    lock. Both lists are parts of one history in the rule of the hall's table (`specs/Rule.antt`,
+//!    `specs/Views.antt`).
+//! 4. A call that is refused leaves the book and the seat as they were (`Kept::call`
+//!    `unchanged_on_err`). All memory is taken before the cache is touched.
+//!
+//! `Hall::close` gives the books and the seats, and says that each seat's entries in a book are what the
+//! seat wrote there (`specs/Closing.antt`). `Closed::audit` does the calls of a user's last page again on
+//! the reference, from what the page began with, and tells the first that comes to another outcome; that
+//! none does is proved (`specs/Audits.antt`).
 //!
 //! No clause says that memory suffices, that a lock is ever got, or in which order two seats' calls are
 //! entered; nor that a lock of the hall is its user's, which `Hall::call` asks each time. What
