@@ -47,8 +47,8 @@ pub enum Scene {
     Talks(Plan, Plan),
     /// One turn of a connection that has nothing more to say.
     Rests,
-    /// One turn of two connections, the second of which came to their worker first.
-    TakesTurns,
+    /// Two connections of one worker in the same turns, the second of which came to it first.
+    Beside(Plan, Plan),
     /// A client that never reads beside one that does.
     Floods,
     /// A client that reads a few bytes a call.
@@ -128,7 +128,9 @@ fn perform<
         Scene::EightThreads => crowd::eight_threads(rt, alloc, hall, seats),
         Scene::Talks(one, other) => talks::talk(rt, alloc, &hall, users, &mut seats, one, other),
         Scene::Rests => talks::rest(rt, alloc, &hall, users, &mut seats),
-        Scene::TakesTurns => talks::take_turns(rt, alloc, &hall, users, &mut seats),
+        Scene::Beside(one, other) => talks::talk_beside(
+            rt, alloc, &hall, users, &mut seats, one, other,
+        ),
         Scene::Floods => pressure::serve_flood(rt, alloc, &hall, users, &mut seats),
         Scene::Comes => moves::come(rt, alloc, &hall, users, &mut seats),
         Scene::Sips => sips::serve_sips(rt, alloc, &hall, users, &mut seats),

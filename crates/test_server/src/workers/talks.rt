@@ -1,8 +1,8 @@
-//! One or two connections of one worker, one after the other or in one turn.
+//! One or two connections of one worker, one after the other or in the same turns.
 
 use super::table::{
-    APPENDS, ENDS_SHORT, Failing, LONG_LINE, NOTHING, READS, RESTS, ROWS, SILENT, STORES, WRITES,
-    asking, first_over,
+    APPENDS, ASKS, EMPTY_WRITES, ENDS_SHORT, LONG_LINE, Mishap, READS, RESTS, ROWS, SILENT, STORES,
+    WRITES,
 };
 use super::wires::{Cut, Ending, Memory, Plan, Seen};
 use crate::stage::{Scene, play};
@@ -37,6 +37,19 @@ pub fn worker_of<W: Wire + Drop, N: Naming, R: Abort>(
     }
 }
 
+/// All turns of a worker.
+fn take_turns<C: Cache, N: Naming, R: Wait>(
+    rt: &R,
+    hall: &Hall<C, N>,
+    users: &Users,
+    worker: &mut Worker<Memory, N>,
+) {
+    let clock = Clock::new();
+    for _ in 0..TURNS {
+        worker.turn(rt, hall, users, &clock, &Open);
+    }
+}
+
 /// A connection over a wire, for so many turns.
 fn serve<C: Cache, N: Naming, R: Wait + Abort>(
     rt: &R,
@@ -45,11 +58,8 @@ fn serve<C: Cache, N: Naming, R: Wait + Abort>(
     worker: &mut Worker<Memory, N>,
     wire: Memory,
 ) {
-    let clock = Clock::new();
     assert!(rt; worker.add(1, wire).is_ok());
-    for _ in 0..TURNS {
-        worker.turn(rt, hall, users, &clock, &Open);
-    }
+    take_turns(rt, hall, users, worker);
 }
 
 /// Whether a wire heard all that it was to be sent, and no more, and its connection was dropped if it
@@ -135,21 +145,24 @@ fn join<N: Naming, R: Abort>(
     Ok(())
 }
 
-/// The second connection comes to the worker before the first, and both have one turn.
-pub fn take_turns<C: Cache, N: Naming, R: Wait + Abort>(
+/// Two connections in the same turns, of which the second comes to the worker first: what each is
+/// sent, and that both are dropped.
+pub fn talk_beside<C: Cache, N: Naming, R: Wait + Abort>(
     rt: &R,
     alloc: Global,
     hall: &Hall<C, N>,
     users: &Users,
     seats: &mut Vec<Seat<N>>,
+    one: &Plan,
+    other: &Plan,
 ) -> Result<(), Fail> {
     let mut worker = worker_of(rt, alloc, seats);
     let second = Arc::new(alloc, Seen::new())?;
-    join(rt, &mut worker, 2, &APPENDS, &second)?;
+    join(rt, &mut worker, 2, other, &second)?;
     let first = Arc::new(alloc, Seen::new())?;
-    join(rt, &mut worker, 1, &STORES, &first)?;
-    worker.turn(rt, hall, users, &Clock::new(), &Open);
-    assert!(rt; first.has_heard(&STORES) && second.has_heard(&APPENDS));
+    join(rt, &mut worker, 1, one, &first)?;
+    take_turns(rt, hall, users, &mut worker);
+    assert!(rt; first.has_heard(one) && second.has_heard(other) && worker.is_idle());
     Ok(())
 }
 
@@ -163,44 +176,54 @@ fn expect<R: Threads + Wait + Abort + Time + RandomSource + Copy + Send + Sync +
     play(rt, alloc, 1, 16, Scene::Talks(first, second))
 }
 
-/// A wire that fails at its nth read, and a connection that asks what then stands.
-fn expect_after_reads<R: Threads + Wait + Abort + Time + RandomSource + Copy + Send + Sync + Drop>(
+/// Two streams in the same turns, where the first one's wire has its mishap at each call of a row.
+fn expect_beside<R: Threads + Wait + Abort + Time + RandomSource + Copy + Send + Sync + Drop>(
     rt: &R,
     alloc: Global,
-    row: &Failing,
+    row: &Mishap,
 ) -> Result<(), Fail> {
     for n in row.from..=row.to {
-        let first = first_over(Ending::FailsAtRead(n), row.expects);
-        expect(rt, alloc, first, asking(row.then))?;
+        let beside = Scene::Beside(row.storing(n), row.contending());
+        play(rt, alloc, 1, 16, beside)?;
+    }
+    Ok(())
+}
+
+/// All rows of a table of mishaps.
+fn expect_all<R: Threads + Wait + Abort + Time + RandomSource + Copy + Send + Sync + Drop>(
+    rt: &R,
+    alloc: Global,
+    rows: &[Mishap],
+) -> Result<(), Fail> {
+    for row in rows {
+        expect_beside(rt, alloc, row)?;
     }
     Ok(())
 }
 
 #[test]
 fn what_was_done_before_a_wire_failed_stays_done(rt: HostRuntime) -> Result<(), Fail> {
-    for row in READS {
-        expect_after_reads(&rt, rt.alloc(), row)?;
-    }
-    Ok(())
+    expect_all(&rt, rt.alloc(), READS)
 }
 
 #[test]
 fn what_was_done_stays_done_though_its_reply_is_lost(rt: HostRuntime) -> Result<(), Fail> {
-    for row in WRITES {
-        let first = first_over(Ending::FailsAtWrite(row.from), row.expects);
-        expect(&rt, rt.alloc(), first, asking(row.then))?;
-    }
-    Ok(())
+    expect_all(&rt, rt.alloc(), WRITES)
+}
+
+#[test]
+fn what_a_wire_did_not_take_is_sent_in_a_later_turn(rt: HostRuntime) -> Result<(), Fail> {
+    expect_all(&rt, rt.alloc(), EMPTY_WRITES)
 }
 
 #[test]
 fn a_wire_that_ends_in_a_block_stores_nothing(rt: HostRuntime) -> Result<(), Fail> {
-    expect(&rt, rt.alloc(), ENDS_SHORT, asking(NOTHING))
+    expect(&rt, rt.alloc(), ENDS_SHORT, ASKS)
 }
 
 #[test]
 fn a_wire_that_has_nothing_yet_is_kept_and_asked_each_turn(rt: HostRuntime) -> Result<(), Fail> {
-    expect(&rt, rt.alloc(), asking(NOTHING), SILENT)
+    expect(&rt, rt.alloc(), ASKS, SILENT)
 }
 
 #[test]
@@ -210,12 +233,12 @@ fn a_watched_wire_rests_in_the_turn_that_answers_it(rt: HostRuntime) -> Result<(
 
 #[test]
 fn a_turn_goes_by_the_numbers_of_connections(rt: HostRuntime) -> Result<(), Fail> {
-    play(&rt, rt.alloc(), 1, 16, Scene::TakesTurns)
+    play(&rt, rt.alloc(), 1, 16, Scene::Beside(STORES, APPENDS))
 }
 
 #[test]
 fn a_line_too_long_is_told_and_its_connection_dropped(rt: HostRuntime) -> Result<(), Fail> {
-    expect(&rt, rt.alloc(), LONG_LINE, asking(NOTHING))
+    expect(&rt, rt.alloc(), LONG_LINE, ASKS)
 }
 
 /// A row's stream, cut in two at each byte.

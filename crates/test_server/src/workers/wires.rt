@@ -27,6 +27,9 @@ pub enum Ending {
     /// Its read of this number fails, from 1.
     FailsAtRead(u64),
     FailsAtWrite(u64),
+    /// Its writes of this number and the next take 0 bytes, and meanwhile it has nothing to read. An
+    /// inlet would name it, and it ends once all is read.
+    TakesNothingAt(u64),
 }
 
 /// What a wire gives, and what it is to be sent.
@@ -72,7 +75,8 @@ pub struct Memory {
     told: usize,
     reads: u64,
     writes: u64,
-    has_failed: bool,
+    /// Whether its last write took nothing.
+    waits: bool,
     seen: Arc<Seen, Global>,
 }
 
@@ -84,7 +88,7 @@ impl Memory {
             told: 0,
             reads: 0,
             writes: 0,
-            has_failed: false,
+            waits: false,
             seen,
         }
     }
@@ -119,6 +123,14 @@ impl Memory {
         n
     }
 
+    /// Whether the write of this number takes nothing.
+    fn takes_nothing(&self) -> bool {
+        match self.plan.ending {
+            Ending::TakesNothingAt(n) => matches!(self.writes.checked_sub(n), Some(0 | 1)),
+            _ => false,
+        }
+    }
+
     /// Takes bytes, and counts those that are the next expected.
     fn hear(&mut self, from: &[u8]) {
         let end = self.told.saturating_add(from.len());
@@ -142,12 +154,14 @@ impl Wire for Memory {
     fn read(&mut self, into: &mut [u8]) -> Got {
         self.reads = self.reads.saturating_add(1);
         self.seen.reads.fetch_add(1, SeqCst);
-        if self.plan.ending == Ending::FailsAtRead(self.reads) && !self.has_failed {
-            self.has_failed = true;
+        if self.plan.ending == Ending::FailsAtRead(self.reads) {
             return Got::Failed;
         }
+        if self.waits {
+            return Got::Later;
+        }
         match (self.give(into), self.plan.ending) {
-            (0, Ending::Ends) => Got::Ended,
+            (0, Ending::Ends | Ending::TakesNothingAt(_)) => Got::Ended,
             (0, _) => Got::Later,
             (n, _) => Got::Bytes(n),
         }
@@ -155,8 +169,11 @@ impl Wire for Memory {
 
     fn write(&mut self, from: &Parts<'_>) -> Put {
         self.writes = self.writes.saturating_add(1);
-        if self.plan.ending == Ending::FailsAtWrite(self.writes) && !self.has_failed {
-            self.has_failed = true;
+        self.waits = self.takes_nothing();
+        if self.waits {
+            return Put::Wrote(0);
+        }
+        if self.plan.ending == Ending::FailsAtWrite(self.writes) {
             return Put::Failed;
         }
         let (first, second, third) = from.as_slices();
@@ -167,6 +184,6 @@ impl Wire for Memory {
     }
 
     fn set_key(&mut self, _key: usize) -> bool {
-        self.plan.ending == Ending::Rests
+        matches!(self.plan.ending, Ending::Rests | Ending::TakesNothingAt(_))
     }
 }
