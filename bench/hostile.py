@@ -164,14 +164,22 @@ def resets(server):
     return True
 
 
+def is_refused(link, guess):
+    link.sendall(b"set a 0 0 %d\r\n%s\r\n" % (len(guess), guess))
+    return read(link, 37) == b"CLIENT_ERROR authentication failure\r\n"
+
+
 def guesses_tokens(server):
-    link = server.connect()
-    for n in range(500):
-        guess = b"alice x%d" % n
-        link.sendall(b"set a 0 0 %d\r\n%s\r\n" % (len(guess), guess))
-        if read(link, 37) != b"CLIENT_ERROR authentication failure\r\n":
-            return False
-    return True
+    """Three guesses of a connection are answered at once, and the fourth after a second or two."""
+    for n in range(100):
+        with server.connect() as link:
+            if not all(is_refused(link, b"alice x%d" % (3 * n + i)) for i in range(3)):
+                return False
+    with server.connect() as link:
+        for _ in range(3):
+            is_refused(link, b"alice x")
+        began = time.time()
+        return is_refused(link, b"alice x") and 1 <= time.time() - began <= 3
 
 
 def another_users_key(server):

@@ -9,8 +9,8 @@ reads the process's resident memory from /proc. A row's last column is what an i
 key and its data, once the empty server of that row is taken off. Memory of the journal stands in it:
 the entries of a page, and the data that they keep alive. A budget is twice what the items weigh, but
 in the last row, where each user has 64 MiB and the items just fit. Then it says what a user of 64 MiB
-comes to that sets one key of 600,000 bytes 1,200 times, and what a connection takes that has logged in
-and asked for a key, by a thousand of them."""
+comes to that sets one key of 600,000 bytes 1,200 times, what is left of a partition's memory once it is
+flushed, and what a connection takes that has logged in and asked for a key, by a thousand of them."""
 import argparse
 import resource
 import socket
@@ -107,6 +107,30 @@ def overwritten(program, size=600_000, times=1_200):
         return resident(process)
 
 
+def ask(link, command, times):
+    for _ in range(times):
+        link.sendall(command)
+        assert link.recv(100) in (b"END\r\n", b"OK\r\n")
+
+
+def flushed(program, items=500_000, size=64):
+    """The bytes of a server that is empty, that holds items, and behind a flush and so many gets in all."""
+    with serving(program, 1, None, 128 * MIB) as (process, port):
+        link = connect(port, 0)
+        taken = [("empty", resident(process))]
+        fill(link, items, size)
+        assert int(stats(link)["curr_items"]) == items
+        taken.append(("full", resident(process)))
+        ask(link, b"flush_all\r\n", 1)
+        taken.append(("flushed", resident(process)))
+        done = 0
+        for gets in 1_000, 10_000, 40_000:
+            ask(link, b"get nothing\r\n", gets - done)
+            done = gets
+            taken.append((f"{gets:,} gets later", resident(process)))
+        return taken
+
+
 def connection(program, count=1_000):
     """The bytes that a connection takes."""
     with serving(program, 1, None, MIB) as (process, port):
@@ -143,6 +167,7 @@ def main():
         if held != users * items:
             print(f"held {held} of {users * items}", file=sys.stderr)
     print(f"\none key of 600,000 bytes set 1,200 times: {overwritten(asked.program) / MIB:.0f} MiB")
+    print("500,000 items of 64 bytes: " + ", ".join(f"{what} {bytes / MIB:.0f} MiB" for what, bytes in flushed(asked.program)))
     print(f"a connection: {connection(asked.program):,.0f} bytes")
 
 

@@ -1,18 +1,21 @@
 #!/usr/bin/env python3
 """Shows the counters of each user of a running partcached.
 
-usage: watch.py SETTINGS [--metrics] [--every SECONDS]
+usage: watch.py SETTINGS [--http] [--metrics] [--every SECONDS]
 
 It reads the names and tokens from the settings file that the server runs with, logs in as each user
-in turn and asks for `stats`. Without --metrics it prints one table; with it the text that a metrics
+in turn and asks for `stats`. With --http it logs in nowhere, and asks where the settings' [metrics]
+has the server tell them. Without --metrics it prints one table; with it the text that a metrics
 scraper reads (the Prometheus exposition format). --every asks again and again, on one connection a
 user. A user that can't be asked is named on standard error, and the status is then 1.
 """
 import argparse
+import re
 import socket
 import sys
 import time
 import tomllib
+import urllib.request
 
 COUNTERS = ["get_hits", "get_misses", "cmd_set", "evictions", "store_too_large"]
 GAUGES = ["curr_items", "bytes", "limit_maxbytes"]
@@ -53,6 +56,16 @@ class User:
         return rows
 
 
+def told(listen):
+    """Each user's counters, as the server's own listener tells them."""
+    with urllib.request.urlopen(f"http://{listen}/metrics", timeout=5) as reply:
+        text = reply.read().decode()
+    users = {}
+    for name, user, number in re.findall(r'^partcached_(\w+){user="(.*)"} (\d+)$', text, re.M):
+        users.setdefault(user, {})[name.removesuffix("_total")] = number
+    return list(users.items())
+
+
 def share(part, whole):
     return f"{100 * part / whole:.1f} %" if whole else "-"
 
@@ -81,6 +94,7 @@ def metrics(answers):
 def main():
     words = argparse.ArgumentParser(description=__doc__.splitlines()[0])
     words.add_argument("settings")
+    words.add_argument("--http", action="store_true")
     words.add_argument("--metrics", action="store_true")
     words.add_argument("--every", type=float, metavar="SECONDS")
     asked = words.parse_args()
@@ -90,7 +104,13 @@ def main():
     users = [User((host.strip("[]"), int(port)), row) for row in settings["user"]]
     while True:
         answers, lacking = [], False
-        for user in users:
+        if asked.http:
+            try:
+                answers = told(settings["metrics"]["listen"])
+            except OSError as fault:
+                print(f"metrics: {fault}", file=sys.stderr)
+                lacking = True
+        for user in [] if asked.http else users:
             try:
                 answers.append((user.name, user.stats()))
             except OSError as fault:

@@ -35,6 +35,8 @@ pub struct Serving {
     /// It ends once so many connections were closed.
     pub until: Option<u32>,
     pub at_end: AtEnd,
+    /// It does not print what becomes of connections.
+    pub quiet: bool,
 }
 
 /// What the program is to do.
@@ -121,7 +123,11 @@ fn serve_command<'a>(alloc: Global) -> Result<Command<'a>, AllocError> {
     let spread = Arg::new(alloc, "spread")
         .long("spread")
         .action(ArgAction::SetTrue)
-        .help("Serve a user's connections by all workers, and not by one");
+        .help("Leave each connection to the worker that it came to");
+    let quiet = Arg::new(alloc, "quiet")
+        .long("quiet")
+        .action(ArgAction::SetTrue)
+        .help("Print no line for what becomes of a connection");
     Command::new(alloc, "serve")
         .about("Listen, and serve memcached's clients")
         .arg(config)?
@@ -129,7 +135,8 @@ fn serve_command<'a>(alloc: Global) -> Result<Command<'a>, AllocError> {
         .arg(listen)?
         .arg(spread)?
         .arg(until)?
-        .arg(audit)
+        .arg(audit)?
+        .arg(quiet)
 }
 
 /// `run` and its argument.
@@ -149,7 +156,7 @@ fn command<'a>(alloc: Global) -> Result<Command<'a>, AllocError> {
         .about("Say what is wrong with settings, or what they come to")
         .arg(config_arg(alloc).required(true))?;
     Command::new(alloc, "partcached")
-        .version("1.1.0")
+        .version("1.2.0")
         .about("A memcached server in which each user has a partition of its own")
         .subcommand_required(true)
         .subcommand(run_command(alloc)?)?
@@ -203,6 +210,7 @@ fn serving_by(alloc: Global, serve: &ArgMatches<'_>) -> Result<Serving, Unasked>
         affinity,
         until: serve.get_one::<u32>("until"),
         at_end: at_end_by(serve),
+        quiet: serve.get_flag("quiet"),
     })
 }
 

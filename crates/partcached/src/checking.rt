@@ -2,7 +2,7 @@
 use std::fmt::Style;
 use std::net::SocketAddr;
 use std::{io, str};
-use tc_users::{Field, Settings, UserSpec, Users};
+use tc_users::{Address, Field, Limit, Settings, UserSpec, Users};
 use toml::{Table, Value};
 
 /// The bytes of a MiB.
@@ -31,15 +31,29 @@ const SMALL: u64 = 100;
 const LARGE: u64 = 1_000;
 
 /// The fields of the settings, but a user's.
-const FIELDS: [Field; 4] = [Field::Listen, Field::Workers, Field::Journal, Field::Users];
+const FIELDS: [Field; 8] = [
+    Field::Listen,
+    Field::Workers,
+    Field::Journal,
+    Field::Limited(Limit::LoginSeconds),
+    Field::Limited(Limit::StalledSeconds),
+    Field::Limited(Limit::UnboundConnections),
+    Field::Metrics,
+    Field::Users,
+];
+
+/// The fields of the metrics' table.
+const METRICS_FIELDS: [Field; 1] = [Field::MetricsListen];
 
 /// A user's fields.
-const USER_FIELDS: [Field; 5] = [
+const USER_FIELDS: [Field; 7] = [
     Field::Name(0),
     Field::Token(0),
     Field::Budget(0),
     Field::SecondToken(0),
     Field::Largest(0),
+    Field::Limited(Limit::Connections(0)),
+    Field::Limited(Limit::IdleSeconds(0)),
 ];
 
 /// Whether a key is one of these fields.
@@ -67,6 +81,16 @@ fn warn_of_table(rt: &HostRuntime, table: &Table) -> io::Result<()> {
     Ok(())
 }
 
+/// Warns of each key of the metrics' table that is no field.
+fn warn_of_metrics(rt: &HostRuntime, table: &Table) -> io::Result<()> {
+    for key in table.keys() {
+        if !is_field(&METRICS_FIELDS, key.as_str()) {
+            println!(rt; "warning: `metrics.{key}` is no field, and is passed over")?;
+        }
+    }
+    Ok(())
+}
+
 /// Warns of each user's keys that are no field.
 fn warn_of_users(rt: &HostRuntime, users: &[Value]) -> io::Result<()> {
     for (place, user) in users.iter().enumerate() {
@@ -88,6 +112,9 @@ pub fn warn(rt: &HostRuntime, text: &str) -> io::Result<()> {
         Err(_) => return Ok(()),
     };
     warn_of_table(rt, &table)?;
+    if let Some(metrics) = table.get("metrics").and_then(|metrics| metrics.as_table()) {
+        warn_of_metrics(rt, metrics)?;
+    }
     match table.get("user").and_then(|users| users.as_array()) {
         Some(users) => warn_of_users(rt, users),
         None => Ok(()),
@@ -184,6 +211,18 @@ fn print_users(rt: &HostRuntime, users: &Users, journal: usize) -> io::Result<()
     all.print(rt, "all", width)
 }
 
+/// Prints where the metrics are told.
+fn print_metrics(rt: &HostRuntime, metrics: &Address) -> io::Result<()> {
+    let listen = metrics.as_str();
+    println!(rt; "metrics are told at {listen}")?;
+    if listen.parse::<SocketAddr>().is_err() {
+        println!(rt;
+            "warning: `metrics.listen` is no address and port, so `serve` cannot listen there"
+        )?;
+    }
+    Ok(())
+}
+
 /// Prints what good settings come to.
 pub fn print_settings(rt: &HostRuntime, settings: &Settings) -> io::Result<()> {
     let listen = settings.listen.as_str();
@@ -191,6 +230,9 @@ pub fn print_settings(rt: &HostRuntime, settings: &Settings) -> io::Result<()> {
     println!(rt; "the settings are good: {listen}, {workers} workers, a journal of {journal}")?;
     if listen.parse::<SocketAddr>().is_err() {
         println!(rt; "warning: `listen` is no address and port, so `serve` cannot listen there")?;
+    }
+    if let Some(metrics) = &settings.metrics {
+        print_metrics(rt, metrics)?;
     }
     print_users(rt, &settings.users, journal)?;
     println!(rt;

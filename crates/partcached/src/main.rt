@@ -10,6 +10,7 @@ mod checking;
 mod demo;
 mod preparing;
 mod reporting;
+mod resident;
 mod serving;
 
 use crate::asking::{Asked, Reading, Source, Unasked, parse};
@@ -74,7 +75,7 @@ fn main(rt: HostRuntime) -> io::Result<ExitCode> {
     let status = match asked(&rt) {
         Ok(Asked::Run(reading)) => report_run(&rt, run(&rt, reading))?,
         Ok(Asked::Check { config }) => check_file(&rt, config)?,
-        Ok(Asked::Serve(serving)) => match make_ready(&rt, &serving.source) {
+        Ok(Asked::Serve(serving)) => match make_ready(&rt, &serving) {
             Ok(
                 Ready {
                     beginning,

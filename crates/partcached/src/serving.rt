@@ -1,23 +1,28 @@
 //! A server that is ready to begin, and what it says on standard output.
-use crate::asking::Source;
+use crate::asking::{Serving, Source};
 use crate::checking::{name_of, warn};
 use crate::demo::print_guide;
 use crate::preparing::{Unready, prepare, read_text};
+use crate::resident::resident_bytes;
 use std::alloc::{AllocError, Global};
 use std::io;
 use std::net::SocketAddr;
 use tc_locked::Audit;
-use tc_net::{Audience, Beginning};
+use tc_net::{Audience, Beginning, Notice};
 use tc_partition::Fast;
-use tc_users::{UserNo, Users};
+use tc_users::{Settings, UserNo, Users};
 
 /// Prints how a server fares. What standard output refuses is lost, and no server ends for it.
 #[derive(Drop)]
 pub struct Printing<'a> {
     rt: &'a HostRuntime,
     source: &'a Source,
+    /// It prints no notices.
+    quiet: bool,
     /// Where the settings have it listen.
     listen: String,
+    /// Where the settings have it tell its metrics; empty where nowhere.
+    metrics: String,
     workers: usize,
     /// The users' names, in the order of their numbers.
     names: Vec<String>,
@@ -67,11 +72,48 @@ impl Printing<'_> {
         }
     }
 
+    /// The line of a notice.
+    fn print_notice(&self, notice: &Notice) -> io::Result<()> {
+        match notice {
+            Notice::NoPlace { peer } => println!(self.rt;
+                "no place for {peer}: as many connections are open as may be"
+            ),
+            Notice::UnboundFull { peer } => println!(self.rt;
+                "too many have not logged in: the oldest goes for {peer}"
+            ),
+            Notice::LoginRefused { peer, user } => self.print_refused(peer, *user),
+            Notice::LongBlock { peer } => println!(self.rt;
+                "{peer} has not logged in, and sent a block of more than 256 bytes"
+            ),
+            Notice::Binary { peer } => println!(self.rt;
+                "{peer} speaks the binary protocol, which this server does not: closed"
+            ),
+            Notice::NoMemory { peer } => println!(self.rt; "out of memory for a command of {peer}"),
+        }
+    }
+
+    /// The line of a refused login.
+    fn print_refused(&self, peer: &SocketAddr, user: Option<UserNo>) -> io::Result<()> {
+        match user {
+            None => println!(self.rt; "refused login from {peer}: no user has that name"),
+            Some(user) => {
+                let name = self.name_of(user);
+                println!(self.rt; "refused login from {peer} as {name}")
+            }
+        }
+    }
+
     /// The line of settings by which no server can listen.
     fn note_no_address(&self) {
         let listen = self.listen.as_str();
         if listen.parse::<SocketAddr>().is_err() {
             let _ = println!(self.rt; "cannot listen on {listen}: it is no address and port");
+        }
+        let metrics = self.metrics.as_str();
+        if !metrics.is_empty() && metrics.parse::<SocketAddr>().is_err() {
+            let _ = println!(self.rt;
+                "cannot tell metrics on {metrics}: it is no address and port"
+            );
         }
     }
 }
@@ -84,6 +126,25 @@ impl Audience for Printing<'_> {
     fn cannot_listen(&self, why: &io::Error) {
         let listen = self.listen.as_str();
         let _ = println!(self.rt; "cannot listen on {listen}: {why}");
+    }
+
+    fn tells_metrics(&self, address: SocketAddr) {
+        let _ = println!(self.rt; "metrics on {address}");
+    }
+
+    fn cannot_tell_metrics(&self, why: &io::Error) {
+        let metrics = self.metrics.as_str();
+        let _ = println!(self.rt; "cannot tell metrics on {metrics}: {why}");
+    }
+
+    fn notes(&self, notice: &Notice) {
+        if !self.quiet {
+            let _ = self.print_notice(notice);
+        }
+    }
+
+    fn resident(&self) -> u64 {
+        resident_bytes(self.rt).unwrap_or(0)
     }
 
     fn audited(&self, user: UserNo, audit: &Audit) {
@@ -112,6 +173,14 @@ fn names_of(alloc: Global, users: &Users) -> Result<Vec<String>, AllocError> {
     Ok(names)
 }
 
+/// Where the settings have a server tell its metrics; empty where nowhere.
+fn metrics_of(alloc: Global, settings: &Settings) -> Result<String, AllocError> {
+    match &settings.metrics {
+        Some(metrics) => String::from_str(alloc, metrics.as_str()),
+        None => Ok(String::new(alloc)),
+    }
+}
+
 /// A server that is ready to begin.
 #[derive(Drop)]
 pub struct Ready<'a> {
@@ -120,15 +189,18 @@ pub struct Ready<'a> {
     pub printing: Printing<'a>,
 }
 
-/// Makes ready what the settings ask for, and warns of their fields that mean nothing.
-pub fn make_ready<'a>(rt: &'a HostRuntime, source: &'a Source) -> Result<Ready<'a>, Unready> {
+/// Makes ready what is asked for, and warns of fields of the settings that mean nothing.
+pub fn make_ready<'a>(rt: &'a HostRuntime, serving: &'a Serving) -> Result<Ready<'a>, Unready> {
+    let source = &serving.source;
     let text = read_text(rt, source)?;
     warn_aside(rt, text.as_str())?;
     let beginning = prepare(rt, text.as_str(), source)?;
     let printing = Printing {
         rt,
         source,
+        quiet: serving.quiet,
         listen: String::from_str(rt.alloc(), beginning.settings.listen.as_str())?,
+        metrics: metrics_of(rt.alloc(), &beginning.settings)?,
         workers: beginning.settings.workers,
         names: names_of(rt.alloc(), &beginning.settings.users)?,
     };

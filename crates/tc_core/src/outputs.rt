@@ -29,11 +29,9 @@ impl Sent {
     pub(crate) fn copied(alloc: Global, parts: &Parts<'_>) -> Result<Sent, NoMemory>
         ensures { IfOk result (λ sent. sent ≡ parts.now) }
     {
-        let (first, second, third) = parts.as_slices();
-        let mut bytes = Vec::from_slice(alloc, first)?;
-        bytes.extend_from_slice(second)?;
-        bytes.extend_from_slice(third)?;
-        Ok(Sent { bytes })
+        Ok(Sent {
+            bytes: parts.to_vec(alloc)?,
+        })
     }
 
     /// The bytes.

@@ -7,3 +7,4 @@ pub mod Closing
 pub mod Moments
 pub mod Outcomes
 pub mod Audits
+pub mod Refusals

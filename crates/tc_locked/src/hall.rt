@@ -1,8 +1,9 @@
 //! A hall: each user's book under a lock of its own.
-ghost use Rattle.std.specs.Prelude.{◌≡◌, ◌<◌, ◌≤◌, length, IfOk, OnOk, IfErr, OnErr, vec_len};
+ghost use Rattle.std.specs.Prelude.{◌≡◌, ◌<◌, ◌≤◌, ◌++◌, ◌∷◌, [], length, IfOk, OnOk, IfErr, OnErr, vec_len};
 ghost use Rattle.tc_locked.specs.Closing.{AllKept, AllTied, AllThere, AllFresh};
 ghost use Rattle.tc_locked.specs.Calls.{IsUser, Wrote};
 ghost use Rattle.tc_locked.specs.Outcomes.{IsOutcomeOf};
+ghost use Rattle.tc_locked.specs.Refusals.{refusal};
 ghost use Rattle.tc_locked.specs.declared.call_fault.CallFault.TheVariants.{NoUser};
 
 use crate::call_fault::CallFault;
@@ -13,6 +14,7 @@ use crate::kept::Kept;
 use crate::locking::{TRIES, lock_soon};
 use crate::naming::{HallTable, Naming};
 use crate::receipt::Receipt;
+use crate::refusals::{Refusals, Refused};
 use crate::seat::Seat;
 use std::alloc::Global;
 use std::marker::{Model, PhantomData};
@@ -60,8 +62,43 @@ impl<C: Cache, N: Naming> Hall<C, N> {
         self.books.len() as u32
     }
 
-    /// `call`, which runs `held` once the lock is got.
+    /// `call`, which runs `held` once the lock is got, and notes a refusal among the others.
     pub fn call_with<R: Wait, F: FnOnce()>(
+        &self,
+        rt: &R,
+        alloc: Global,
+        seat: &mut Seat<N>,
+        refusals: &mut Refusals<N>,
+        user: UserNo,
+        now: Moment,
+        conn: u32,
+        command: &Command,
+        held: F,
+    ) -> Result<Receipt<N>, CallFault>
+        requires held { F.pre held }
+        ensures receipt { IfOk result (λ receipt. receipt.user ≡ user) }
+        ensures wrote { IfOk result (λ receipt. Wrote user seat.old now conn command.now
+            receipt.slip seat.new) }
+        ensures outcome { IfOk result (λ receipt. IsOutcomeOf command.now receipt.slip.outcome) }
+        ensures known { IfOk result (λ _. IsUser self.now user) }
+        ensures unknown { IfErr result (λ fault. (fault ≡ NoUser → IsUser self.now user → ⊥)
+            × ((IsUser self.now user → ⊥) → fault ≡ NoUser)) }
+        ensures unchanged_on_err { OnErr result (seat.new ≡ seat.old) }
+        ensures refused { IfErr result (λ fault. refusals.new
+            ≡ refusals.old ++ refusal user conn fault command.now ∷ []) }
+        ensures none_refused { OnOk result (refusals.new ≡ refusals.old) }
+    {
+        match self.try_call(rt, alloc, seat, user, now, conn, command, held) {
+            Ok(receipt) => Ok(receipt),
+            Err(fault) => {
+                refusals.add(Refused { user, conn, fault }, command);
+                Err(fault)
+            }
+        }
+    }
+
+    /// The call itself.
+    fn try_call<R: Wait, F: FnOnce()>(
         &self,
         rt: &R,
         alloc: Global,
@@ -139,7 +176,7 @@ impl<C: Cache, N: Naming> Hall<C, N> {
             × ((IsUser self.now user → ⊥) → fault ≡ NoUser)) }
         ensures unchanged_on_err { OnErr result (seat.new ≡ seat.old) }
     {
-        self.call_with(rt, alloc, seat, user, now, conn, command, || ())
+        self.try_call(rt, alloc, seat, user, now, conn, command, || ())
     }
 
     /// Deferred work of a user's cache, at most `limit` pieces of it; nothing for an unknown user.

@@ -13,6 +13,7 @@
 //! - A **seat** is by what a thread calls. It shows the entries that it wrote, of whatever book. One of
 //!   another hall doesn't fit.
 //! - A **receipt** is what a call gives: whose book it was entered in, and as what.
+//! - **Refusals** are the calls that the hall refused a caller, in proofs alone (`Hall::call_with`).
 //!
 //! # What is always true
 //!
@@ -54,6 +55,7 @@ mod noting;
 mod old_entries;
 mod opening;
 mod receipt;
+mod refusals;
 mod seat;
 pub mod view;
 
@@ -69,4 +71,5 @@ pub use kept::Kept;
 pub use naming::Naming;
 pub use opening::Opened;
 pub use receipt::Receipt;
+pub use refusals::{Refusals, Refused};
 pub use seat::Seat;

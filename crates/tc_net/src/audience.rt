@@ -1,4 +1,5 @@
 //! Who is told how a server fares.
+use crate::notice::Notice;
 use std::io;
 use std::net::SocketAddr;
 use tc_locked::Audit;
@@ -11,6 +12,20 @@ pub trait Audience {
 
     /// It can't listen, and for this reason.
     fn cannot_listen(&self, _why: &io::Error) {}
+
+    /// The metrics are told here.
+    fn tells_metrics(&self, _address: SocketAddr) {}
+
+    /// The metrics can't be told there, and for this reason.
+    fn cannot_tell_metrics(&self, _why: &io::Error) {}
+
+    /// This became of a connection. It is told ten notices a second at most.
+    fn notes(&self, _notice: &Notice) {}
+
+    /// How many bytes of memory are resident, as the metrics tell; 0 where it isn't known.
+    fn resident(&self) -> u64 {
+        0
+    }
 
     /// The server has ended, and this is found when the calls of the user's last page are done again.
     fn audited(&self, _user: UserNo, _audit: &Audit) {}

@@ -1,47 +1,364 @@
-//! What the listener, the inlets and the wires of a server share.
+//! Who is in: what the listener, the inlets, the wires and the keeper of a server share.
+use crate::notice::Notice;
+use crate::overdue::{Stay, is_overdue};
+use crossbeam_queue::ArrayQueue;
+use std::alloc::{AllocError, Global};
+use std::net::SocketAddr;
+use std::sync::Wait;
 use std::sync::atomic::AtomicU64;
 use std::sync::atomic::Ordering::SeqCst;
+use tc_users::{Limits, LimitsByUser, UserNo};
+use tc_workers::{News, Remark};
 
 /// The most open connections.
-const MOST_OPEN: u64 = 1_024;
+const MOST_OPEN: usize = 1_024;
 
-/// How many connections are open, how many were closed, and whether further ones come.
+/// The most notices of a second.
+pub(crate) const MOST_NOTICES: usize = 10;
+
+/// The place of a connection. Its worker notes what it does; the listener and the keeper say that it is
+/// to go.
+#[derive(Drop)]
+struct Place {
+    /// The number of the connection that has it, from 1; 0 where none has.
+    holder: AtomicU64,
+    /// The number of its user; 0 before it is known.
+    user: AtomicU64,
+    /// The second in which it came.
+    came: AtomicU64,
+    /// The second in which bytes of it last came.
+    heard: AtomicU64,
+    /// The second since which nothing of what waits for it is taken; 0 where something is.
+    stuck: AtomicU64,
+    /// The number of a connection that is to go from here.
+    ousted: AtomicU64,
+}
+
+impl Place {
+    fn new() -> Place {
+        Place {
+            holder: AtomicU64::new(0),
+            user: AtomicU64::new(0),
+            came: AtomicU64::new(0),
+            heard: AtomicU64::new(0),
+            stuck: AtomicU64::new(0),
+            ousted: AtomicU64::new(0),
+        }
+    }
+
+    /// Gives it to a connection.
+    fn give(&self, number: u64, second: u64) {
+        self.user.store(0, SeqCst);
+        self.came.store(second, SeqCst);
+        self.heard.store(second, SeqCst);
+        self.stuck.store(0, SeqCst);
+        self.holder.store(number, SeqCst);
+    }
+
+    /// The number of the connection that has it and is not to go.
+    fn staying(&self) -> Option<u64> {
+        let holder = self.holder.load(SeqCst);
+        if holder == 0 || holder == self.ousted.load(SeqCst) {
+            return None;
+        }
+        Some(holder)
+    }
+
+    /// The user of the connection that has it and is not to go.
+    fn user(&self) -> Option<UserNo> {
+        let _ = self.staying()?;
+        match self.user.load(SeqCst) {
+            0 => None,
+            number => Some(UserNo::new((number % 4_294_967_296) as u32)),
+        }
+    }
+
+    /// The number of the connection that has it, is not to go, and has no user yet.
+    fn unbound(&self) -> Option<u64> {
+        let holder = self.staying()?;
+        if self.user.load(SeqCst) == 0 {
+            Some(holder)
+        } else {
+            None
+        }
+    }
+
+    fn stay(&self) -> Stay {
+        let stuck = self.stuck.load(SeqCst);
+        Stay {
+            came: self.came.load(SeqCst),
+            heard: self.heard.load(SeqCst),
+            stuck: if stuck == 0 { None } else { Some(stuck) },
+        }
+    }
+}
+
+/// The places of all connections, the limits on them, how many were closed, and whether further ones
+/// come.
 #[derive(Drop)]
 pub(crate) struct Door {
-    open: AtomicU64,
+    places: Vec<Place>,
+    limits: Limits,
+    user_limits: LimitsByUser,
+    /// The second that it is, counted from 1 at the server's start.
+    second: AtomicU64,
     closed: AtomicU64,
+    /// How many were closed, or not let in, for a limit.
+    limited: AtomicU64,
+    /// How many logins were refused.
+    refused_logins: AtomicU64,
+    /// How often one was told to go.
+    ousts: AtomicU64,
     /// 1 once the server is to end.
     ended: AtomicU64,
+    /// What an operator is told next. Where it is full, a further notice is lost.
+    notices: ArrayQueue<Notice>,
 }
 
 impl Door {
-    pub(crate) fn new() -> Door {
-        Door {
-            open: AtomicU64::new(0),
+    pub(crate) fn new(
+        alloc: Global,
+        limits: Limits,
+        user_limits: LimitsByUser,
+    ) -> Result<Door, AllocError> {
+        let mut places = Vec::with_capacity(alloc, MOST_OPEN)?;
+        for _ in 0..MOST_OPEN {
+            places.push(Place::new())?;
+        }
+        Ok(Door {
+            places,
+            limits,
+            user_limits,
+            second: AtomicU64::new(1),
             closed: AtomicU64::new(0),
+            limited: AtomicU64::new(0),
+            refused_logins: AtomicU64::new(0),
+            ousts: AtomicU64::new(0),
             ended: AtomicU64::new(0),
+            notices: ArrayQueue::new(alloc, MOST_NOTICES)?,
+        })
+    }
+
+    /// The place of a connection that came, whose number is counted from 1. Where there is none, the
+    /// connection was counted as closed.
+    pub(crate) fn enter(&self, number: u64) -> Option<usize> {
+        for (at, place) in self.places.iter().enumerate() {
+            if place.holder.load(SeqCst) == 0 {
+                place.give(number, self.second.load(SeqCst));
+                return Some(at);
+            }
+        }
+        self.closed.fetch_add(1, SeqCst);
+        self.limited.fetch_add(1, SeqCst);
+        None
+    }
+
+    /// Gives a place up.
+    pub(crate) fn leave(&self, at: usize) {
+        if let Some(place) = self.places.get(at) {
+            place.holder.store(0, SeqCst);
+        }
+        self.closed.fetch_add(1, SeqCst);
+    }
+
+    /// Where as many connections have no user yet as may be, the oldest of them is to go. Whether it is.
+    pub(crate) fn make_room(&self) -> bool {
+        let Some(most) = self.limits.unbound_connections else {
+            return false;
+        };
+        if self.count_unbound() < u64::from(most) {
+            return false;
+        }
+        match self.oldest_unbound() {
+            Some(at) => self.oust(at),
+            None => false,
         }
     }
 
-    /// Counts a connection that came. Whether it may stay; else it was counted as closed.
-    pub(crate) fn enter(&self) -> bool {
-        if self.open.load(SeqCst) >= MOST_OPEN {
-            self.closed.fetch_add(1, SeqCst);
-            return false;
+    /// How many connections have no user yet.
+    pub(crate) fn count_unbound(&self) -> u64 {
+        let mut count = 0u64;
+        for place in &self.places {
+            if place.unbound().is_some() {
+                count = count.saturating_add(1);
+            }
         }
-        self.open.fetch_add(1, SeqCst);
+        count
+    }
+
+    /// The place of the oldest connection that has no user yet.
+    fn oldest_unbound(&self) -> Option<usize> {
+        let mut first = u64::MAX;
+        let mut oldest = None;
+        for (at, place) in self.places.iter().enumerate() {
+            if let Some(number) = place.unbound()
+                && number < first
+            {
+                first = number;
+                oldest = Some(at);
+            }
+        }
+        oldest
+    }
+
+    /// Has the connection go that has a place. Whether it was to stay.
+    fn oust(&self, at: usize) -> bool {
+        let Some(place) = self.places.get(at) else {
+            return false;
+        };
+        let Some(number) = place.staying() else {
+            return false;
+        };
+        place.ousted.store(number, SeqCst);
+        self.limited.fetch_add(1, SeqCst);
+        self.ousts.fetch_add(1, SeqCst);
         true
     }
 
-    /// Counts a connection that goes.
-    pub(crate) fn leave(&self) {
-        self.open.fetch_sub(1, SeqCst);
-        self.closed.fetch_add(1, SeqCst);
+    /// Notes whose connection has a place. One that is the user's too many is to go.
+    pub(crate) fn bind(&self, at: usize, user: UserNo) {
+        let Some(place) = self.places.get(at) else {
+            return;
+        };
+        place.user.store(u64::from(user.number()), SeqCst);
+        if self.has_too_many(user) {
+            self.oust(at);
+        }
+    }
+
+    /// Whether a user has more connections than it may have.
+    fn has_too_many(&self, user: UserNo) -> bool {
+        let Some(limits) = self.user_limits.of(user) else {
+            return false;
+        };
+        match limits.connections {
+            Some(most) => self.count_of(user) > u64::from(most),
+            None => false,
+        }
+    }
+
+    /// How many connections a user has.
+    fn count_of(&self, user: UserNo) -> u64 {
+        let mut count = 0u64;
+        for place in &self.places {
+            if place.user() == Some(user) {
+                count = count.saturating_add(1);
+            }
+        }
+        count
+    }
+
+    /// Whether the connection that has a place has stayed too long.
+    fn has_overstayed(&self, place: &Place, second: u64) -> bool {
+        let own = match place.user() {
+            Some(user) => self.user_limits.of(user),
+            None => None,
+        };
+        is_overdue(self.limits, own, place.stay(), second)
+    }
+
+    /// Has each connection go that has stayed too long.
+    fn oust_overdue(&self, second: u64) {
+        for (at, place) in self.places.iter().enumerate() {
+            if place.staying().is_some() && self.has_overstayed(place, second) {
+                self.oust(at);
+            }
+        }
+    }
+
+    /// Notes the second that it is, and has each connection go that has stayed too long. Whether it is
+    /// another second than before.
+    pub(crate) fn note_second(&self, second: u64) -> bool {
+        if self.second.swap(second, SeqCst) == second {
+            return false;
+        }
+        self.oust_overdue(second);
+        true
+    }
+
+    /// Bytes came of the connection that has a place.
+    pub(crate) fn note_heard(&self, at: usize) {
+        if let Some(place) = self.places.get(at) {
+            place.heard.store(self.second.load(SeqCst), SeqCst);
+        }
+    }
+
+    /// Something of what waits for the connection was taken, or nothing.
+    pub(crate) fn note_taken(&self, at: usize, is_taken: bool) {
+        let Some(place) = self.places.get(at) else {
+            return;
+        };
+        if is_taken {
+            place.stuck.store(0, SeqCst);
+        } else if place.stuck.load(SeqCst) == 0 {
+            place.stuck.store(self.second.load(SeqCst), SeqCst);
+        }
+    }
+
+    /// Whether the connection that has a place is to go.
+    pub(crate) fn is_over(&self, at: usize) -> bool {
+        if self.has_ended() {
+            return true;
+        }
+        match self.places.get(at) {
+            Some(place) => place.staying().is_none(),
+            None => false,
+        }
+    }
+
+    /// How often a connection was told to go.
+    pub(crate) fn ousts(&self) -> u64 {
+        self.ousts.load(SeqCst)
     }
 
     /// How many connections were closed, those among them that might not stay.
     pub(crate) fn closed(&self) -> u64 {
         self.closed.load(SeqCst)
+    }
+
+    /// How many connections were closed, or not let in, for a limit.
+    pub(crate) fn limited(&self) -> u64 {
+        self.limited.load(SeqCst)
+    }
+
+    /// How many logins were refused.
+    pub(crate) fn refused_logins(&self) -> u64 {
+        self.refused_logins.load(SeqCst)
+    }
+
+    /// The second that it is, counted from 1 at the server's start.
+    pub(crate) fn second(&self) -> u64 {
+        self.second.load(SeqCst)
+    }
+
+    /// How many places there are.
+    pub(crate) fn len(&self) -> usize {
+        self.places.len()
+    }
+
+    /// Whose connection has a place.
+    pub(crate) fn user_at(&self, at: usize) -> Option<UserNo> {
+        self.places.get(at)?.user()
+    }
+
+    /// Has an operator told.
+    pub(crate) fn note<R: Wait>(&self, rt: &R, notice: Notice) {
+        let _ = self.notices.push(rt, notice);
+    }
+
+    /// Counts what happened on a connection from there, and has an operator told, where the peer is known.
+    pub(crate) fn note_remark<R: Wait>(&self, rt: &R, peer: Option<SocketAddr>, remark: Remark) {
+        if let Remark::News(News::LoginRefused(_)) = remark {
+            self.refused_logins.fetch_add(1, SeqCst);
+        }
+        if let Some(peer) = peer {
+            self.note(rt, notice_of(peer, remark));
+        }
+    }
+
+    /// What an operator is to be told.
+    pub(crate) fn next_notice<R: Wait>(&self, rt: &R) -> Option<Notice> {
+        self.notices.pop(rt)
     }
 
     /// The server is to end: no further connection comes, and those that are open are dropped.
@@ -51,5 +368,15 @@ impl Door {
 
     pub(crate) fn has_ended(&self) -> bool {
         self.ended.load(SeqCst) != 0
+    }
+}
+
+/// The line for what happened on a connection from there.
+fn notice_of(peer: SocketAddr, remark: Remark) -> Notice {
+    match remark {
+        Remark::News(News::LoginRefused(user)) => Notice::LoginRefused { peer, user },
+        Remark::News(News::LongBlock) => Notice::LongBlock { peer },
+        Remark::News(News::NoMemory) => Notice::NoMemory { peer },
+        Remark::IsBinary => Notice::Binary { peer },
     }
 }

@@ -1,4 +1,5 @@
 //! The two ends by which connections reach a worker.
+ghost use Rattle.std.specs.Prelude.{◌≡◌, IfErr};
 ghost use Rattle.crossbeam_channel.specs.Claims.{IsSeatAt};
 ghost use Rattle.crossbeam_channel.specs.Ends.{sends_on, receives_on};
 
@@ -9,7 +10,7 @@ use mio::Waker;
 use mio::net::TcpStream;
 use std::alloc::{AllocError, Global};
 use std::sync::{Arc, Wait};
-use tc_workers::Link;
+use tc_workers::Talk;
 
 /// The most connections that wait for one worker.
 const MOST_WAITING: usize = 1_024;
@@ -26,11 +27,15 @@ impl Split<()> for Same {
 /// A connection on its way to a worker.
 #[derive(Drop)]
 pub(crate) enum Arrival {
-    /// From the listener, with its number.
-    New { conn: u32, stream: TcpStream },
+    /// From the listener, with its number and its place at the door.
+    New {
+        conn: u32,
+        place: usize,
+        stream: TcpStream,
+    },
     /// From another worker. The channel has a place for each that may wait, so a connection lies
     /// elsewhere.
-    Passed(Box<Link<Socket>>),
+    Passed(Box<Talk<Socket>>),
 }
 
 /// Where a worker's connections are put, and what wakes it.
@@ -71,7 +76,9 @@ impl Outlet {
 
     /// Hands a connection over, and wakes its worker. It comes back where too many wait, or where the
     /// worker has ended.
-    pub(crate) fn send<R: Wait>(&mut self, rt: &R, arrival: Arrival) -> Result<(), Arrival> {
+    pub(crate) fn send<R: Wait>(&mut self, rt: &R, arrival: Arrival) -> Result<(), Arrival>
+        ensures back { IfErr result (λ back. back ≡ arrival) }
+    {
         match self.to.try_send_as::<Free, R>(rt, &mut self.pass, arrival) {
             Ok(()) => {
                 // A worker that isn't woken looks by itself soon.

@@ -2,10 +2,17 @@
 //! `serve`, which runs them all.
 //!
 //! Each worker waits in a poll of its own. What the poll said of a socket stands on that worker's
-//! `Board`, so that a `Socket`, which is a wire, asks the system only where there is something; a
-//! `Queue`, which is an inlet, names the wires of which the poll said something. The listener has a
+//! `Readiness`, so that a `Socket`, which is a wire, asks the system only where there is something; an
+//! `EventLoop`, which is an inlet, names the wires of which the poll said something. The listener has a
 //! thread and a poll of its own; it hands connections over by channels, and wakes the worker. By the
-//! same channels workers pass connections on to the worker of their user.
+//! same channels workers pass connections on to the worker of their user, or to one that helps it: each
+//! counts what it did (`Counts`), and the keeper's thread deals the work out by that (`Counting`).
+//!
+//! Each connection has a place at the `Door`, which counts them by user and says which are to go: the
+//! oldest that has not logged in where too many have not, a user's one too many, and one that stayed too
+//! long (`specs/Deadlines.antt`). A wire whose connection is to go fails. The keeper's thread looks each
+//! second who is overdue, and answers between its turns who asks for the metrics (`Scraping`): each user's
+//! `stats` is one call of the hall by a seat of its own.
 //!
 //! `serve` goes over any cache. A `Beginning` holds what `Hall::new` asks of its caller. An `Audience` is
 //! told where the server listens, and what is found where the hall is audited at the end.
@@ -17,16 +24,23 @@
 mod audience;
 mod auditing;
 mod beginning;
-mod board;
 mod clocking;
+mod counting;
+mod counts;
 mod door;
+mod event_loop;
 mod handover;
 mod listening;
-mod queue;
+mod notice;
+mod overdue;
+mod peer;
+mod readiness;
+mod scraping;
 mod serving;
 mod socket;
 
 pub use audience::Audience;
 pub use auditing::Found;
 pub use beginning::Beginning;
+pub use notice::Notice;
 pub use serving::{Affinity, AtEnd, Unserved, serve};

@@ -1,6 +1,7 @@
 //! The listener: it takes connections and hands them to the workers in turn.
 use crate::door::Door;
 use crate::handover::{Arrival, Outlet};
+use crate::notice::Notice;
 use mio::net::{TcpListener, TcpStream};
 use mio::{Events, Interest, Poll, Token};
 use std::alloc::Global;
@@ -78,27 +79,45 @@ impl Listening {
     /// Takes connections until none waits, or the system has no room for one now.
     fn take_all<R: Wait>(&mut self, rt: &R) {
         for _ in 0..BURST {
-            let Ok((stream, _peer)) = self.listener.accept() else {
+            let Ok((stream, peer)) = self.listener.accept() else {
                 return;
             };
-            if self.door.enter() && !self.hand_over(rt, stream) {
-                self.door.leave();
-            }
+            self.let_in(rt, stream, peer);
+        }
+    }
+
+    /// Lets a connection in and hands it over, where there is a place for it; else it is closed.
+    fn let_in<R: Wait>(&mut self, rt: &R, stream: TcpStream, peer: SocketAddr) {
+        if self.door.make_room() {
+            self.door.note(rt, Notice::UnboundFull { peer });
+            self.wake_workers();
+        }
+        let number = self.number;
+        self.number = number.wrapping_add(1);
+        let Some(place) = self.door.enter(number.saturating_add(1)) else {
+            self.door.note(rt, Notice::NoPlace { peer });
+            return;
+        };
+        if !self.hand_over(rt, number, place, stream) {
+            self.door.leave(place);
         }
     }
 
     /// Hands a connection to the worker whose turn it is. Whether it was taken; else it is closed.
-    fn hand_over<R: Wait>(&mut self, rt: &R, stream: TcpStream) -> bool {
+    fn hand_over<R: Wait>(&mut self, rt: &R, number: u64, place: usize, stream: TcpStream) -> bool {
         let _ = stream.set_nodelay(true);
-        let number = self.number;
-        self.number = number.wrapping_add(1);
         let count = self.outlets.len() as u64;
         if count == 0 {
             return false;
         }
         let conn = (number % 4_294_967_296) as u32;
+        let arrival = Arrival::New {
+            conn,
+            place,
+            stream,
+        };
         let outlet = &mut self.outlets[(number % count) as usize];
-        outlet.send(rt, Arrival::New { conn, stream }).is_ok()
+        outlet.send(rt, arrival).is_ok()
     }
 
     /// How long it waits for a connection before it looks whether it is done.

@@ -1,28 +1,30 @@
 //! A server from its settings to its end.
-ghost use Rattle.std.specs.Prelude.{◌≡◌, ◌<◌, map};
+ghost use Rattle.std.specs.Prelude.{◌≡◌, ◌<◌, ◌+◌, map};
 ghost use Rattle.tc_fresh.specs.Beginning.{fresh_cache};
 
 use crate::audience::Audience;
 use crate::auditing::{Found, audit_hall};
 use crate::beginning::Beginning;
 use crate::clocking::{Ticking, moment_now};
+use crate::counting::Counting;
 use crate::door::Door;
+use crate::event_loop::EventLoop;
 use crate::handover::Outlet;
 use crate::listening::Listening;
-use crate::queue::Queue;
+use crate::scraping::Scraping;
 use crate::socket::Socket;
 use std::alloc::{AllocError, Global};
 use std::io::ErrorKind;
 use std::net::{Net, SocketAddr};
 use std::sync::{Arc, Wait};
 use std::thread::Threads;
-use std::time::Clock as Time;
+use std::time::{Clock as Time, Instant};
 use std::{io, thread};
 use tc_item::NoMemory;
 use tc_locked::{Clock, Hall, Naming, Seat};
 use tc_plain::Cache;
-use tc_users::{Settings, Users};
-use tc_workers::{Homes, Keeper, Open, Worker, run_crew};
+use tc_users::{Address, Settings, Users};
+use tc_workers::{Homes, Keeper, Open, Returned, Shares, Worker, run_crew};
 
 /// Why a server doesn't serve.
 #[derive(Debug, Drop, Clone, Copy, PartialEq, Eq)]
@@ -57,7 +59,8 @@ impl From<io::Error> for Unserved {
 /// Which worker serves a connection once its user is known.
 #[derive(Clone, Copy, Debug, PartialEq, Eq)]
 pub enum Affinity {
-    /// That of its user: users are dealt out to the workers in the order of their numbers.
+    /// That of its user, or one that helps it: users are dealt out to the workers in the order of their
+    /// numbers, and a worker that has no time left gets helpers.
     ByUser,
     /// The one that it came to.
     Spread,
@@ -74,26 +77,28 @@ pub enum AtEnd {
 
 /// A worker with its inlet, and where its connections are put.
 #[derive(Drop)]
-struct Hired<N: Naming, R: Wait + Drop> {
+struct Hired<N: Naming, R: Wait + Time + Drop> {
     worker: Worker<Socket, N>,
-    queue: Queue<R>,
+    event_loop: EventLoop<R>,
     outlet: Outlet,
 }
 
-/// A worker for a seat.
-fn hire<N: Naming, R: Wait + Net + AllocGlobal + Copy + Drop>(
+/// A worker of so many, for a seat.
+fn hire<N: Naming, R: Wait + Net + Time + AllocGlobal + Copy + Drop>(
     rt: &R,
     alloc: Global,
     door: &Arc<Door, Global>,
+    begun: Option<Instant>,
+    workers: usize,
     seat: Seat<N>,
 ) -> Result<Hired<N, R>, Unserved> {
-    let (queue, outlet) = Queue::new(rt, *rt, shared(door)?)?;
+    let (event_loop, outlet) = EventLoop::new(rt, *rt, shared(door)?, begun, workers)?;
     let Ok(worker) = Worker::new(alloc, seat) else {
         return Err(Unserved::NoMemory);
     };
     Ok(Hired {
         worker,
-        queue,
+        event_loop,
         outlet,
     })
 }
@@ -107,31 +112,33 @@ fn shared(door: &Arc<Door, Global>) -> Result<Arc<Door, Global>, Unserved> {
 }
 
 /// A worker of a crew, with its inlet.
-type Member<N, R> = (Worker<Socket, N>, Queue<R>);
+type Member<N, R> = (Worker<Socket, N>, EventLoop<R>);
 
 /// All workers, with their inlets and where their connections are put.
 #[derive(Drop)]
-struct Staff<N: Naming, R: Wait + Drop> {
+struct Staff<N: Naming, R: Wait + Time + Drop> {
     crew: Vec<Member<N, R>>,
     outlets: Vec<Outlet>,
 }
 
 /// A worker for each seat.
-fn hire_all<N: Naming, R: Wait + Net + AllocGlobal + Copy + Drop>(
+fn hire_all<N: Naming, R: Wait + Net + Time + AllocGlobal + Copy + Drop>(
     rt: &R,
     alloc: Global,
     door: &Arc<Door, Global>,
+    begun: Option<Instant>,
     seats: Vec<Seat<N>>,
 ) -> Result<Staff<N, R>, Unserved> {
+    let workers = seats.len();
     let mut outlets = Vec::new(alloc);
     let mut crew = Vec::new(alloc);
     for seat in seats {
         let Hired {
             worker,
-            queue,
+            event_loop,
             outlet,
-        } = hire(rt, alloc, door, seat)?;
-        if outlets.push(outlet).is_err() || crew.push((worker, queue)).is_err() {
+        } = hire(rt, alloc, door, begun, workers, seat)?;
+        if outlets.push(outlet).is_err() || crew.push((worker, event_loop)).is_err() {
             return Err(Unserved::NoMemory);
         }
     }
@@ -147,29 +154,60 @@ fn another_each(alloc: Global, outlets: &mut Vec<Outlet>) -> Result<Vec<Outlet>,
     Ok(others)
 }
 
-/// Deals users out to so many workers.
-fn deal_out<N: Naming, R: Wait + Drop>(
+/// Deals users out to so many workers; what they do is counted, so that helpers come and go.
+fn deal_out<N: Naming, R: Wait + Time + Drop>(
     alloc: Global,
     staff: &mut Staff<N, R>,
     workers: usize,
-) -> Result<(), AllocError>
+) -> Result<Counting, AllocError>
     requires { 0 < workers }
 {
+    let shares = Arc::new(alloc, Shares::new(alloc, workers)?)?;
+    let mut counted = Vec::new(alloc);
     for (own, member) in staff.crew.iter_mut().enumerate() {
-        let (worker, queue) = member;
-        worker.set_homes(Homes::by_user(own, workers));
-        queue.set_outlets(another_each(alloc, &mut staff.outlets)?);
+        let (worker, event_loop) = member;
+        let theirs = Arc::try_clone(&shares)?;
+        worker.set_homes(Homes::by_user(own, workers, Some(theirs)));
+        event_loop.set_outlets(another_each(alloc, &mut staff.outlets)?);
+        counted.push(event_loop.readiness()?)?;
     }
-    Ok(())
+    Counting::new(alloc, counted, shares)
+}
+
+/// The metrics' listener, where the settings ask for one. The audience is told where it listens, or why
+/// it can't.
+fn listen_for_metrics<R: Net + AllocGlobal, A: Audience>(
+    rt: &R,
+    metrics: Option<Address>,
+    users: &Users,
+    audience: &A,
+) -> Result<Option<Scraping>, Unserved> {
+    let Some(metrics) = metrics else {
+        return Ok(None);
+    };
+    let Ok(address) = metrics.as_str().parse::<SocketAddr>() else {
+        return Err(Unserved::CannotListen);
+    };
+    match Scraping::new(rt, address, users) {
+        Ok(scraping) => {
+            audience.tells_metrics(scraping.address().unwrap_or(address));
+            Ok(Some(scraping))
+        }
+        Err(error) => {
+            audience.cannot_tell_metrics(&error);
+            Err(Unserved::from(error))
+        }
+    }
 }
 
 /// Listens and serves, until so many connections were closed. The audience is told once it listens, or
-/// why it can't; and at the end what an audit finds, if one is asked for.
+/// why it can't; while it serves, what becomes of connections; and at the end what an audit finds, if one
+/// is asked for. The hall has a seat for each worker, and one more for the metrics.
 pub fn serve<
     C: Cache + Send + Sync,
     N: Naming + Send + Sync,
     R: Threads + Wait + Net + Time + AllocGlobal + Send + Sync + Copy + Drop + 'static,
-    A: Audience,
+    A: Audience + Sync,
 >(
     rt: &R,
     alloc: Global,
@@ -181,7 +219,7 @@ pub fn serve<
 ) -> Result<Found, Unserved>
     requires name { beginning.opened ≡ N.table }
     requires begins { N.terms.begins ≡ map fresh_cache beginning.settings.users }
-    requires seats { N.terms.seats ≡ beginning.settings.workers }
+    requires seats { N.terms.seats ≡ beginning.settings.workers + 1 }
     requires journal { N.terms.journal ≡ beginning.settings.journal }
 {
     let Beginning {
@@ -193,19 +231,30 @@ pub fn serve<
         listen,
         workers,
         journal,
+        limits,
+        metrics,
         users,
+        user_limits,
     } = settings;
     let Ok(address) = listen.as_str().parse::<SocketAddr>() else {
         return Err(Unserved::CannotListen);
     };
-    let (hall, seats) = Hall::<C, N>::new(alloc, opened, &users, caches, workers, journal)?;
-    let Ok(door) = Arc::new(alloc, Door::new()) else {
+    let Some(seats) = workers.checked_add(1) else {
         return Err(Unserved::NoMemory);
     };
-    let mut staff = hire_all(rt, alloc, &door, seats)?;
-    if affinity == Affinity::ByUser {
-        deal_out(alloc, &mut staff, workers)?;
-    }
+    let (hall, mut seats) = Hall::<C, N>::new(alloc, opened, &users, caches, seats, journal)?;
+    let Some(own) = seats.pop() else {
+        return Err(Unserved::NoMemory);
+    };
+    let Ok(door) = Arc::new(alloc, Door::new(alloc, limits, user_limits)?) else {
+        return Err(Unserved::NoMemory);
+    };
+    let begun = Instant::now(rt).ok();
+    let mut staff = hire_all(rt, alloc, &door, begun, seats)?;
+    let counting = match affinity {
+        Affinity::ByUser => Some(deal_out(alloc, &mut staff, workers)?),
+        Affinity::Spread => None,
+    };
     let Staff { crew, outlets } = staff;
     let listening = match Listening::new(rt, address, outlets, shared(&door)?, until) {
         Ok(listening) => listening,
@@ -214,25 +263,37 @@ pub fn serve<
             return Err(Unserved::from(error));
         }
     };
+    let scraping = listen_for_metrics(rt, metrics, &users, audience)?;
     audience.listens(listening.address().unwrap_or(address));
-    let seats = run(rt, alloc, &hall, &users, crew, listening, &door)?;
+    let source = Ticking {
+        rt: *rt,
+        begun,
+        door: shared(&door)?,
+        audience,
+        seat: own,
+        scraping,
+        counting,
+    };
+    let seats = run(rt, alloc, &hall, &users, crew, source, listening, &door)?;
     match at_end {
         AtEnd::Leaves => Ok(Found::Nothing),
         AtEnd::Audits => Ok(audit_hall(alloc, hall, seats, audience)?),
     }
 }
 
-/// Runs the listener, the workers and the keeper, until the listener ends. The workers' seats come back.
+/// Runs the listener, the workers and the keeper, until the listener ends. All seats come back.
 fn run<
     C: Cache + Send + Sync,
     N: Naming + Send + Sync,
     R: Threads + Wait + Net + Time + AllocGlobal + Send + Sync + Copy + Drop + 'static,
+    A: Audience + Sync,
 >(
     rt: &R,
     alloc: Global,
     hall: &Hall<C, N>,
     users: &Users,
-    crew: Vec<(Worker<Socket, N>, Queue<R>)>,
+    crew: Vec<(Worker<Socket, N>, EventLoop<R>)>,
+    source: Ticking<'_, R, N, A>,
     listening: Listening,
     door: &Arc<Door, Global>,
 ) -> Result<Vec<Seat<N>>, Unserved> {
@@ -244,12 +305,14 @@ fn run<
         return Err(Unserved::NoMemory);
     };
     let keeper = Keeper::new();
-    let source = Ticking { rt: *rt };
     let ended = run_crew(rt, alloc, hall, users, &clock, &Open, keeper, crew, source);
     door.end();
     let _outlets = listener.join(rt);
-    match ended {
-        Ok(seats) => Ok(seats),
+    let Ok(Returned { mut seats, source }) = ended else {
+        return Err(Unserved::NoMemory);
+    };
+    match seats.push(source.into_seat()) {
+        Ok(()) => Ok(seats),
         Err(_) => Err(Unserved::NoMemory),
     }
 }

@@ -2,35 +2,45 @@
 ghost use Rattle.std.specs.Prelude.{None};
 ghost use Rattle.std.specs.Io.{WritesAtMost};
 
-use crate::board::{Board, ENDING, READABLE, WRITABLE};
 use crate::door::Door;
+use crate::readiness::{ENDING, READABLE, Readiness, WRITABLE};
 use mio::net::TcpStream;
 use mio::{Interest, Registry, Token};
 use std::alloc::Global;
 use std::io::{self, ErrorKind, IoSlice, Read, Write};
-use std::sync::Arc;
-use tc_workers::{Change, Got, Parts, Put, Wire};
+use std::sync::{Arc, Wait};
+use tc_users::UserNo;
+use tc_workers::{Change, Got, Parts, Put, Remark, Wire};
 
-/// A socket's place on the board of its worker, until it is dropped.
+/// A socket's place in the readiness of its worker's sockets, until it is dropped.
 struct Watch {
-    board: Arc<Board, Global>,
+    readiness: Arc<Readiness, Global>,
     at: usize,
+    /// The home of its user, once it logged in.
+    home: Option<usize>,
 }
 
 impl Drop for Watch {
     fn drop(self) {
-        let Watch { board, at } = self;
-        board.free(at);
+        let Watch {
+            readiness,
+            at,
+            home: _,
+        } = self;
+        readiness.free(at);
     }
 }
 
-/// A socket that asks the system only where the poll said that there is something. It is counted at
+/// A socket that asks the system only where the poll said that there is something. It has a place at
 /// the door until it is dropped.
 pub(crate) struct Socket {
     stream: TcpStream,
     /// None while it is on its way to a worker.
     watch: Option<Watch>,
     door: Arc<Door, Global>,
+    place: usize,
+    /// The user that logged in.
+    user: Option<UserNo>,
 }
 
 impl Drop for Socket {
@@ -39,30 +49,39 @@ impl Drop for Socket {
             stream,
             watch,
             door,
+            place,
+            user: _,
         } = self;
         drop(stream);
         drop(watch);
-        door.leave();
+        door.leave(place);
     }
 }
 
 impl Socket {
-    /// A wire that was counted at the door, and that no worker has yet.
-    pub(crate) fn new(stream: TcpStream, door: Arc<Door, Global>) -> Socket {
+    /// A wire that has this place at the door, and that no worker has yet.
+    pub(crate) fn new(stream: TcpStream, door: Arc<Door, Global>, place: usize) -> Socket {
         Socket {
             stream,
             watch: None,
             door,
+            place,
+            user: None,
         }
     }
 
-    /// Takes a place of a worker's board, which the worker's poll writes from now on. Whether there was
+    /// Takes a place in a worker's readiness, which the worker's poll writes from now on. Whether there was
     /// one and the poll took it.
-    pub(crate) fn join(&mut self, registry: &Registry, board: Arc<Board, Global>) -> bool {
-        let Some(at) = board.claim() else {
+    pub(crate) fn join(&mut self, registry: &Registry, readiness: Arc<Readiness, Global>) -> bool {
+        let Some(at) = readiness.claim(self.place) else {
             return false;
         };
-        let watch = Watch { board, at };
+        let home = self.home_on(&readiness);
+        let watch = Watch {
+            readiness,
+            at,
+            home,
+        };
         let both = Interest::READABLE | Interest::WRITABLE;
         if registry
             .register(&mut self.stream, Token(at), both)
@@ -74,6 +93,20 @@ impl Socket {
         true
     }
 
+    /// On whose users' account its worker serves it.
+    fn home_on(&self, readiness: &Readiness) -> Option<usize> {
+        readiness.counts.home(self.user?)
+    }
+
+    /// Its worker read or wrote so many bytes.
+    fn count(&self, bytes: usize) {
+        if let Some(watch) = &self.watch
+            && let Some(home) = watch.home
+        {
+            watch.readiness.counts.note(home, bytes);
+        }
+    }
+
     /// Gives its place up, and leaves the worker's poll.
     pub(crate) fn leave(&mut self, registry: &Registry) {
         let _ = registry.deregister(&mut self.stream);
@@ -83,7 +116,7 @@ impl Socket {
     /// Whether the poll said this of it.
     fn has(&self, bit: u64) -> bool {
         match &self.watch {
-            Some(watch) => watch.board.has(watch.at, bit),
+            Some(watch) => watch.readiness.has(watch.at, bit),
             None => false,
         }
     }
@@ -91,7 +124,7 @@ impl Socket {
     /// Notes that the system said that it isn't so any more.
     fn clear(&self, bit: u64) {
         if let Some(watch) = &self.watch {
-            watch.board.clear(watch.at, bit);
+            watch.readiness.clear(watch.at, bit);
         }
     }
 
@@ -103,18 +136,23 @@ impl Socket {
         }
     }
 
-    /// Hands the bytes to the system in one call, from where they lie.
+    /// Hands the first bytes to the system in one call, from where they lie: of one slice, or of four,
+    /// which is as many as the call takes.
     fn send(&mut self, from: &Parts<'_>) -> io::Result<usize>
         ensures within { WritesAtMost result from.now }
     {
-        let (first, second, third) = from.as_slices();
-        if second.is_empty() && third.is_empty() {
+        let (first, behind) = from.split_first();
+        if behind.is_empty() {
             return self.stream.write(first);
         }
+        let (second, behind) = behind.split_first();
+        let (third, behind) = behind.split_first();
+        let (fourth, _) = behind.split_first();
         self.stream.write_vectored(&[
             IoSlice::new(first),
             IoSlice::new(second),
             IoSlice::new(third),
+            IoSlice::new(fourth),
         ])
     }
 }
@@ -125,7 +163,7 @@ impl Wire for Socket {
     ghost took = { λ _. None };
 
     fn read(&mut self, into: &mut [u8]) -> Got {
-        if self.door.has_ended() {
+        if self.door.is_over(self.place) {
             return Got::Failed;
         }
         if !self.has(READABLE) {
@@ -134,6 +172,8 @@ impl Wire for Socket {
         match self.stream.read(into) {
             Ok(0) => Got::Ended,
             Ok(n) => {
+                self.door.note_heard(self.place);
+                self.count(n);
                 self.note_read(n, into.len());
                 Got::Bytes(n)
             }
@@ -147,15 +187,20 @@ impl Wire for Socket {
     }
 
     fn write(&mut self, from: &Parts<'_>) -> Put {
-        if self.door.has_ended() {
+        if self.door.is_over(self.place) {
             return Put::Failed;
         }
         if !self.has(WRITABLE) {
             return Put::Later;
         }
         match self.send(from) {
-            Ok(n) => Put::Wrote(n),
+            Ok(n) => {
+                self.door.note_taken(self.place, true);
+                self.count(n);
+                Put::Wrote(n)
+            }
             Err(e) if e.kind() == ErrorKind::WouldBlock => {
+                self.door.note_taken(self.place, false);
                 self.clear(WRITABLE);
                 Put::Later
             }
@@ -167,25 +212,41 @@ impl Wire for Socket {
     fn set_key(&mut self, key: usize) -> bool {
         match &self.watch {
             Some(watch) => {
-                watch.board.set_key(watch.at, key);
+                watch.readiness.set_key(watch.at, key);
                 true
             }
             None => false,
         }
     }
+
+    fn set_user(&mut self, user: UserNo) {
+        self.door.bind(self.place, user);
+        self.user = Some(user);
+        if let Some(watch) = &mut self.watch {
+            watch.home = watch.readiness.counts.home(user);
+        }
+    }
+
+    fn note<R: Wait>(&mut self, rt: &R, remark: Remark) {
+        self.door
+            .note_remark(rt, self.stream.peer_addr().ok(), remark);
+    }
 }
 
-/// A worker takes a socket over, which gets a place of its board; its poll writes that from now on.
+/// A worker takes a socket over, which gets a place in its readiness; its poll writes that from now on.
 #[derive(Drop)]
 pub(crate) struct Join<'a> {
     pub(crate) registry: &'a Registry,
-    pub(crate) board: Arc<Board, Global>,
+    pub(crate) readiness: Arc<Readiness, Global>,
 }
 
 impl<'a> Change<Socket> for Join<'a> {
     fn change(self, wire: &mut Socket) -> bool {
-        let Join { registry, board } = self;
-        wire.join(registry, board)
+        let Join {
+            registry,
+            readiness,
+        } = self;
+        wire.join(registry, readiness)
     }
 }
 

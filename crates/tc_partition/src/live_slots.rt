@@ -9,7 +9,7 @@ ghost use Rattle.tc_plain.specs.Entries.{weight, lives, with_item};
 ghost use Rattle.tc_plain.specs.EvictionState.{is_flush_due, advanced, held};
 ghost use Rattle.tc_plain.specs.Placing.{frequency, used, without_key};
 ghost use Rattle.tc_plain.specs.Doing.{flushed, looked_up};
-ghost use Rattle.tc_plain.specs.AreaLists.{change_of, live_of as lists_live};
+ghost use Rattle.tc_plain.specs.AreaLists.{areas_of, change_of, live_of as lists_live};
 ghost use Rattle.tc_plain.specs.Soundness.{AreSound};
 ghost use Rattle.tc_plain.specs.UserCache.{UserCache};
 ghost use Rattle.tc_plain.specs.Plans.{outcome_of, planned, IsLightPlan};
@@ -18,12 +18,14 @@ ghost use Rattle.tc_partition.specs.Deferred.{Miss, hit, do_note, peeked};
 ghost use Rattle.tc_partition.specs.WaitingSlots.{SeeksSlot, placed_in};
 ghost use Rattle.tc_partition.specs.LiveSlots.{live_of, then_live, seen_of, plan_of, IsKeyed, IsFree};
 
+use crate::aside::{Aside, set_aside, shed, turn};
 use crate::hints::Hints;
 use crate::slots::Slots;
+use crate::tables::Tables;
 use crate::work::Work;
 use std::alloc::Global;
 use tc_item::{Due, Key, Moment, NoMemory, Slot, alive};
-use tc_plain::{Change, End, Entry, EvictionState, Limits};
+use tc_plain::{Areas, Change, End, Entry, EvictionState, Limits};
 use tc_sketch::{PastSketch, hash};
 use tc_stats::Counters;
 
@@ -32,6 +34,10 @@ use tc_stats::Counters;
 pub struct LiveSlots {
     /// The entries held.
     pub held: Slots,
+    /// What the entries were then, where their tables were set aside.
+    pub aside: Aside,
+    /// Tables that are done with.
+    pub gone: Option<Tables>,
     /// Where keys were found last.
     pub hints: Hints,
     /// How often each key was seen of late.
@@ -367,6 +373,7 @@ impl LiveSlots {
         ensures unchanged_on_err { OnErr result (then_live self.new ≡ then_live self.old) }
     {
         self.held.prepare(alloc)?;
+        self.aside.prepare();
         self.sketch.prepare();
         Ok(())
     }
@@ -379,7 +386,27 @@ impl LiveSlots {
         ensures next { (then_live self.new).next ≡ (then_live self.old).next }
     {
         self.sketch.turn();
-        self.held.turn()
+        shed(&mut self.gone);
+        turn(&mut self.held, &mut self.aside, &mut self.gone)
+    }
+
+    /// Sets large tables aside where nothing is held. The limits are those that it has.
+    pub(crate) fn renew(&mut self, alloc: Global, limits: Limits)
+        requires same { limits ≡ self.old.held.limits }
+        requires small { limits.main < 2 ^ 32 }
+        ensures live { live_of self.new ≡ live_of self.old }
+        ensures then { then_live self.new ≡ then_live self.old }
+    {
+        if set_aside(alloc, &mut self.held, &mut self.aside, limits) {
+            self.hints = Hints::new(alloc);
+        }
+    }
+
+    /// The entries when the page began, in their lists, over the same data.
+    pub(crate) fn opened(&self, alloc: Global) -> Result<Areas, NoMemory>
+        ensures { IfOk result (λ areas. areas_of areas ≡ (then_live self.now).page.areas) }
+    {
+        self.aside.opened(alloc, &self.held)
     }
 
     /// Carries work out on a key that was found at this place or holds nothing, for which there is

@@ -168,6 +168,15 @@ fn give_out(before: &mut Vec<Change>, gone: &mut Vec<Change>, mut out: Vec<Chang
     out
 }
 
+/// Puts changes behind those that wait to be let go of; they go at once where there is no memory for that.
+fn put_behind(gone: &mut Vec<Change>, mut changes: Vec<Change>) {
+    if gone.is_empty() {
+        mem::swap(gone, &mut changes);
+    } else {
+        let _ = gone.append(&mut changes);
+    }
+}
+
 impl Log {
     /// No changes, and room for none.
     pub fn new(alloc: Global) -> Log
@@ -234,6 +243,23 @@ impl Log {
         let given = give_out(&mut self.before, &mut self.gone, out);
         self.before.clear();
         Some(given)
+    }
+
+    /// Lets go of all changes of another log, some with each turn where they are many.
+    pub fn take_over(&mut self, other: Log)
+        ensures { self.new ≡ self.old }
+    {
+        let Log {
+            before,
+            since,
+            gone,
+            out: _,
+            marks: _,
+            told: _,
+        } = other;
+        put_behind(&mut self.gone, gone);
+        put_behind(&mut self.gone, before);
+        put_behind(&mut self.gone, since);
     }
 
     /// What came before the next page was prepared, and what came since.

@@ -36,6 +36,7 @@ use crate::parts::{
     copy_at, copy_then, drop_next, empty_all, grow, put, put_due, reached, reached_by, take_in,
     take_out, time, vacate, weight_at,
 };
+use crate::tables::Tables;
 use indexmap::IndexMap;
 use slab::Slab;
 use std::alloc::Global;
@@ -53,6 +54,9 @@ const LOG_ROOM: usize = 64;
 /// Entries are few where they are less than one in so many slots: to take one out alone costs about what it
 /// costs to pass so many.
 const FEW_OF: usize = 32;
+
+/// Tables with places for so many slots are large: some 900 KiB.
+const LARGE: usize = 4096;
 
 /// The entries of one partition.
 #[derive(Drop)]
@@ -95,6 +99,37 @@ impl Slots {
             wheel,
             log: Log::new(alloc),
         })
+    }
+
+    /// No entries, with room for none, under the same limits, hashed as these are.
+    pub fn fresh(&self, alloc: Global, limits: Limits) -> Result<Slots, NoMemory>
+        requires small { limits.main < 2 ^ 32 }
+        ensures limits { IfOk result (λ s. s.limits ≡ limits) }
+        ensures areas { IfOk result (λ s. s.areas ≡ no_entries) }
+        ensures page { IfOk result (λ s. s.then.page ≡ no_entries) }
+        ensures next { IfOk result (λ s. s.then.next ≡ no_entries) }
+    {
+        Slots::new(alloc, *self.index.hasher(), limits)
+    }
+
+    /// Whether the tables have places for many slots.
+    pub fn are_large(&self) -> bool {
+        self.wheel.slots() >= LARGE
+    }
+
+    /// The tables alone, which hold nothing; the changes that were noted go with those of `held`.
+    pub fn retire(self, held: &mut Slots) -> Tables
+        ensures { held.new ≡ held.old }
+    {
+        let Slots {
+            index,
+            entries,
+            lists,
+            wheel,
+            log,
+        } = self;
+        held.log.take_over(log);
+        Tables::of(index, entries, lists, wheel)
     }
 
     /// Room for one more entry but in the log. A refusal changes nothing.

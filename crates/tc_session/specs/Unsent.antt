@@ -1,43 +1,39 @@
 -- Output as contracts see it. Source: this project's own.
-use Rattle.std.specs.Prelude.{ℕ, ◌+◌, ◌-◌, ◌^◌, ◌<◌, ◌≤◌, ◌≡◌, List, [], ◌++◌, length, drop, Option, None, Some}
+use Rattle.std.specs.Prelude.{ℕ, ◌+◌, ◌<◌, ◌≤◌, ◌≡◌, List, [], ◌∷◌, ◌++◌, length, take, drop}
+use Rattle.tc_session.specs.declared.chain.Piece.{Piece}
 
 -- bytes that wait to be sent, and for how many more there is room
--- fixed: how many of them stand before the end of shared data; none where no data is shared
--- behind: for how many bytes there is room behind shared data, those that stand there among them
 pub record Unsent : Type 0 where
   pub bytes : List ℕ
   pub room : ℕ
-  pub fixed : ℕ
-  pub behind : ℕ
 
--- what waits and the room beside it are together no less than they were, as many bytes stand before the end of
--- shared data, and the room behind it is no less
-abbrev pub KeepsSpace : Unsent → Unsent → Type 0
-KeepsSpace old new =
-    (old.room + length old.bytes ≤ new.room + length new.bytes)
-    × ((new.fixed ≡ old.fixed) × (old.behind ≤ new.behind))
+-- own bytes, and the data of pieces between them, each behind as many own bytes as it says
+abbrev pub joined : List ℕ → List Piece → List ℕ
+joined own [] = own
+joined own (p ∷ ps) = take p.before own ++ (p.blob ++ joined (drop p.before own) ps)
 
--- the bytes of shared data
-abbrev pub data_of : Option (List ℕ) → List ℕ
-data_of None = []
-data_of (Some blob) = blob
+-- how many own bytes stand before the last piece's data
+abbrev pub reach : List Piece → ℕ
+reach [] = 0
+reach (p ∷ ps) = p.before + reach ps
 
--- what waits: the front, shared data and what stands behind it, without as many bytes as were sent
-abbrev pub waiting : ℕ → List ℕ → Option (List ℕ) → List ℕ → List ℕ
-waiting sent front shared back = drop sent (front ++ (data_of shared ++ back))
+-- how many bytes the data of pieces has
+abbrev pub weight : List Piece → ℕ
+weight [] = 0
+weight (p ∷ ps) = length p.blob + weight ps
 
--- the room of what is written next: in front, or behind shared data
-abbrev pub room_of : Option (List ℕ) → ℕ → ℕ → ℕ
-room_of None front behind = front
-room_of (Some blob) front behind = behind
+-- each piece's data has a byte at least
+abbrev pub HaveData : List Piece → Type 0
+HaveData [] = Unit {0}
+HaveData (p ∷ ps) = (0 < length p.blob) × HaveData ps
 
--- how many of the waiting bytes stand before the end of shared data, behind a front of this length
-abbrev pub fixed_of : Option (List ℕ) → ℕ → ℕ → ℕ
-fixed_of None front sent = 0
-fixed_of (Some blob) front sent = front + length blob - sent
+-- so many bytes of the first piece and of those before it were sent: not all of them, and none where there is no piece
+abbrev pub IsBegun : ℕ → List Piece → Type 0
+IsBegun sent [] = sent ≡ 0
+IsBegun sent (p ∷ ps) = sent < p.before + length p.blob
 
--- as many bytes were sent: of the front alone, where nothing is shared and nothing stands behind; else
--- not all of it and the shared data, which are few enough that all that waits can be counted
-abbrev pub AreParts : Option (List ℕ) → ℕ → ℕ → List ℕ → Type 0
-AreParts None sent front back = (sent ≤ front) × (back ≡ [])
-AreParts (Some blob) sent front back = (sent < front + length blob) × (front + length blob ≤ 2 ^ 62)
+-- pieces say a text behind the own bytes that stood there: they stand within the own bytes, and each has data
+pub record Says (old new : List ℕ) (pieces : List Piece) (text : List ℕ) : Type 0 where
+  pub says : joined new pieces ≡ old ++ text
+  pub within : reach pieces ≤ length new
+  pub some : HaveData pieces

@@ -2,12 +2,11 @@
 ghost use Rattle.std.specs.Prelude.{◌≡◌, ◌≤◌, ◌++◌, true, false, take, length, IsOk, OnOk, OnErr};
 ghost use Rattle.tc_grammar.specs.declared.fault.Fault.TheVariants.{NoMemory as OutOfMemory};
 ghost use Rattle.tc_session.specs.SessionView.{reply_room};
-ghost use Rattle.tc_session.specs.Unsent.{KeepsSpace};
 ghost use Rattle.tc_session.specs.Texts.{fault_line, unless_quiet};
 ghost use Rattle.tc_session.specs.Replies.{is_quiet, is_refusal, is_store_end, can_end, form_of, reply_of, render, is_long};
 
 use crate::output::Output;
-use crate::reply::{is_quiet, write_fault, write_values, write_version};
+use crate::reply::{is_quiet, write_fault, write_version};
 use tc_grammar::{Command, Fault, Form, StoreKind};
 use tc_item::NoMemory;
 use tc_stats::Outcome;
@@ -74,7 +73,7 @@ fn write_outcome(out: &mut Output, form: Form, outcome: &Outcome) -> Result<(), 
     requires { reply_room ≤ out.old.room }
     ensures bytes { OnOk result (out.new.bytes ≡ out.old.bytes ++ reply_of form outcome.now) }
     ensures unchanged_on_err { OnErr result (out.new.bytes ≡ out.old.bytes) }
-    ensures space_on_err { OnErr result (KeepsSpace out.old out.new) }
+    ensures room_on_err { OnErr result (out.old.room ≤ out.new.room) }
     ensures short { is_long outcome.now ≡ false → IsOk result }
 {
     match outcome {
@@ -88,7 +87,7 @@ fn write_outcome(out: &mut Output, form: Form, outcome: &Outcome) -> Result<(), 
             out.write_number(*number);
             out.write(b"\r\n");
         }
-        Outcome::Values(hits) => return write_values(out, form, hits.as_slice()),
+        Outcome::Values(hits) => return out.write_values(form, hits.as_slice()),
         Outcome::Done => out.write(b"OK\r\n"),
         Outcome::Stats(statistics) => return out.write_stats(statistics.counters()),
         Outcome::Version => write_version(out),

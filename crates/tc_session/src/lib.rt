@@ -7,6 +7,8 @@
 #![tactic(auto)]
 
 mod answering;
+mod chain;
+mod news;
 mod output;
 mod parts;
 mod reply;
@@ -15,6 +17,7 @@ mod values;
 mod want;
 
 pub use answering::can_end;
+pub use news::News;
 pub use parts::Parts;
 pub use session::Session;
 pub use want::Want;

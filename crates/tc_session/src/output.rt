@@ -1,54 +1,44 @@
 //! Bytes that wait to be sent.
-ghost use Rattle.std.specs.Prelude.{◌≡◌, ◌+◌, ◌^◌, ◌<◌, ◌≤◌, ◌++◌, [], decimal, drop, take, length, vec_len};
-ghost use Rattle.std.specs.Prelude.{OnOk, OnErr, IsTrue};
-ghost use Rattle.tc_session.specs.Replies.{value_line, values_text, stats_text};
-ghost use Rattle.tc_session.specs.Unsent.{Unsent, KeepsSpace};
+ghost use Rattle.std.specs.Prelude.{◌≡◌, ◌+◌, ◌-◌, ◌<◌, ◌≤◌, ◌++◌, [], decimal, drop, take, length, vec_len, vec_capacity};
+ghost use Rattle.std.specs.Prelude.{OnOk, OnErr};
+ghost use Rattle.tc_session.specs.Replies.{values_text, stats_text};
 
+use crate::chain::Chain;
 use crate::parts::Parts;
-use crate::values::{append_number, append_stats, append_value_line, append_values};
+use crate::values::{Plan, append_number, append_stats, append_values, splice_values};
 use std::alloc::Global;
 use std::marker::Model;
-use std::mem::swap;
 use tc_grammar::Form;
-use tc_item::{Blob, LARGEST_ITEM, NoMemory};
+use tc_item::NoMemory;
 use tc_stats::{Counters, Hit};
 
 /// The most room that is kept once all bytes are sent.
 const KEPT_ROOM: usize = 65_536;
 
-/// Data of at least so many bytes is sent from where it lies, and not copied.
-const SHARED: usize = 16_384;
-
-/// The most bytes that wait before data that is to be shared.
-const MOST_BEFORE: usize = 1_048_576;
-
-/// Bytes that wait to be sent, and room for more.
+/// Bytes that wait to be sent, and room for more: own bytes, and between them data that is shared.
 #[derive(Debug, Drop)]
 pub(crate) struct Output {
-    front: Vec<u8>,
-    /// How many of all bytes were sent.
+    own: Vec<u8>,
+    /// How many own bytes were sent that no piece counts.
+    start: usize,
+    /// Each counts the own bytes since the one before it, the first those behind the start.
+    chain: Chain,
+    /// How many bytes of the first piece, and of those before it, were sent.
     sent: usize,
-    /// Data that waits behind the front.
-    shared: Option<Blob>,
-    /// What was written since then.
-    back: Vec<u8>,
 }
 
 impl Model for Output {
-    ghost use Rattle.std.specs.Prelude.{vec_capacity, vec_len, ◌-◌};
-    ghost use Rattle.tc_session.specs.Unsent.{Unsent, waiting, room_of, fixed_of, AreParts};
+    ghost use Rattle.std.specs.Prelude.{vec_capacity, vec_len, ◌+◌, ◌-◌, ◌≤◌, drop};
+    ghost use Rattle.tc_session.specs.Unsent.{Unsent, joined, reach, IsBegun};
 
     ghost Value = { Unsent };
 
     ghost view = { λ o. record {
-      bytes = waiting o.sent o.front.items o.shared o.back.items;
-      room = room_of o.shared (vec_capacity o.front - vec_len o.front)
-          (vec_capacity o.back - vec_len o.back);
-      fixed = fixed_of o.shared (vec_len o.front) o.sent;
-      behind = vec_capacity o.back;
+      bytes = drop o.sent (joined (drop o.start o.own.items) o.chain);
+      room = vec_capacity o.own - vec_len o.own;
     } };
 
-    ghost invariant = { λ o. AreParts o.shared o.sent (vec_len o.front) o.back.items };
+    ghost invariant = { λ o. (o.start + reach o.chain ≤ vec_len o.own) × IsBegun o.sent o.chain };
 }
 
 /// Gives up the room of bytes that are no more, where it is large.
@@ -66,7 +56,7 @@ fn clear(bytes: &mut Vec<u8>)
 fn compact(bytes: &mut Vec<u8>, sent: usize) -> usize
     requires { sent ≤ vec_len bytes.old }
     ensures waiting { drop result bytes.new.items ≡ drop sent bytes.old.items }
-    ensures within { result ≤ vec_len bytes.new }
+    ensures long { result + (vec_len bytes.old - sent) ≡ vec_len bytes.new }
 {
     if sent <= bytes.len() - sent {
         return sent;
@@ -81,10 +71,10 @@ impl Output {
         ensures { result.bytes ≡ [] }
     {
         Output {
-            front: Vec::new(alloc),
+            own: Vec::new(alloc),
+            start: 0,
+            chain: Chain::new(alloc),
             sent: 0,
-            shared: None,
-            back: Vec::new(alloc),
         }
     }
 
@@ -92,142 +82,73 @@ impl Output {
     pub fn reserve(&mut self, n: usize) -> Result<(), NoMemory>
         ensures bytes { self.new.bytes ≡ self.old.bytes }
         ensures room { OnOk result (n ≤ self.new.room) }
-        ensures space { KeepsSpace self.old self.new }
     {
-        match self.shared {
-            None => self.front.reserve(n)?,
-            Some(_) => self.back.reserve(n)?,
-        }
-        Ok(())
-    }
-
-    /// Makes room for so many bytes behind data that is to be shared.
-    pub fn reserve_behind(&mut self, n: usize) -> Result<(), NoMemory>
-        ensures bytes { self.new.bytes ≡ self.old.bytes }
-        ensures room { self.old.room ≤ self.new.room }
-        ensures behind { OnOk result (n ≤ self.new.behind) }
-        ensures space { KeepsSpace self.old self.new }
-    {
-        self.back.reserve(n)?;
+        self.own.reserve(n)?;
         Ok(())
     }
 
     /// Puts bytes at the end, for which there is room.
+    #[tactic(auto, using(crate::proofs::Waiting::written))]
     pub fn write(&mut self, text: &[u8])
         requires { length text.now ≤ self.old.room }
         ensures bytes { self.new.bytes ≡ self.old.bytes ++ text.now }
         ensures room { self.old.room ≤ self.new.room + length text.now }
-        ensures space { KeepsSpace self.old self.new }
     {
-        let _ = match self.shared {
-            None => self.front.extend_from_slice(text),
-            Some(_) => self.back.extend_from_slice(text),
-        };
+        let _ = self.own.extend_from_slice(text);
     }
 
     /// Puts a number at the end, for which there is room.
+    #[tactic(auto, using(crate::proofs::Waiting::written))]
     pub fn write_number(&mut self, number: u64)
         requires { 20 ≤ self.old.room }
         ensures bytes { self.new.bytes ≡ self.old.bytes ++ decimal number }
         ensures room { self.old.room ≤ self.new.room + 20 }
-        ensures space { KeepsSpace self.old self.new }
     {
-        match self.shared {
-            None => append_number(&mut self.front, number),
-            Some(_) => append_number(&mut self.back, number),
-        }
+        append_number(&mut self.own, number);
     }
 
-    /// Puts a VALUE line at the end, for which there is room.
-    pub fn write_value_line(&mut self, form: Form, hit: &Hit)
-        requires { length hit.now.key + 71 ≤ self.old.room }
-        ensures bytes { self.new.bytes ≡ self.old.bytes ++ value_line form hit.now }
-        ensures longer { length self.new.bytes
-            ≤ length self.old.bytes + (length hit.now.key + 71) }
-        ensures space { KeepsSpace self.old self.new }
+    /// Puts the rows of counters at the end, and END. A refusal changes nothing.
+    #[tactic(auto, using(crate::proofs::Waiting::written))]
+    pub fn write_stats(&mut self, counters: &Counters) -> Result<(), NoMemory>
+        ensures bytes { OnOk result (self.new.bytes ≡ self.old.bytes ++ stats_text counters.now) }
+        ensures unchanged_on_err { OnErr result (self.new.bytes ≡ self.old.bytes) }
+        ensures room_on_err { OnErr result (self.old.room ≤ self.new.room) }
     {
-        match self.shared {
-            None => append_value_line(&mut self.front, form, hit),
-            Some(_) => append_value_line(&mut self.back, form, hit),
-        }
+        append_stats(&mut self.own, counters)
     }
 
-    /// Puts all hits at the end, and END. A refusal changes nothing.
+    /// Puts all hits at the end, and END; large data is shared, and not copied. A refusal changes nothing,
+    /// and gives back what room was made.
+    #[tactic(auto, using(crate::proofs::Waiting::written))]
     pub fn write_values(&mut self, form: Form, hits: &[Hit]) -> Result<(), NoMemory>
         ensures bytes { OnOk result (self.new.bytes
             ≡ self.old.bytes ++ values_text form hits.now) }
         ensures unchanged_on_err { OnErr result (self.new.bytes ≡ self.old.bytes) }
-        ensures space { KeepsSpace self.old self.new }
+        ensures room_on_err { OnErr result (self.old.room ≤ self.new.room) }
     {
-        match self.shared {
-            None => append_values(&mut self.front, form, hits),
-            Some(_) => append_values(&mut self.back, form, hits),
+        let plan = Plan::of(hits);
+        if plan.pieces == 0 {
+            append_values(&mut self.own, plan.own, form, hits)?;
+            return Ok(());
         }
-    }
-
-    /// Puts the rows of counters at the end, and END. A refusal changes nothing.
-    pub fn write_stats(&mut self, counters: &Counters) -> Result<(), NoMemory>
-        ensures bytes { OnOk result (self.new.bytes ≡ self.old.bytes ++ stats_text counters.now) }
-        ensures unchanged_on_err { OnErr result (self.new.bytes ≡ self.old.bytes) }
-        ensures space { KeepsSpace self.old self.new }
-    {
-        match self.shared {
-            None => append_stats(&mut self.front, counters),
-            Some(_) => append_stats(&mut self.back, counters),
-        }
-    }
-
-    /// Whether this data is to be shared: it is large, no other is shared, and little waits before it.
-    pub fn can_share(&self, blob: &Blob) -> bool
-        ensures alone { IsTrue result → self.now.fixed ≡ 0 }
-        ensures some { IsTrue result → 0 < length blob.now }
-        ensures few { IsTrue result → length self.now.bytes + length blob.now ≤ 2 ^ 32 }
-    {
-        self.shared.is_none()
-            && (SHARED..=LARGEST_ITEM as usize).contains(&blob.len())
-            && self.len() <= MOST_BEFORE
-    }
-
-    /// Puts data at the end, which is not copied. What is written next stands behind it.
-    pub fn share(&mut self, blob: Blob)
-        requires alone { self.old.fixed ≡ 0 }
-        requires some { 0 < length blob }
-        requires few { length self.old.bytes + length blob ≤ 2 ^ 62 }
-        ensures bytes { self.new.bytes ≡ self.old.bytes ++ blob }
-        ensures room { self.new.room ≡ self.old.behind }
-    {
-        self.front.drain(..self.sent);
-        self.sent = 0;
-        self.shared = Some(blob);
+        let from = self.start + self.chain.reach();
+        splice_values(&mut self.own, &mut self.chain, from, &plan, form, hits)?;
+        Ok(())
     }
 
     /// The bytes that wait.
     pub fn parts(&self) -> Parts<'_>
         ensures { result ≡ self.now.bytes }
     {
-        let front = self.front.as_slice();
-        let back = self.back.as_slice();
-        match &self.shared {
-            None => Parts::new(&front[self.sent..], &[], back),
-            Some(data) => {
-                let data = data.as_slice();
-                match self.sent.checked_sub(front.len()) {
-                    None => Parts::new(&front[self.sent..], data, back),
-                    Some(sent) => Parts::new(&[], &data[sent..], back),
-                }
-            }
-        }
+        Parts::new(&self.own[self.start..], &self.chain, self.sent)
     }
 
     /// How many bytes wait.
+    #[tactic(auto, using(crate::proofs::Waiting::length_waiting, crate::proofs::Waiting::begun_le))]
     pub fn len(&self) -> usize
-        ensures value { result ≡ length self.now.bytes }
-        ensures fixed { self.now.fixed ≤ result }
+        ensures { result ≡ length self.now.bytes }
     {
-        match &self.shared {
-            None => self.front.len() - self.sent,
-            Some(data) => self.front.len() + data.len() - self.sent + self.back.len(),
-        }
+        self.own.len() - self.start + self.chain.weight() - self.sent
     }
 
     /// So many of the first bytes were sent. Their room is given up, and a large one once all are sent.
@@ -236,8 +157,11 @@ impl Output {
     {
         if n >= self.len() {
             self.clear();
-        } else {
-            self.pass(n);
+            return;
+        }
+        let mut left = n;
+        while left > 0 {
+            left = self.pass(left);
         }
     }
 
@@ -245,40 +169,34 @@ impl Output {
     fn clear(&mut self)
         ensures { self.new.bytes ≡ [] }
     {
-        clear(&mut self.front);
-        clear(&mut self.back);
-        self.shared = None;
+        clear(&mut self.own);
+        self.chain.clear();
+        self.start = 0;
         self.sent = 0;
     }
 
-    /// So many of the first bytes were sent, and not all.
-    fn pass(&mut self, n: usize)
+    /// So many of the first bytes were sent, and not all: passes them, as far as the end of the first
+    /// shared data. How many are left.
+    #[tactic(auto, using(crate::proofs::Waiting::own_sent, crate::proofs::Waiting::piece_sent))]
+    fn pass(&mut self, n: usize) -> usize
         requires { n < length self.old.bytes }
-        ensures { self.new.bytes ≡ drop n self.old.bytes }
+        ensures bytes { self.new.bytes ≡ drop (n - result) self.old.bytes }
+        ensures less { 0 < n → result < n }
+        ensures within { result ≤ n }
     {
-        let sent = self.sent + n;
-        match &self.shared {
-            None => self.sent = compact(&mut self.front, sent),
-            Some(data) => {
-                let before = self.front.len() + data.len();
-                if sent < before {
-                    self.sent = sent;
-                } else {
-                    self.let_go(sent - before);
-                }
-            }
+        let Some(piece) = self.chain.get(0) else {
+            self.start = compact(&mut self.own, self.start + n);
+            return 0;
+        };
+        let before = piece.before;
+        let whole = before + piece.blob.len() - self.sent;
+        if n < whole {
+            self.sent += n;
+            return 0;
         }
-    }
-
-    /// The shared data was sent, with so many of the bytes behind it.
-    fn let_go(&mut self, n: usize)
-        requires some { 0 < self.old.fixed }
-        requires within { self.old.fixed + n ≤ length self.old.bytes }
-        ensures { self.new.bytes ≡ drop (self.old.fixed + n) self.old.bytes }
-    {
-        swap(&mut self.front, &mut self.back);
-        clear(&mut self.back);
-        self.shared = None;
-        self.sent = compact(&mut self.front, n);
+        self.chain.pop();
+        self.start = compact(&mut self.own, self.start + before);
+        self.sent = 0;
+        n - whole
     }
 }

@@ -1,51 +1,117 @@
 //! The bytes that wait, as a wire takes them.
-ghost use Rattle.std.specs.Prelude.{◌≡◌, ◌<◌, ◌+◌, ◌^◌, ◌++◌, length};
+ghost use Rattle.std.specs.Prelude.{◌≡◌, ◌≤◌, ◌<◌, ◌++◌, ◌↔◌, [], drop, length, IsTrue, IfOk};
+ghost use Rattle.tc_session.specs.Unsent.{joined, reach, IsBegun};
 
+use crate::chain::Chain;
+use std::alloc::Global;
 use std::marker::Model;
+use tc_item::NoMemory;
 
-/// Bytes in three slices, one after another. Where no data is shared, only the first has any.
+/// Bytes in slices, one after another: own bytes, and between them data that is shared. Where no data
+/// is shared, they are one slice.
 #[derive(Debug, Drop)]
 pub struct Parts<'a> {
-    first: &'a [u8],
-    second: &'a [u8],
-    third: &'a [u8],
+    own: &'a [u8],
+    chain: &'a Chain,
+    /// The place of the piece that comes next.
+    at: usize,
+    /// How many bytes of that piece, and of those before it, are passed.
+    passed: usize,
+    len: usize,
 }
 
 impl<'a> Model for Parts<'a> {
-    ghost use Rattle.std.specs.Prelude.{ℕ, List, length, ◌++◌, ◌+◌, ◌<◌, ◌^◌};
+    ghost use Rattle.std.specs.Prelude.{ℕ, List, length, drop, ◌≡◌, ◌≤◌};
+    ghost use Rattle.tc_session.specs.Unsent.{joined, reach, IsBegun};
 
     ghost Value = { List ℕ };
 
-    ghost view = { λ p. p.first.now ++ (p.second.now ++ p.third.now) };
+    ghost view = { λ p. drop p.passed (joined p.own.now (drop p.at p.chain.now)) };
 
-    ghost invariant = { λ p. length p.first.now + (length p.second.now + length p.third.now)
-        < 2 ^ 64 };
+    ghost invariant = { λ p. (reach (drop p.at p.chain.now) ≤ length p.own.now)
+        × IsBegun p.passed (drop p.at p.chain.now)
+        × (p.len ≡ length (drop p.passed (joined p.own.now (drop p.at p.chain.now)))) };
 }
 
 impl<'a> Parts<'a> {
-    /// These slices, whose bytes can be counted.
-    pub(crate) fn new(first: &'a [u8], second: &'a [u8], third: &'a [u8]) -> Parts<'a>
-        requires { length first.now + (length second.now + length third.now) < 2 ^ 64 }
-        ensures { result ≡ first.now ++ (second.now ++ third.now) }
+    /// Own bytes, and the pieces of a chain between them, without so many that were sent.
+    pub(crate) fn new(own: &'a [u8], chain: &'a Chain, sent: usize) -> Parts<'a>
+        requires reach { reach chain.now ≤ length own.now }
+        requires begun { IsBegun sent chain.now }
+        ensures { result ≡ drop sent (joined own.now chain.now) }
     {
         Parts {
-            first,
-            second,
-            third,
+            own,
+            chain,
+            at: 0,
+            passed: sent,
+            len: own.len() + chain.weight() - sent,
         }
-    }
-
-    /// The slices.
-    pub fn as_slices(&self) -> (&'a [u8], &'a [u8], &'a [u8])
-        ensures { self.now ≡ result.0.now ++ (result.1.now ++ result.2.now) }
-    {
-        (self.first, self.second, self.third)
     }
 
     /// How many bytes.
     pub fn len(&self) -> usize
         ensures { result ≡ length self.now }
     {
-        self.first.len() + self.second.len() + self.third.len()
+        self.len
+    }
+
+    /// Whether there is no byte.
+    pub fn is_empty(&self) -> bool
+        ensures { IsTrue result ↔ (self.now ≡ []) }
+    {
+        self.len == 0
+    }
+
+    /// The first slice, and what stands behind it.
+    pub fn split_first(&self) -> (&'a [u8], Parts<'a>)
+        ensures split { self.now ≡ result.0.now ++ result.1 }
+        ensures some { 0 < length self.now → 0 < length result.0.now }
+    {
+        let Some(piece) = self.chain.get(self.at) else {
+            let behind = Parts {
+                own: &[],
+                chain: self.chain,
+                at: self.at,
+                passed: 0,
+                len: 0,
+            };
+            return (self.own, behind);
+        };
+        if self.passed < piece.before {
+            let first = &self.own[self.passed..piece.before];
+            let behind = Parts {
+                own: self.own,
+                chain: self.chain,
+                at: self.at,
+                passed: piece.before,
+                len: self.len - first.len(),
+            };
+            return (first, behind);
+        }
+        let first = &piece.blob.as_slice()[self.passed - piece.before..];
+        let behind = Parts {
+            own: &self.own[piece.before..],
+            chain: self.chain,
+            at: self.at + 1,
+            passed: 0,
+            len: self.len - first.len(),
+        };
+        (first, behind)
+    }
+
+    /// A copy of all of them.
+    pub fn to_vec(&self, alloc: Global) -> Result<Vec<u8>, NoMemory>
+        ensures { IfOk result (λ bytes. bytes.items ≡ self.now) }
+    {
+        let (first, mut behind) = self.split_first();
+        let mut bytes = Vec::with_capacity(alloc, self.len)?;
+        bytes.extend_from_slice(first)?;
+        while !behind.is_empty() {
+            let (slice, next) = behind.split_first();
+            bytes.extend_from_slice(slice)?;
+            behind = next;
+        }
+        Ok(bytes)
     }
 }

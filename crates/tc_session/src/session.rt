@@ -1,6 +1,6 @@
 //! A connection.
 ghost use Rattle.std.specs.Prelude.{◌≡◌, ◌≢◌, ◌+◌, ◌<◌, ◌≤◌, ◌++◌, ◌↔◌, ℕ, [], true, false, codes, drop, length};
-ghost use Rattle.std.specs.Prelude.{None, IsOk, IfOk, IsTrue, OnOk, OnErr};
+ghost use Rattle.std.specs.Prelude.{None, IsOk, IfOk, IfSome, IsTrue, OnOk, OnErr};
 ghost use Rattle.tc_model.specs.Connection.{turn, login, login_turn, unbound_turn, bound_turn, with_piece, shut_endpoint};
 ghost use Rattle.tc_model.specs.Connection.{new_endpoint, Unbound, Bound, Nothing, Close, is_closed};
 ghost use Rattle.tc_grammar.specs.declared.fault.Fault.TheVariants.{AuthenticationFailure, NoMemory as OutOfMemory};
@@ -13,6 +13,7 @@ ghost use Rattle.tc_session.specs.SessionView.{reply_room, needed_room};
 
 use crate::Want;
 use crate::answering::{write_refusal, write_reply};
+use crate::news::{News, named};
 use crate::output::Output;
 use crate::parts::Parts;
 use crate::reply::{is_quiet, write_fault};
@@ -48,6 +49,8 @@ pub struct Session {
     feed: Feed,
     stage: Stage,
     out: Output,
+    /// What a log is to be told, until it is asked for. No reply rests on it.
+    news: Option<News>,
 }
 
 impl Model for Session {
@@ -79,6 +82,7 @@ impl Session {
             feed: Feed::new(alloc),
             stage: Stage::Unbound,
             out: Output::new(alloc),
+            news: None,
         }
     }
 
@@ -151,7 +155,19 @@ impl Session {
         match request {
             None => Want::Nothing,
             Some(Request::Ask(command)) => self.greet_command(users, &command),
-            Some(Request::Refused { fault, quiet }) => self.fail(fault, quiet),
+            Some(Request::Refused { fault, quiet }) => {
+                self.note_fault(fault);
+                self.fail(fault, quiet)
+            }
+        }
+    }
+
+    /// Notes a fault that a log has a line for.
+    fn note_fault(&mut self, fault: Fault)
+        ensures { self.new ≡ self.old }
+    {
+        if let Fault::TooLarge = fault {
+            self.news = Some(News::LongBlock);
         }
     }
 
@@ -217,7 +233,10 @@ impl Session {
         ensures room { reply_room ≤ self.new.room }
     {
         match find_login(users, text) {
-            None => self.say_fault(Fault::AuthenticationFailure, quiet),
+            None => {
+                self.news = Some(News::LoginRefused(named(users, text)));
+                self.say_fault(Fault::AuthenticationFailure, quiet);
+            }
             Some(user) => {
                 self.stage = Stage::Bound(user);
                 self.say_stored(quiet);
@@ -320,7 +339,11 @@ impl Session {
             ≡ self.old.out ++ unless_quiet (is_quiet command.now) (fault_line OutOfMemory)) }
         ensures short { is_long outcome.now ≡ false → IsOk result }
     {
-        write_reply(&mut self.out, command, outcome)
+        if write_reply(&mut self.out, command, outcome).is_err() {
+            self.news = Some(News::NoMemory);
+            return Err(NoMemory);
+        }
+        Ok(())
     }
 
     /// Appends that memory was refused to a command, unless its line has `noreply`.
@@ -330,7 +353,17 @@ impl Session {
         ensures refused { self.new.out
             ≡ self.old.out ++ unless_quiet (is_quiet command.now) (fault_line OutOfMemory) }
     {
+        self.news = Some(News::NoMemory);
         write_refusal(&mut self.out, command);
+    }
+
+    /// The last that a log is to be told, once. A `next` that was refused is its caller's to tell.
+    pub fn take_news(&mut self) -> Option<News>
+        ensures { self.new ≡ self.old }
+    {
+        let news = self.news;
+        self.news = None;
+        news
     }
 
     /// The bytes that wait to be sent.
@@ -367,6 +400,16 @@ impl Session {
         ensures { result ≡ length self.now.endpoint.reader.unread }
     {
         self.feed.kept()
+    }
+
+    /// Whose the connection is, once it has logged in and is not closed.
+    pub fn user(&self) -> Option<UserNo>
+        ensures { IfSome result (λ user. self.now.endpoint.phase ≡ Bound user) }
+    {
+        match self.stage {
+            Stage::Bound(user) => Some(user),
+            Stage::Unbound | Stage::Closed => None,
+        }
     }
 
     /// Whether the connection is closed.

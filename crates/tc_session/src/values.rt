@@ -1,14 +1,32 @@
 //! VALUE lines with their data, and rows of counters, behind bytes that wait.
 //!
-//! All is appended to one vector, so that each piece costs a look at its room and a copy.
+//! Text and small data are appended to one vector, so that each costs a look at its room and a copy.
+//! Large data is shared: it stays where it lies, and a piece of a chain says behind which bytes.
 ghost use Rattle.std.specs.Prelude.{◌≡◌, ◌+◌, ◌≤◌, ◌++◌, ◌∷◌, decimal, drop, take, length, vec_len, vec_capacity, OnOk, OnErr};
+ghost use Rattle.std.specs.Prelude.{◌<◌, IfOk, List};
+ghost use Rattle.tc_session.specs.declared.chain.Piece.{Piece};
 ghost use Rattle.tc_session.specs.Texts.{line_end};
 ghost use Rattle.tc_session.specs.Replies.{cas_text, value_line, value_text, values_text, stats_text};
+ghost use Rattle.tc_session.specs.Unsent.{Says, joined, reach};
 
+use crate::chain::Chain;
 use itoa::{Buffer, write_digits};
 use tc_grammar::Form;
 use tc_item::NoMemory;
 use tc_stats::{Counters, Hit};
+
+/// Data of at least so many bytes is shared. A shared piece costs half a call of the system, which is
+/// dearer than the copy of less.
+const SHARED: usize = 16_384;
+
+/// A reply that would have more own bytes than this shares smaller data too.
+const MOST_COPIED: usize = 1_048_576;
+
+/// In such a reply, data of at least so many bytes is shared.
+const SHARED_IN_LARGE: usize = 256;
+
+/// The most own bytes of a hit beside its key and its data: those of its VALUE line and a line end.
+const BESIDE: usize = 73;
 
 /// The most bytes of a VALUE line behind its key: three numbers of 20 digits, a space before each, and
 /// a line end.
@@ -16,6 +34,9 @@ const LINE_ROOM: usize = 65;
 
 /// Where that line end begins.
 const LINE_END: usize = 63;
+
+/// What stands behind the last hit.
+const END: &[u8] = b"END\r\n";
 
 /// Puts a number at the end of bytes that have room for it.
 pub(crate) fn append_number(to: &mut Vec<u8>, number: u64)
@@ -100,6 +121,49 @@ fn append_hit(to: &mut Vec<u8>, form: Form, hit: &Hit) -> Result<(), NoMemory>
     Ok(())
 }
 
+/// What a reply takes.
+#[derive(Clone, Copy, Debug)]
+pub(crate) struct Plan {
+    /// Data of at least so many bytes is shared.
+    least: usize,
+    /// The most own bytes.
+    pub own: usize,
+    /// How many pieces are shared.
+    pub pieces: usize,
+}
+
+impl Plan {
+    /// What the reply to a look-up takes.
+    pub fn of(hits: &[Hit]) -> Plan
+        ensures { 0 < result.least }
+    {
+        let plan = Plan::sharing(SHARED, hits);
+        if plan.own <= MOST_COPIED {
+            return plan;
+        }
+        Plan::sharing(SHARED_IN_LARGE, hits)
+    }
+
+    /// What it takes where data of at least so many bytes is shared.
+    fn sharing(least: usize, hits: &[Hit]) -> Plan
+        ensures { result.least ≡ least }
+    {
+        let mut own = END.len();
+        let mut pieces = 0usize;
+        for hit in hits {
+            let key = hit.key.as_bytes().len();
+            let data = hit.blob.len();
+            if data < least {
+                own = own.saturating_add(key + BESIDE).saturating_add(data);
+            } else {
+                own = own.saturating_add(key + BESIDE);
+                pieces = pieces.saturating_add(1);
+            }
+        }
+        Plan { least, own, pieces }
+    }
+}
+
 /// Puts all hits at the end, and END. Where memory is refused, what stood there before is in front.
 #[tactic(auto, unfolding(crate::specs::Replies::values_text))]
 fn append_hits(to: &mut Vec<u8>, form: Form, hits: &[Hit]) -> Result<(), NoMemory>
@@ -110,22 +174,163 @@ fn append_hits(to: &mut Vec<u8>, form: Form, hits: &[Hit]) -> Result<(), NoMemor
     for hit in hits {
         append_hit(to, form, hit)?;
     }
-    to.extend_from_slice(b"END\r\n")?;
+    to.extend_from_slice(END)?;
     Ok(())
 }
 
-/// Puts all hits at the end, and END. A refusal changes nothing.
-pub(crate) fn append_values(to: &mut Vec<u8>, form: Form, hits: &[Hit]) -> Result<(), NoMemory>
+/// Takes off what was put behind so many bytes, and gives back what room was made for it.
+fn cut_back(to: &mut Vec<u8>, len: usize, room: usize)
+    ensures items { to.new.items ≡ take len to.old.items }
+    ensures capacity { room ≤ vec_capacity to.old → room ≤ vec_capacity to.new }
+{
+    to.truncate(len);
+    to.shrink_to(room);
+}
+
+/// Puts all hits at the end, and END, which are at most so many bytes. A refusal changes nothing.
+pub(crate) fn append_values(
+    to: &mut Vec<u8>,
+    most: usize,
+    form: Form,
+    hits: &[Hit],
+) -> Result<(), NoMemory>
     ensures bytes { OnOk result (to.new.items ≡ to.old.items ++ values_text form hits.now) }
     ensures unchanged_on_err { OnErr result (to.new.items ≡ to.old.items) }
-    ensures capacity { vec_capacity to.old ≤ vec_capacity to.new }
+    ensures capacity_on_err { OnErr result (vec_capacity to.old ≤ vec_capacity to.new) }
 {
-    let mark = to.len();
+    let (len, room) = (to.len(), to.capacity());
+    to.reserve(most)?;
     let appended = append_hits(to, form, hits);
     if appended.is_err() {
-        to.truncate(mark);
+        cut_back(to, len, room);
     }
     appended
+}
+
+/// Puts a hit at the end whose data is shared: its VALUE line, a piece, and a line end.
+#[tactic(auto, unfolding(crate::specs::Replies::value_text))]
+fn append_shared(
+    to: &mut Vec<u8>,
+    chain: &mut Chain,
+    from: usize,
+    form: Form,
+    hit: &Hit,
+) -> Result<(), NoMemory>
+    requires some { 0 < length hit.now.blob }
+    requires within { from + reach chain.old ≤ vec_len to.old }
+    ensures bytes { OnOk result (joined (drop from to.new.items) chain.new
+        ≡ joined (drop from to.old.items) chain.old ++ value_text form hit.now) }
+    ensures within { OnOk result (from + reach chain.new ≤ vec_len to.new) }
+    ensures front { take (length to.old.items) to.new.items ≡ to.old.items }
+    ensures capacity { vec_capacity to.old ≤ vec_capacity to.new }
+{
+    let data = hit.blob.copy()?;
+    to.reserve(hit.key.as_bytes().len() + BESIDE)?;
+    append_value_line(to, form, hit);
+    chain.push(to.len() - from - chain.reach(), data)?;
+    to.extend_from_slice(b"\r\n")?;
+    Ok(())
+}
+
+/// Puts a hit at the end, whose data is shared where it has at least so many bytes.
+fn append_piece(
+    to: &mut Vec<u8>,
+    chain: &mut Chain,
+    from: usize,
+    least: usize,
+    form: Form,
+    hit: &Hit,
+) -> Result<(), NoMemory>
+    requires least { 0 < least }
+    requires within { from + reach chain.old ≤ vec_len to.old }
+    ensures bytes { OnOk result (joined (drop from to.new.items) chain.new
+        ≡ joined (drop from to.old.items) chain.old ++ value_text form hit.now) }
+    ensures within { OnOk result (from + reach chain.new ≤ vec_len to.new) }
+    ensures front { take (length to.old.items) to.new.items ≡ to.old.items }
+    ensures capacity { vec_capacity to.old ≤ vec_capacity to.new }
+{
+    if hit.blob.len() >= least {
+        return append_shared(to, chain, from, form, hit);
+    }
+    append_hit(to, form, hit)?;
+    Ok(())
+}
+
+/// Puts all hits at the end, and END: the pieces of their data, which count own bytes from a place on.
+#[tactic(auto, unfolding(crate::specs::Replies::values_text))]
+fn append_pieces(
+    to: &mut Vec<u8>,
+    from: usize,
+    plan: &Plan,
+    form: Form,
+    hits: &[Hit],
+) -> Result<Chain, NoMemory>
+    requires least { 0 < plan.now.least }
+    requires within { from ≤ vec_len to.old }
+    ensures says { IfOk result (λ chain. joined (drop from to.new.items) chain
+        ≡ drop from to.old.items ++ values_text form hits.now) }
+    ensures within { IfOk result (λ chain. from + reach chain ≤ vec_len to.new) }
+    ensures front { take (length to.old.items) to.new.items ≡ to.old.items }
+    ensures capacity { vec_capacity to.old ≤ vec_capacity to.new }
+{
+    let mut chain = Chain::with_capacity(*to.allocator(), plan.pieces)?;
+    to.reserve(plan.own)?;
+    for hit in hits {
+        append_piece(to, &mut chain, from, plan.least, form, hit)?;
+    }
+    to.extend_from_slice(END)?;
+    Ok(chain)
+}
+
+/// The same, with the pieces behind those of a chain. Where memory is refused, the chain stays, and what
+/// stood there before is in front.
+fn append_spliced(
+    to: &mut Vec<u8>,
+    chain: &mut Chain,
+    from: usize,
+    plan: &Plan,
+    form: Form,
+    hits: &[Hit],
+) -> Result<(), NoMemory>
+    requires least { 0 < plan.now.least }
+    requires within { from ≤ vec_len to.old }
+    ensures says { OnOk result ((behind : List Piece) × (chain.new ≡ chain.old ++ behind)
+        × Says (drop from to.old.items) (drop from to.new.items) behind
+        (values_text form hits.now)) }
+    ensures front { take (length to.old.items) to.new.items ≡ to.old.items }
+    ensures capacity { vec_capacity to.old ≤ vec_capacity to.new }
+    ensures chain_on_err { OnErr result (chain.new ≡ chain.old) }
+{
+    let behind = append_pieces(to, from, plan, form, hits)?;
+    chain.append(behind)?;
+    Ok(())
+}
+
+/// The same. A refusal changes nothing.
+pub(crate) fn splice_values(
+    to: &mut Vec<u8>,
+    chain: &mut Chain,
+    from: usize,
+    plan: &Plan,
+    form: Form,
+    hits: &[Hit],
+) -> Result<(), NoMemory>
+    requires least { 0 < plan.now.least }
+    requires within { from ≤ vec_len to.old }
+    ensures says { OnOk result ((behind : List Piece) × (chain.new ≡ chain.old ++ behind)
+        × Says (drop from to.old.items) (drop from to.new.items) behind
+        (values_text form hits.now)) }
+    ensures front { OnOk result (take (length to.old.items) to.new.items ≡ to.old.items) }
+    ensures unchanged_on_err { OnErr result (to.new.items ≡ to.old.items) }
+    ensures chain_on_err { OnErr result (chain.new ≡ chain.old) }
+    ensures capacity_on_err { OnErr result (vec_capacity to.old ≤ vec_capacity to.new) }
+{
+    let (len, room) = (to.len(), to.capacity());
+    let spliced = append_spliced(to, chain, from, plan, form, hits);
+    if spliced.is_err() {
+        cut_back(to, len, room);
+    }
+    spliced
 }
 
 /// Puts the rows of counters at the end, and END. A refusal changes nothing.

@@ -2,3 +2,4 @@ pub mod LoginData
 pub mod FirstFault
 pub mod ChangedRows
 pub mod UserTables
+pub mod LimitTables

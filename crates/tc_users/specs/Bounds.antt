@@ -21,6 +21,14 @@ smallest_page = 16
 abbrev pub largest_page : ℕ
 largest_page = 65536
 
+-- the most seconds of a limit
+abbrev pub most_seconds : ℕ
+most_seconds = 86400
+
+-- the most connections of a limit
+abbrev pub most_connections : ℕ
+most_connections = 1024
+
 -- the entries of a journal's page where the settings say nothing
 abbrev pub default_page : ℕ
 default_page = 64

@@ -7,6 +7,7 @@ use Rattle.std.specs.Char.{is_ascii_alphanumeric}
 use Rattle.std.specs.Str.{bytes_eq}
 use Rattle.tc_item.specs.Bounds.{smallest_budget, largest_budget, largest_item}
 use Rattle.tc_users.specs.Bounds.{longest_name, longest_token}
+use Rattle.tc_users.specs.Fields.{limit_number}
 use Rattle.tc_users.specs.declared.settings_fault.Field.{Field}
 use Rattle.tc_users.specs.declared.settings_fault.Field.TheVariants.{Token, SecondToken}
 use Rattle.tc_users.specs.declared.settings_fault.TextFault.{TextFault}
@@ -15,6 +16,7 @@ use Rattle.tc_users.specs.declared.settings_fault.SettingsFault.{SettingsFault}
 use Rattle.tc_users.specs.declared.settings_fault.SettingsFault.TheVariants.{NotToml, Missing, BadName, SameName, BudgetRange}
 use Rattle.tc_users.specs.declared.settings_fault.SettingsFault.TheVariants.{NoUser, WorkersRange, JournalRange, NoMemory}
 use Rattle.tc_users.specs.declared.settings_fault.SettingsFault.TheVariants.{BadToken, LargestRange, SameToken, TooManyUsers}
+use Rattle.tc_users.specs.declared.settings_fault.SettingsFault.TheVariants.{LimitRange}
 use Rattle.tc_users.specs.declared.users.UserSpec.{UserSpec}
 
 -- the number of a fault
@@ -32,6 +34,7 @@ fault_number (BadToken field fault) = 10
 fault_number (LargestRange user found) = 11
 fault_number (SameToken user) = 12
 fault_number (TooManyUsers found) = 13
+fault_number (LimitRange limit found) = limit_number limit
 
 -- the first of these that is there
 abbrev pub first_of : {A : Type 0} → List (Option A) → Option A

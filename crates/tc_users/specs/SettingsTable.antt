@@ -1,5 +1,5 @@
 -- What a settings table holds, and its first fault. Source: docs/OPERATING.md, 'Settings': the fields are looked at in
--- the order of its table, then user by user, each first for being there and then for its range.
+-- the order of its table, then user by user, each first for being there and then for its range, and last users' limits.
 use Rattle.std.specs.Prelude.{◌≡◌, ℕ, ◌+◌, ◌^◌, ◌≤◌, ◌==◌, ◌⊎◌, ℤ, pos, nat_abs, not, nat_le, if◌then◌else◌, is_some, List, []}
 use Rattle.std.specs.Prelude.{◌∷◌, ◌++◌, length, map, Option, Some, None, Result, Ok, Err}
 use Rattle.std.specs.List.{list_all}
@@ -9,7 +9,7 @@ use Rattle.tc_item.specs.Bounds.{largest_item}
 use Rattle.tc_users.specs.Bounds.{most_workers, smallest_page, largest_page, default_page}
 use Rattle.tc_users.specs.declared.settings.Settings.{Settings}
 use Rattle.tc_users.specs.declared.settings_fault.Field.TheVariants.{Listen, Workers, Journal, Users, Name, Token, Budget}
-use Rattle.tc_users.specs.declared.settings_fault.Field.TheVariants.{SecondToken, Largest}
+use Rattle.tc_users.specs.declared.settings_fault.Field.TheVariants.{SecondToken, Largest, Metrics, MetricsListen}
 use Rattle.tc_users.specs.declared.settings_fault.Found.TheVariants.{Array}
 use Rattle.tc_users.specs.declared.settings_fault.SettingsFault.{SettingsFault}
 use Rattle.tc_users.specs.declared.settings_fault.SettingsFault.TheVariants.{NotToml, Missing, NoUser, WorkersRange, JournalRange}
@@ -18,6 +18,7 @@ use Rattle.tc_users.specs.declared.users.UserSpec.{UserSpec}
 use Rattle.tc_users.specs.Faults.{first_of, range_fault, name_fault, token_fault, budget_fault, second_fault, largest_fault}
 use Rattle.tc_users.specs.Faults.{same_name_fault}
 use Rattle.tc_users.specs.Fields.{field_in, found_in, text_in, number_in, missing_text_in, missing_number_in, if_there, list_of}
+use Rattle.tc_users.specs.LimitFields.{limits_in, limits_fault_in, user_limits_in, limits_fault_after}
 
 -- a second token, where there is one
 abbrev pub second_in : Option Data → Option (List ℕ)
@@ -128,18 +129,38 @@ journal_fault_in d =
     (option_or (missing_number_in Journal d)
     (range_fault smallest_page largest_page JournalRange (number_in (field_in Journal d))))
 
+-- where the metrics are told; nowhere where nothing is said
+abbrev pub metrics_said : Option Data → Option (List ℕ)
+metrics_said None = None
+metrics_said (Some metrics) = Some (text_in (field_in MetricsListen metrics))
+
+-- the metrics may be left out; where they are there, they have a text
+abbrev pub metrics_fault : Option Data → Option SettingsFault
+metrics_fault None = None
+metrics_fault (Some metrics) = missing_text_in MetricsListen metrics
+
+-- what is wrong with them
+abbrev pub metrics_fault_in : Data → Option SettingsFault
+metrics_fault_in d = metrics_fault (field_in Metrics d)
+
 -- the first fault of the table's own fields
 abbrev pub fields_fault : Data → Option SettingsFault
 fields_fault d =
     first_of (missing_text_in Listen d
     ∷ workers_fault_in d
     ∷ journal_fault_in d
+    ∷ limits_fault_in d
+    ∷ metrics_fault_in d
     ∷ tables_fault_in d
     ∷ [])
 
+-- the first fault of the users' tables: of their rows, then of their limits
+abbrev pub users_fault : List Data → Option SettingsFault
+users_fault users = option_or (users_fault_after [] users) (limits_fault_after 0 users)
+
 -- the first fault of a settings table: of its own fields, then of its users
 abbrev pub settings_fault : Data → Option SettingsFault
-settings_fault d = option_or (fields_fault d) (users_fault_after [] (tables_in d))
+settings_fault d = option_or (fields_fault d) (users_fault (tables_in d))
 
 -- the settings that a table holds
 abbrev pub settings_in : Data → Settings
@@ -147,7 +168,10 @@ settings_in d = record {
   listen = text_in (field_in Listen d);
   workers = nat_abs (number_in (field_in Workers d));
   journal = nat_abs (journal_in (field_in Journal d));
+  limits = limits_in d;
+  metrics = metrics_said (field_in Metrics d);
   users = map row_in (tables_in d);
+  user_limits = map user_limits_in (tables_in d);
 }
 
 -- it is the first fault, or memory was refused

@@ -1,5 +1,5 @@
 //! The settings of a server, read from a TOML text.
-ghost use Rattle.std.specs.Prelude.{◌≡◌, ◌<◌, ◌^◌, [], length, map, is_some, IfOk, IsErrOf, IfErr, OnOk};
+ghost use Rattle.std.specs.Prelude.{◌≡◌, ◌<◌, ◌^◌, [], length, map, is_some, option_copied, IfOk, IsErrOf, IfErr, OnOk};
 ghost use Rattle.std.specs.Result.{result_err};
 ghost use Rattle.std.specs.List.{list_all};
 ghost use Rattle.toml.specs.Data.{as_table};
@@ -8,12 +8,14 @@ ghost use Rattle.toml.specs.Parse.{parse_document};
 ghost use Rattle.toml.specs.View.{view};
 ghost use Rattle.tc_users.specs.SettingsTable.{row_in, tables_fault, tables_fault_in, tables_in, workers_fault_in};
 ghost use Rattle.tc_users.specs.SettingsTable.{journal_fault_in, settings_fault, settings_in, IsFaultOfTable, IsAnswer};
-ghost use Rattle.tc_users.specs.SettingsTable.{AreSoundNumbers};
+ghost use Rattle.tc_users.specs.SettingsTable.{metrics_fault_in, AreSoundNumbers};
 
 use crate::fields::{find_field, found_of, read_number, read_text};
+use crate::limit_fields::{read_each_limits, read_limits};
 use crate::user_table::read_rows;
 use crate::{
-    DEFAULT_PAGE, Field, Found, LARGEST_PAGE, MOST_WORKERS, SMALLEST_PAGE, SettingsFault, Users,
+    DEFAULT_PAGE, Field, Found, LARGEST_PAGE, Limits, LimitsByUser, MOST_WORKERS, SMALLEST_PAGE,
+    SettingsFault, Users,
 };
 use std::alloc::Global;
 use std::marker::Model;
@@ -61,8 +63,14 @@ pub struct Settings {
     pub workers: usize,
     /// How many entries a journal's page has, 16 to 65,536; 64 where the text says nothing.
     pub journal: usize,
+    /// The limits on all connections.
+    pub limits: Limits,
+    /// Where the metrics are told, if they are.
+    pub metrics: Option<Address>,
     /// At least one user.
     pub users: Users,
+    /// The limits on each user's connections.
+    pub user_limits: LimitsByUser,
 }
 
 fn read_workers(table: &Value) -> Result<usize, SettingsFault>
@@ -88,6 +96,28 @@ fn read_journal(table: &Value) -> Result<usize, SettingsFault>
         return Ok(found as usize);
     }
     Err(SettingsFault::JournalRange { found })
+}
+
+/// Where the metrics are told.
+fn read_metrics(table: &Value) -> Result<Option<&str>, SettingsFault>
+    ensures fault { result_err result ≡ metrics_fault_in (view table.now) }
+    ensures text { IfOk result (λ text. option_copied text
+        ≡ (settings_in (view table.now)).metrics) }
+{
+    match find_field(Field::Metrics, table) {
+        None => Ok(None),
+        Some(metrics) => Ok(Some(read_text(Field::MetricsListen, metrics)?)),
+    }
+}
+
+/// A copy of where the metrics are told.
+fn copy_metrics(alloc: Global, metrics: Option<&str>) -> Result<Option<Address>, NoMemory>
+    ensures { IfOk result (λ copy. copy ≡ option_copied metrics.entry) }
+{
+    match metrics {
+        None => Ok(None),
+        Some(metrics) => Ok(Some(Address::copy(alloc, metrics)?)),
+    }
 }
 
 fn are_tables(values: &[Value]) -> bool
@@ -146,14 +176,19 @@ fn read_settings(alloc: Global, table: &Value) -> Result<Settings, SettingsFault
     let listen = read_text(Field::Listen, table)?;
     let workers = read_workers(table)?;
     let journal = read_journal(table)?;
+    let limits = read_limits(table)?;
+    let metrics = read_metrics(table)?;
     let tables = read_tables(table)?;
     let rows = read_rows(alloc, tables)?;
-    let listen = Address::copy(alloc, listen)?;
+    let user_limits = read_each_limits(alloc, tables)?;
     Ok(Settings {
-        listen,
+        listen: Address::copy(alloc, listen)?,
         workers,
         journal,
+        limits,
+        metrics: copy_metrics(alloc, metrics)?,
         users: Users::from_good_rows(rows),
+        user_limits,
     })
 }
 

@@ -4,6 +4,7 @@ ghost use Rattle.tc_users.specs.Faults.{fault_number};
 ghost use Rattle.tc_users.specs.Fields.{key_of};
 ghost use Rattle.tc_users.specs.declared.settings_fault.SettingsFault.TheVariants.{NoMemory as OutOfMemory};
 
+use crate::Limit;
 use std::fmt;
 use tc_item::NoMemory;
 use thiserror::Error;
@@ -14,17 +15,22 @@ pub enum Field {
     Listen,
     Workers,
     Journal,
+    Metrics,
+    /// Where the metrics are told, in their table.
+    MetricsListen,
     Users,
     Name(u32),
     Token(u32),
     Budget(u32),
     SecondToken(u32),
     Largest(u32),
+    Limited(Limit),
 }
 
 impl fmt::Display for Field {
     fn fmt<W: fmt::Write>(&self, f: &mut fmt::Formatter<W>) -> fmt::Result {
         match self.user() {
+            None if *self == Field::MetricsListen => write!(f, "`metrics.listen`"),
             None => write!(f, "`{}`", self.key()),
             Some(user) => write!(f, "`{}` of user {user}", self.key()),
         }
@@ -40,24 +46,33 @@ impl Field {
             Field::Listen => "listen",
             Field::Workers => "workers",
             Field::Journal => "journal",
+            Field::Metrics => "metrics",
+            Field::MetricsListen => "listen",
             Field::Users => "user",
             Field::Name(_) => "name",
             Field::Token(_) => "token",
             Field::Budget(_) => "budget",
             Field::SecondToken(_) => "token2",
             Field::Largest(_) => "largest",
+            Field::Limited(limit) => limit.key(),
         }
     }
 
     /// The number of the user whose field it is.
     fn user(&self) -> Option<u32> {
         match self {
-            Field::Listen | Field::Workers | Field::Journal | Field::Users => None,
+            Field::Listen
+            | Field::Workers
+            | Field::Journal
+            | Field::Metrics
+            | Field::MetricsListen
+            | Field::Users => None,
             Field::Name(user)
             | Field::Token(user)
             | Field::Budget(user)
             | Field::SecondToken(user)
             | Field::Largest(user) => Some(*user),
+            Field::Limited(limit) => limit.user(),
         }
     }
 
@@ -65,6 +80,8 @@ impl Field {
     fn wanted(&self) -> &'static str {
         match self {
             Field::Listen => "an address and a port in quotes, as \"127.0.0.1:11211\"",
+            Field::Metrics => "a [metrics] table",
+            Field::MetricsListen => "an address and a port in quotes, as \"127.0.0.1:9150\"",
             Field::Workers => "a whole number, 1 to 64",
             Field::Journal => "a whole number, 16 to 65536",
             Field::Users => "a [[user]] table for each user",
@@ -74,6 +91,7 @@ impl Field {
             }
             Field::Budget(_) => "a whole number of bytes, 65536 to 1073741824",
             Field::Largest(_) => "a whole number of bytes, 1 to 1048576",
+            Field::Limited(limit) => limit.wanted(),
         }
     }
 }
@@ -161,6 +179,8 @@ pub enum SettingsFault {
     SameToken { user: u32 },
     #[error("there are {found} users; wanted: at most 4294967295")]
     TooManyUsers { found: usize },
+    #[error("{limit} is {found}; wanted: {want}", want = .limit.wanted())]
+    LimitRange { limit: Limit, found: i64 },
 }
 
 impl From<NoMemory> for SettingsFault {
@@ -190,6 +210,7 @@ impl SettingsFault {
             SettingsFault::LargestRange { .. } => 11,
             SettingsFault::SameToken { .. } => 12,
             SettingsFault::TooManyUsers { .. } => 13,
+            SettingsFault::LimitRange { limit, .. } => limit.fault_number(),
         }
     }
 }

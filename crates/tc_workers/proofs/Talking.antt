@@ -14,10 +14,12 @@ use Rattle.tc_session.specs.Refusals.{refusal_of}
 use Rattle.tc_session.specs.TextProtocol.{text_protocol}
 use Rattle.tc_locked.specs.declared.entry.Slip.{Slip}
 use Rattle.tc_locked.specs.Views.{note}
-use Rattle.tc_locked.specs.KeptBooks.{SeatState}
+use Rattle.tc_locked.specs.declared.call_fault.CallFault.{CallFault}
 use Rattle.tc_locked.specs.Calls.{Wrote}
+use Rattle.tc_locked.specs.Refusals.{refusal}
 use Rattle.tc_workers.specs.Talks.{Move, Came, Asked, Did, Undone, Ended, happening_of, Calls, NeedsNoCache, Says, AllMoves}
-use Rattle.tc_workers.specs.Talks.{notes_of, notes_in, piece_of, pieces_in, LinkState, Goes, Notes, Talks, Carries, Answers}
+use Rattle.tc_workers.specs.Talks.{notes_of, notes_in, refusals_of, refusals_in, piece_of, pieces_in, LinkState, DeskState}
+use Rattle.tc_workers.specs.Talks.{Goes, Notes, Talks, Carries, Answers}
 
 -- the moves of two lists in a row
 pub all_moves-append : (rows : List UserSpec) (conn : ℕ) (e f g : Endpoint text_protocol) (ms ns : List Move) (said more : List ℕ)
@@ -39,6 +41,12 @@ pub notes_in-append : (ms ns : List Move) → notes_in (ms ++ ns) ≡ notes_in m
 notes_in-append [] ns = refl
 notes_in-append (m ∷ ms) ns =
     ap (λ xs. notes_of m ++ xs) (notes_in-append ms ns) ∙ sym (append_assoc (notes_of m) (notes_in ms) (notes_in ns))
+
+pub refusals_in-append : (ms ns : List Move) → refusals_in (ms ++ ns) ≡ refusals_in ms ++ refusals_in ns
+refusals_in-append [] ns = refl
+refusals_in-append (m ∷ ms) ns =
+    ap (λ xs. refusals_of m ++ xs) (refusals_in-append ms ns)
+    ∙ sym (append_assoc (refusals_of m) (refusals_in ms) (refusals_in ns))
 
 pieces_in-append : (ms ns : List Move) → pieces_in (ms ++ ns) ≡ pieces_in ms ++ pieces_in ns
 pieces_in-append [] ns = refl
@@ -116,25 +124,55 @@ goes-append {rows} {ms} {ns} {s} {t} {lost} {a} {b} {c} x y =
       took = appends-append a.took b.took c.took s t x.took y.took;
     }
 
--- a seat that notes nothing
-pub notes-still : {most : ℕ} {a b : SeatState} → b ≡ a → Notes most [] a b
+-- a desk at which no call was made
+pub notes-still : {most : ℕ} {a b : DeskState} → b ≡ a → Notes most [] a b
 notes-still {a = a} same = record {
-  number = ap (λ s. s.number) same;
-  notes = ap (λ s. s.notes) same ∙ sym (append-nil a.notes);
+  number = ap (λ d. d.seat.number) same;
+  notes = ap (λ d. d.seat.notes) same ∙ sym (append-nil a.seat.notes);
+  refused = ap (λ d. d.refused) same ∙ sym (append-nil a.refused);
   few = omega arith;
 }
 
-pub notes-append : {most more : ℕ} {ms ns : List Move} {a b c : SeatState} → Notes most ms a b → Notes more ns b c
+-- the same of moves at which none was
+pub notes-silent : {most : ℕ} {ms : List Move} {a b : DeskState} → notes_in ms ≡ [] → refusals_in ms ≡ [] → b ≡ a
+    → Notes most ms a b
+notes-silent {a = a} silent unrefused same = record {
+  number = ap (λ d. d.seat.number) same;
+  notes = ap (λ d. d.seat.notes) same ∙ sym (append-nil a.seat.notes) ∙ ap (λ xs. a.seat.notes ++ xs) (sym silent);
+  refused = ap (λ d. d.refused) same ∙ sym (append-nil a.refused) ∙ ap (λ xs. a.refused ++ xs) (sym unrefused);
+  few = omega (arith, ap length silent, ap length unrefused);
+}
+
+-- the same of other moves that made the same calls
+pub notes-as : {most : ℕ} {ms ns : List Move} {a b : DeskState} → ns ≡ ms → Notes most ms a b → Notes most ns a b
+notes-as {most} {a = a} {b} same x = subst (λ (l : List Move). Notes most l a b) (sym same) x
+
+pub notes-more : {most more : ℕ} {ms : List Move} {a b : DeskState} → most ≤ more → Notes most ms a b → Notes more ms a b
+notes-more {most} {more} {ms} h x = record {
+  number = x.number;
+  notes = x.notes;
+  refused = x.refused;
+  few = let f : length (notes_in ms) + length (refusals_in ms) ≤ most = x.few in omega arith;
+}
+
+pub notes-append : {most more : ℕ} {ms ns : List Move} {a b c : DeskState} → Notes most ms a b → Notes more ns b c
     → Notes (most + more) (ms ++ ns) a c
 notes-append {most} {more} {ms} {ns} {a} {b} {c} x y = record {
   number = y.number ∙ x.number;
   notes =
-      y.notes ∙ ap (λ xs. xs ++ notes_in ns) x.notes ∙ append_assoc a.notes (notes_in ms) (notes_in ns)
-      ∙ ap (λ xs. a.notes ++ xs) (sym (notes_in-append ms ns));
+      y.notes ∙ ap (λ xs. xs ++ notes_in ns) x.notes ∙ append_assoc a.seat.notes (notes_in ms) (notes_in ns)
+      ∙ ap (λ xs. a.seat.notes ++ xs) (sym (notes_in-append ms ns));
+  refused =
+      y.refused ∙ ap (λ xs. xs ++ refusals_in ns) x.refused ∙ append_assoc a.refused (refusals_in ms) (refusals_in ns)
+      ∙ ap (λ xs. a.refused ++ xs) (sym (refusals_in-append ms ns));
   few =
-      let f : length (notes_in ms) ≤ most = x.few in
-      let g : length (notes_in ns) ≤ more = y.few in
-      omega (arith, ap length (notes_in-append ms ns), length-append (notes_in ms) (notes_in ns));
+      let f : length (notes_in ms) + length (refusals_in ms) ≤ most = x.few in
+      let g : length (notes_in ns) + length (refusals_in ns) ≤ more = y.few in
+      let entered : length (notes_in (ms ++ ns)) ≡ length (notes_in ms) + length (notes_in ns) =
+      ap length (notes_in-append ms ns) ∙ length-append (notes_in ms) (notes_in ns) in
+      let refused : length (refusals_in (ms ++ ns)) ≡ length (refusals_in ms) + length (refusals_in ns) =
+      ap length (refusals_in-append ms ns) ∙ length-append (refusals_in ms) (refusals_in ns) in
+      omega arith;
 }
 
 pub carries-append : {s t lost : List ℕ} {a b c : LinkState} → Carries s [] a b → Carries t lost b c
@@ -142,10 +180,11 @@ pub carries-append : {s t lost : List ℕ} {a b c : LinkState} → Carries s [] 
 carries-append x y = record {
   moves = x.moves ++ y.moves;
   silent = notes_in-append x.moves y.moves ∙ ap (λ xs. xs ++ notes_in y.moves) x.silent ∙ y.silent;
+  unrefused = refusals_in-append x.moves y.moves ∙ ap (λ xs. xs ++ refusals_in y.moves) x.unrefused ∙ y.unrefused;
   goes = λ rows. goes-append (x.goes rows) (y.goes rows);
 }
 
-pub talks-append : {most more : ℕ} {rows : List UserSpec} {s t lost : List ℕ} {a b c : LinkState} {from mid to : SeatState}
+pub talks-append : {most more : ℕ} {rows : List UserSpec} {s t lost : List ℕ} {a b c : LinkState} {from mid to : DeskState}
     → Talks most rows s [] a b from mid → Talks more rows t lost b c mid to → Talks (most + more) rows (s ++ t) lost a c from to
 talks-append x y = record {
   moves = x.moves ++ y.moves;
@@ -153,30 +192,21 @@ talks-append x y = record {
   noted = notes-append x.noted y.noted;
 }
 
--- a connection whose seat made no call
-pub carries-talks : {most : ℕ} {rows : List UserSpec} {s lost : List ℕ} {a b : LinkState} {seat : SeatState} → Carries s lost a b
-    → Talks most rows s lost a b seat seat
-carries-talks {rows = rows} {seat = seat} x = record {
-  moves = x.moves;
-  goes = x.goes rows;
-  noted = record {
-    number = refl;
-    notes = sym (append-nil seat.notes) ∙ ap (λ xs. seat.notes ++ xs) (sym x.silent);
-    few = omega (arith, ap length x.silent);
-  };
-}
+-- a connection for which no call was made
+pub carries-talks : {most : ℕ} {rows : List UserSpec} {s lost : List ℕ} {a b : LinkState} {desk : DeskState} → Carries s lost a b
+    → Talks most rows s lost a b desk desk
+carries-talks {rows = rows} x =
+    record { moves = x.moves; goes = x.goes rows; noted = notes-silent x.silent x.unrefused refl }
 
-pub talks-more : {most more : ℕ} {rows : List UserSpec} {s lost : List ℕ} {a b : LinkState} {from to : SeatState} → most ≤ more
+pub talks-more : {most more : ℕ} {rows : List UserSpec} {s lost : List ℕ} {a b : LinkState} {from to : DeskState} → most ≤ more
     → Talks most rows s lost a b from to → Talks more rows s lost a b from to
-talks-more {most} {more} h x = record {
-  moves = x.moves;
-  goes = x.goes;
-  noted = record {
-    number = x.noted.number;
-    notes = x.noted.notes;
-    few = let f : length (notes_in x.moves) ≤ most = x.noted.few in omega arith;
-  };
-}
+talks-more h x = record { moves = x.moves; goes = x.goes; noted = notes-more h x.noted }
+
+-- the same where it is this one
+pub talks-as : {most : ℕ} {rows : List UserSpec} {s lost : List ℕ} {a b c : LinkState} {from to : DeskState} → c ≡ b
+    → Talks most rows s lost a b from to → Talks most rows s lost a c from to
+talks-as {most} {rows} {s} {lost} {a} {from = from} {to} same x =
+    subst (λ (l : LinkState). Talks most rows s lost a l from to) (sym same) x
 
 -- a connection that sent twice
 pub carries-both : {a b c : LinkState} → (s : List ℕ) × Carries s [] a b → (s : List ℕ) × Carries s [] b c
@@ -189,13 +219,13 @@ pub carries-on : {lost : List ℕ} {a b c : LinkState} → (s : List ℕ) × Car
 carries-on (s, x) y = (s ++ [], carries-append x y)
 
 -- a connection that read, and then was served
-pub talks-behind : {most : ℕ} {rows : List UserSpec} {a b c : LinkState} {from to : SeatState} → Carries [] [] a b
+pub talks-behind : {most : ℕ} {rows : List UserSpec} {a b c : LinkState} {from to : DeskState} → Carries [] [] a b
     → Talks most rows [] [] b c from to → Talks most rows [] [] a c from to
 talks-behind {most} {rows} {a} {b} {from = from} x y =
     let none : Talks 0 rows [] [] a b from from = carries-talks x in talks-more (omega arith) (talks-append none y)
 
 -- a connection that was served, and then sent
-pub talks-sent : {most : ℕ} {rows : List UserSpec} {a b n c : LinkState} {from to : SeatState} → Talks most rows [] [] a b from to
+pub talks-sent : {most : ℕ} {rows : List UserSpec} {a b n c : LinkState} {from to : DeskState} → Talks most rows [] [] a b from to
     → n ≡ b → (s : List ℕ) × Carries s [] n c → (s : List ℕ) × Talks most rows s [] a c from to
 talks-sent {most} {rows} {b = b} {c = c} {to = to} x same (s, y) =
     let none : Talks 0 rows s [] b c to to = carries-talks (subst (λ (l : LinkState). Carries s [] l c) same y) in
@@ -207,6 +237,7 @@ pub carries-still : {a b : LinkState} → b.session.endpoint ≡ a.session.endpo
 carries-still {a = a} endpoint out conn gave took = record {
   moves = [];
   silent = refl;
+  unrefused = refl;
   goes = λ rows. record {
     said = [];
     moved = (endpoint, refl);
@@ -231,6 +262,7 @@ carries-wrote {a} {b} n waits all out endpoint conn gave took = (
   record {
     moves = [];
     silent = refl;
+    unrefused = refl;
     goes = λ rows. record {
       said = [];
       moved = (endpoint, refl);
@@ -254,6 +286,7 @@ carries-came {a = a} piece (Some x) came refused out conn gave took = (
   record {
     moves = Came piece ∷ [];
     silent = refl;
+    unrefused = refl;
     goes = λ rows.
         goes-one (Came piece) [] (ap Some (sym came)) refl (out ∙ sym (append-nil a.session.out)) conn gave (appends-same took);
   },
@@ -264,6 +297,7 @@ carries-came {a = a} piece None came refused out conn gave took = (
   record {
     moves = [];
     silent = refl;
+    unrefused = refl;
     goes = λ rows. record {
       said = [];
       moved = (refused, refl);
@@ -282,30 +316,31 @@ pub carries-ended : {a b : LinkState} → b.session.endpoint ≡ shut_endpoint t
 carries-ended {a} {b} endpoint out conn gave took = record {
   moves = Ended ∷ [];
   silent = refl;
+  unrefused = refl;
   goes = λ rows.
       goes-one Ended [] (ap Some (sym endpoint)) refl (out ∙ sym (append-nil a.session.out)) conn
       (appends-kept a.gave b.gave gave) (appends-same took);
 }
 
 -- a connection whose request needs no cache
-pub talks-asked : {rows : List UserSpec} {a b : LinkState} {seat : SeatState} (w : Want Command)
+pub talks-asked : {rows : List UserSpec} {a b : LinkState} {desk : DeskState} (w : Want Command)
     → w ≡ (turn text_protocol rows a.session.endpoint).want → NeedsNoCache w
     → b.session.endpoint ≡ (turn text_protocol rows a.session.endpoint).endpoint
     → b.session.out ≡ a.session.out ++ (turn text_protocol rows a.session.endpoint).said → b.conn ≡ a.conn
-    → b.gave ≡ a.gave → b.took ≡ a.took → Talks 1 rows [] [] a b seat seat
-talks-asked {rows} {a} {seat = seat} w wanted alone endpoint out conn gave took = record {
+    → b.gave ≡ a.gave → b.took ≡ a.took → Talks 1 rows [] [] a b desk desk
+talks-asked {rows} {a} w wanted alone endpoint out conn gave took = record {
   moves = Asked ∷ [];
   goes =
       goes-one Asked (turn text_protocol rows a.session.endpoint).said (ap Some (sym endpoint))
       (record { alone = subst (λ (v : Want Command). NeedsNoCache v) wanted alone; says = refl }) out conn (appends-same gave)
       (appends-same took);
-  noted = record { number = refl; notes = sym (append-nil seat.notes); few = omega arith };
+  noted = notes-silent refl refl refl;
 }
 
 calls-act : (conn user : ℕ) (command : Command) (m : Move) (answer : List ℕ) → Calls conn user command m answer
     → happening_of m ≡ Act
 calls-act conn user command (Did n unsaid) answer c = refl
-calls-act conn user command Undone answer c = refl
+calls-act conn user command (Undone r) answer c = refl
 calls-act conn user command (Came piece) answer c = absurd c
 calls-act conn user command Asked answer c = absurd c
 calls-act conn user command Ended answer c = absurd c
@@ -315,7 +350,7 @@ calls-says : (rows : List UserSpec) (conn user : ℕ) (command : Command) (e : E
     → Says rows conn e m ((turn text_protocol rows e).said ++ answer)
 calls-says rows conn user command e (Did n unsaid) answer wanted c =
     record { user = user; command = command; answer = answer; wanted = wanted; calls = c; says = refl }
-calls-says rows conn user command e Undone answer wanted c =
+calls-says rows conn user command e (Undone r) answer wanted c =
     record { user = user; command = command; answer = answer; wanted = wanted; calls = c; says = refl }
 calls-says rows conn user command e (Came piece) answer wanted c = absurd c
 calls-says rows conn user command e Asked answer wanted c = absurd c
@@ -324,13 +359,13 @@ calls-says rows conn user command e Ended answer wanted c = absurd c
 calls-piece : (conn user : ℕ) (command : Command) (m : Move) (answer : List ℕ) → Calls conn user command m answer
     → piece_of m ≡ []
 calls-piece conn user command (Did n unsaid) answer c = refl
-calls-piece conn user command Undone answer c = refl
+calls-piece conn user command (Undone r) answer c = refl
 calls-piece conn user command (Came piece) answer c = absurd c
 calls-piece conn user command Asked answer c = absurd c
 calls-piece conn user command Ended answer c = absurd c
 
 -- a connection whose request's call is made
-pub talks-called : {rows : List UserSpec} {a mid b : LinkState} {from to : SeatState} (user : ℕ) (command : Command)
+pub talks-called : {rows : List UserSpec} {a mid b : LinkState} {from to : DeskState} (user : ℕ) (command : Command)
     → (turn text_protocol rows a.session.endpoint).want ≡ Call user command
     → mid.session.endpoint ≡ (turn text_protocol rows a.session.endpoint).endpoint
     → mid.session.out ≡ a.session.out ++ (turn text_protocol rows a.session.endpoint).said → mid.conn ≡ a.conn
@@ -359,14 +394,26 @@ not-false : (b : Bool) → (b ≡ false → false ≡ true) → b ≡ true
 not-false true h = refl
 not-false false h = h refl
 
+-- what a desk keeps of a call that is entered
+notes-entered : {user now conn : ℕ} {command : Command} {slip : Slip} {from to : DeskState} (unsaid : Bool)
+    (w : Wrote user from.seat now conn command slip to.seat) → to.refused ≡ from.refused
+    → Notes 1 (Did (note user slip.page w.entry) unsaid ∷ []) from to
+notes-entered {from = from} unsaid w none = record {
+  number = ap (λ s. s.number) w.seat;
+  notes = ap (λ s. s.notes) w.seat;
+  refused = none ∙ sym (append-nil from.refused);
+  few = omega arith;
+}
+
 -- a command whose call is entered, and answered as the session's answer says
-pub answers-entered : {user now : ℕ} {command : Command} {slip : Slip} {a b : LinkState} {from to : SeatState} (conn : ℕ)
-    → Wrote user from now conn command slip to → conn ≡ a.conn → (r : Result (Unit {0}) NoMemory)
+pub answers-entered : {user now : ℕ} {command : Command} {slip : Slip} {a b : LinkState} {from to : DeskState} (conn : ℕ)
+    → Wrote user from.seat now conn command slip to.seat → to.refused ≡ from.refused → conn ≡ a.conn
+    → (r : Result (Unit {0}) NoMemory)
     → OnOk r (b.session.out ≡ a.session.out ++ render command slip.outcome)
     → OnErr r (b.session.out ≡ a.session.out ++ refusal_of command) → (is_long slip.outcome ≡ false → IsOk r)
     → b.session.endpoint ≡ a.session.endpoint → b.conn ≡ a.conn → b.gave ≡ a.gave → b.took ≡ a.took
     → Answers user command a b from to
-answers-entered {user} {command = command} {slip = slip} conn w same (Ok x) reply undone short endpoint kept gave took = record {
+answers-entered {user} {command = command} {slip = slip} conn w none same (Ok x) reply undone short at kept gave took = record {
   move = Did (note user slip.page w.entry) false;
   answer = render command slip.outcome;
   calls = record {
@@ -376,14 +423,14 @@ answers-entered {user} {command = command} {slip = slip} conn w same (Ok x) repl
     answers = ap (λ c. render c slip.outcome) (sym w.command_is) ∙ ap (λ s. render w.entry.command s.outcome) w.told;
     long = λ no. cc;
   };
-  noted = record { number = ap (λ s. s.number) w.seat; notes = ap (λ s. s.notes) w.seat; few = omega arith };
+  noted = notes-entered false w none;
   said = reply;
-  endpoint = endpoint;
+  endpoint = at;
   conn = kept;
   gave = gave;
   took = took;
 }
-answers-entered {user} {command = command} {slip = slip} conn w same (Err e) reply undone short endpoint kept gave took = record {
+answers-entered {user} {command = command} {slip = slip} conn w none same (Err e) reply undone short at kept gave took = record {
   move = Did (note user slip.page w.entry) true;
   answer = refusal_of command;
   calls = record {
@@ -393,8 +440,30 @@ answers-entered {user} {command = command} {slip = slip} conn w same (Err e) rep
     answers = ap refusal_of (sym w.command_is);
     long = λ yes. ap (λ s. is_long s.outcome) (sym w.told) ∙ not-false (is_long slip.outcome) short;
   };
-  noted = record { number = ap (λ s. s.number) w.seat; notes = ap (λ s. s.notes) w.seat; few = omega arith };
+  noted = notes-entered true w none;
   said = undone;
+  endpoint = at;
+  conn = kept;
+  gave = gave;
+  took = took;
+}
+
+-- a command whose call is refused, and answered so
+pub answers-refused : {user : ℕ} {command : Command} {a b : LinkState} {from to : DeskState} (conn : ℕ) (fault : CallFault)
+    → to.seat ≡ from.seat → to.refused ≡ from.refused ++ refusal user conn fault command ∷ [] → conn ≡ a.conn
+    → b.session.out ≡ a.session.out ++ refusal_of command → b.session.endpoint ≡ a.session.endpoint → b.conn ≡ a.conn
+    → b.gave ≡ a.gave → b.took ≡ a.took → Answers user command a b from to
+answers-refused {user} {command} {from = from} conn fault seat refused same said endpoint kept gave took = record {
+  move = Undone (refusal user conn fault command);
+  answer = refusal_of command;
+  calls = record { of = refl; on = same; does = refl; answers = refl };
+  noted = record {
+    number = ap (λ s. s.number) seat;
+    notes = ap (λ s. s.notes) seat ∙ sym (append-nil from.seat.notes);
+    refused = refused;
+    few = omega arith;
+  };
+  said = said;
   endpoint = endpoint;
   conn = kept;
   gave = gave;

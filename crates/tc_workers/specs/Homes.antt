@@ -5,6 +5,11 @@ use Rattle.std.specs.Prelude.{ℕ, ◌-◌, ◌%◌, ◌==◌, Option, Some, Non
 abbrev pub home_of : ℕ → ℕ → ℕ
 home_of workers user = (user - 1) % workers
 
--- of the worker `own` of so many: the worker that serves a user, where it is another one
-abbrev pub elsewhere : ℕ → ℕ → ℕ → Option ℕ
-elsewhere own workers user = if home_of workers user == own then None else Some (home_of workers user)
+-- the worker that serves a connection of a user: the user's home, or a helper of that
+abbrev pub place_of : ℕ → ℕ → Option ℕ → ℕ
+place_of workers user None = home_of workers user
+place_of workers user (Some helper) = helper % workers
+
+-- of the worker `own` of so many: the worker that serves the connection, where it is another one
+abbrev pub elsewhere : ℕ → ℕ → ℕ → Option ℕ → Option ℕ
+elsewhere own workers user helper = if place_of workers user helper == own then None else Some (place_of workers user helper)

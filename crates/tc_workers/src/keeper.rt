@@ -51,8 +51,12 @@ impl Keeper {
     }
 }
 
-/// Where the keeper learns the moment. It sleeps, so that the keeper doesn't spin.
-pub trait Source: Drop {
-    /// The moment that it is, once the keeper may go on.
+/// What the keeper's thread does beside the keeper's turns.
+pub trait Source<C: Cache, N: Naming>: Drop {
+    /// The moment that it is, once the keeper may go on. It sleeps, so that the keeper doesn't spin.
     fn moment(&mut self) -> Moment;
+
+    /// What else is done before the keeper's turn, as a look at the hall by a seat of its own. It does
+    /// not wait.
+    fn attend<R: Wait>(&mut self, rt: &R, hall: &Hall<C, N>, clock: &Clock);
 }

@@ -4,42 +4,66 @@
 //! over those that may have something to do, twice. First each reads once and asks for at most 16
 //! requests, each command of which is one `Hall::call_with`; one with more than 16,384 bytes to send
 //! writes at once. Then each writes until its wire takes no more, and where nothing is left to do it
-//! looks at the wire once more. A connection whose wire answered that nothing can be done is left out
-//! of the turns until the worker's `Inlet` names it. Where each user has a worker (`Homes`), a
-//! connection is passed on to it after the turn of its first command. A `Keeper` does the deferred work
-//! of one user after another. `run_crew` gives each worker a thread and the keeper one, and hands all
-//! seats back.
+//! looks at the wire once more. A turn is dealt out by user (`dealing.rt`): where several users'
+//! connections have something to do, those of one who did more than its share are left out, and go first
+//! in the next. A connection whose wire answered that nothing can be done is left out of the turns until
+//! the worker's `Inlet` names it. Where each user has a worker (`Homes`), a connection is passed on to it
+//! after the turn of its login. A `Keeper` does the deferred work of one user after another; its thread
+//! also asks a `Source` for the moment, which may look at the hall by a seat of its own. `run_crew` gives
+//! each worker a thread and the keeper one, and hands all seats and the source back.
 //!
 //! What a worker does on a connection is a list of moves (`specs/Talks.antt`): bytes came, a request was
 //! asked for, a command was called and answered, its peer ended. Callers see a connection as a
 //! `LinkState`; `Link::take_in` and `Link::give_out` say which moves lead from one to the next, what is
-//! said at them, and which calls the seat notes for them. A turn is a list of visits of connections
-//! (`specs/Turns.antt`; `Worker::turn` `serves`), each by such moves. Each connection keeps at most
-//! 1,130,498 unread bytes (`Worker::kept`).
+//! said at them, which calls the seat notes for them and which the hall refused. A turn is a list of
+//! visits of connections (`specs/Turns.antt`; `Worker::turn` `serves`), each by such moves; one to whose
+//! bytes memory was refused is dropped at that visit. Between turns (`specs/Between.antt`) connections
+//! come under keys that had none, leave, or stay as they are; one that can't be passed on comes back as it
+//! was. Each connection keeps at most 1,130,498 unread bytes (`Worker::kept`).
+//!
+//! A worker keeps a link as a `Talk`, whose invariant is that the link is whole since it was opened
+//! (`specs/Lives.antt`). Two laws say what all turns come to: each connection of a worker is such a talk
+//! (`staying_open`), and since it came its calls stand in its seat's notes and in its user's book, each
+//! once and in order (`answering`, `specs/Answering.antt`).
 //!
 //! What a wire may answer is `specs/Wires.antt`. One that knows what bytes it gave and took says so; of
 //! one that knows none, as a socket, nothing is said of bytes.
 //!
-//! No clause says that a call which is answered as refused was made, that a connection which is passed
-//! on comes as it was, that a thread gets on, or that memory suffices.
+//! No clause says that a worker gets the connection that another passed on, in which order the calls
+//! stand of one that two workers served, that a hall refuses only for want of memory, that a thread gets
+//! on, or that memory suffices.
 #![tactic(auto)]
 
+mod balance;
 mod crew;
+mod dealing;
+mod desk;
+mod did;
 mod gate;
+mod guesses;
 mod homes;
 mod keeper;
+mod laws;
 mod link;
+mod listed;
 mod pace;
 mod service;
+mod shares;
 mod start;
+mod talk;
 mod wire;
+mod work;
 mod worker;
 
-pub use crew::{CrewFault, Why, run_crew};
+pub use balance::Balance;
+pub use crew::{CrewFault, Returned, Why, run_crew};
+pub use did::{Did, Traffic};
 pub use gate::{Gate, Open, Place};
-pub use homes::Homes;
+pub use homes::{Homes, home_of};
 pub use keeper::{Keeper, Source};
-pub use link::Link;
-pub use tc_session::Parts;
-pub use wire::{Change, Got, Inlet, Patience, Put, Taken, Wire};
+pub use laws::{answering, staying_open};
+pub use shares::Shares;
+pub use talk::Talk;
+pub use tc_session::{News, Parts};
+pub use wire::{Change, Got, Inlet, Patience, Put, Remark, Taken, Wire};
 pub use worker::Worker;

@@ -8,19 +8,23 @@ ghost use Rattle.tc_session.specs.SessionView.{reply_room};
 ghost use Rattle.tc_workers.specs.Talks.{Talks, Carries, Answers};
 ghost use Rattle.tc_workers.specs.Turns.{longest_piece, most_kept};
 
+use crate::dealing::SHARE;
+use crate::desk::Desk;
 use crate::gate::{Gate, Place};
+use crate::guesses::Guesses;
 use crate::homes::Homes;
 use crate::pace::{Onward, Pace};
 use crate::service::Service;
-use crate::wire::{Change, Got, Put, Wire};
+use crate::wire::{Change, Got, Put, Remark, Wire};
+use crate::work::Work;
 use std::alloc::Global;
 use std::marker::Model;
 use std::sync::Wait;
 use tc_grammar::Command;
 use tc_item::Moment;
-use tc_locked::{CallFault, Naming, Seat};
+use tc_locked::Naming;
 use tc_plain::Cache;
-use tc_session::{Session, Want};
+use tc_session::{News, Session, Want};
 use tc_users::UserNo;
 
 /// The most bytes of a read.
@@ -29,29 +33,23 @@ pub(crate) const LONGEST_PIECE: usize = 16_384;
 /// How many requests are done in a turn at most.
 const REQUESTS: u32 = 16;
 
+/// The first byte of a connection that speaks the binary protocol (doc/protocol-binary.txt).
+const BINARY: u8 = 0x80;
+
 /// With more bytes that wait to be sent, nothing is read and no request is done.
 const MOST_OUT: usize = 1_048_576;
+
+/// Once a wire took so many bytes in half a turn, it takes no more before the other connections went on.
+const MOST_TAKEN: usize = 524_288;
 
 /// More bytes than these are sent as soon as a turn's requests are done; fewer wait until the other
 /// connections' are done too.
 const EARLY_OUT: usize = 16_384;
 
-/// What a connection's worker knows of its user.
-#[derive(Clone, Copy, Debug, PartialEq, Eq)]
-enum Owner {
-    /// It had no command yet.
-    Unknown,
-    /// It had its first command, of the user of this number, and its worker was not asked yet where it
-    /// is to be served.
-    Found(u32),
-    /// It is served where it is to be.
-    Settled,
-}
-
 /// A connection: its wire, and what came on it. Contracts see its number, its session, whether no whole
 /// request of it is unread, and what bytes its wire gave and took.
 #[derive(Drop)]
-pub struct Link<W: Wire + Drop> {
+pub(crate) struct Link<W: Wire + Drop> {
     pub(crate) conn: u32,
     wire: W,
     session: Session,
@@ -62,10 +60,19 @@ pub struct Link<W: Wire + Drop> {
     /// Its inlet names it when its wire may be read or written again.
     is_watched: bool,
     /// It stands on its worker's list.
-    pub(crate) is_listed: bool,
+    is_listed: bool,
     /// How far its turn came.
     pace: Pace,
-    owner: Owner,
+    /// Its wire was told whose it is.
+    is_told: bool,
+    /// No byte came yet.
+    is_new: bool,
+    /// Its first byte is one of the binary protocol.
+    is_binary: bool,
+    /// Its refused logins.
+    guesses: Guesses,
+    /// What was done in this half of its turn.
+    work: Work,
 }
 
 impl<W: Wire + Drop> Model for Link<W> {
@@ -106,7 +113,11 @@ impl<W: Wire + Drop> Link<W> {
             is_watched: false,
             is_listed: true,
             pace: Pace::Rests,
-            owner: Owner::Unknown,
+            is_told: false,
+            is_new: true,
+            is_binary: false,
+            guesses: Guesses::none(),
+            work: Work::none(),
         }
     }
 
@@ -121,30 +132,29 @@ impl<W: Wire + Drop> Link<W> {
             is_watched: _,
             is_listed: _,
             pace: _,
-            owner: _,
+            is_told: _,
+            is_new: _,
+            is_binary: _,
+            guesses: _,
+            work: _,
         } = self;
         wire
     }
 
     /// Has an inlet that passes the connection on, or took it over, change its wire. Whether it could.
-    pub fn change_wire<C: Change<W>>(&mut self, change: C) -> bool
+    pub(crate) fn change_wire<C: Change<W>>(&mut self, change: C) -> bool
         ensures { self.new ≡ self.old }
     {
         change.change(&mut self.wire)
     }
 
-    /// The worker that is to serve it, where that is another one; asked once it had a command, it is
-    /// settled.
-    pub(crate) fn leaves_for(&mut self, homes: Homes) -> Option<usize>
+    /// The worker that is to serve it, where that is another one; none before it has logged in.
+    pub(crate) fn leaves_for(&mut self, homes: &Homes) -> Option<usize>
         ensures { self.new ≡ self.old }
     {
-        match self.owner {
-            Owner::Found(number) => {
-                self.owner = Owner::Settled;
-                homes.elsewhere(UserNo::new(number))
-            }
-            Owner::Unknown | Owner::Settled => None,
-        }
+        let user = self.session.user()?;
+        self.meet(user);
+        homes.elsewhere(user, self.conn)
     }
 
     /// Notes how far its turn came: one that rests is listed no more.
@@ -156,11 +166,33 @@ impl<W: Wire + Drop> Link<W> {
         }
     }
 
+    /// Notes that it is on its worker's list. Whether it was not.
+    pub(crate) fn note_listed(&mut self) -> bool
+        ensures { self.new ≡ self.old }
+    {
+        let was_listed = self.is_listed;
+        self.is_listed = true;
+        !was_listed
+    }
+
     /// Learns its key.
     pub(crate) fn set_key(&mut self, key: usize)
         ensures { self.new ≡ self.old }
     {
         self.is_watched = self.wire.set_key(key);
+    }
+
+    /// Whose it is for the deal of a turn: its user's number, 0 before it has logged in.
+    pub(crate) fn user(&self) -> usize {
+        match self.session.user() {
+            Some(user) => user.number() as usize,
+            None => 0,
+        }
+    }
+
+    /// What was done in the last half of a turn.
+    pub(crate) fn work(&self) -> u64 {
+        self.work.units()
     }
 
     /// How many of its bytes are unread.
@@ -175,23 +207,61 @@ impl<W: Wire + Drop> Link<W> {
     pub(crate) fn take_in<R: Wait, C: Cache, N: Naming, G: Gate>(
         &mut self,
         service: &Service<'_, R, C, N, G>,
-        seat: &mut Seat<N>,
+        desk: &mut Desk<N>,
         buffer: &mut [u8],
     ) -> bool
         ensures moved { (sent lost : List ℕ)
-            × Talks 16 service.now.users.now sent lost self.old self.new seat.old seat.new
+            × Talks 16 service.now.users.now sent lost self.old self.new desk.old desk.new
+            × (result ≡ true → lost ≡ []) }
+    {
+        self.work = Work::none();
+        if self.guesses.waits() {
+            self.pace = Pace::Tries;
+            return true;
+        }
+        self.take_requests(service, desk, buffer)
+    }
+
+    /// The first half of a turn in which no reply is held back.
+    fn take_requests<R: Wait, C: Cache, N: Naming, G: Gate>(
+        &mut self,
+        service: &Service<'_, R, C, N, G>,
+        desk: &mut Desk<N>,
+        buffer: &mut [u8],
+    ) -> bool
+        ensures moved { (sent lost : List ℕ)
+            × Talks 16 service.now.users.now sent lost self.old self.new desk.old desk.new
             × (result ≡ true → lost ≡ []) }
     {
         let Some(came) = self.read(buffer) else {
+            self.tell_binary(service.rt);
             return false;
         };
-        let served = self.serve(service, seat);
+        let served = self.serve(service, desk);
+        self.tell(service);
         self.pace = came.and(served);
-        self.session.out_len() <= EARLY_OUT || self.send()
+        self.keeps_out() || self.send()
+    }
+
+    /// Whether what waits to be sent is kept for the second half of the turn.
+    fn keeps_out(&self) -> bool {
+        self.session.out_len() <= EARLY_OUT || self.guesses.waits()
     }
 
     /// The second half of a turn: writes, and looks once more whether there is something to read.
     pub(crate) fn give_out(&mut self, now: Moment, buffer: &mut [u8]) -> Onward
+        ensures moved { (sent lost : List ℕ) × Carries sent lost self.old self.new
+            × (result ≢ Onward.Done → lost ≡ []) }
+    {
+        self.work = Work::none();
+        if self.guesses.still_waits(now) {
+            return Onward::GoesOn(Pace::Tries);
+        }
+        self.give_replies(now, buffer)
+    }
+
+    /// The second half of a turn in which no reply is held back.
+    fn give_replies(&mut self, now: Moment, buffer: &mut [u8]) -> Onward
         ensures moved { (sent lost : List ℕ) × Carries sent lost self.old self.new
             × (result ≢ Onward.Done → lost ≡ []) }
     {
@@ -262,7 +332,10 @@ impl<W: Wire + Drop> Link<W> {
         let into = &mut buffer[..room];
         match self.wire.read(into) {
             Got::Bytes(0) => Some(Pace::Tries),
-            Got::Bytes(n) => self.take(&into[..n]),
+            Got::Bytes(n) => {
+                self.work.add_read(n);
+                self.take(&into[..n])
+            }
             Got::Later => Some(Pace::Rests),
             Got::Ended => {
                 // All that came whole was done; what waits is still written.
@@ -273,7 +346,8 @@ impl<W: Wire + Drop> Link<W> {
         }
     }
 
-    /// Takes what came; `None` where memory is refused.
+    /// Takes what came; `None` where memory is refused, or where its first byte is one of the binary
+    /// protocol, whose client would wait for ever.
     fn take(&mut self, piece: &[u8]) -> Option<Pace>
         requires piece { length piece.now ≤ longest_piece }
         requires rests { self.old.rests ≡ true }
@@ -285,27 +359,30 @@ impl<W: Wire + Drop> Link<W> {
         ensures gave { self.new.gave ≡ self.old.gave }
         ensures took { self.new.took ≡ self.old.took }
     {
-        if self.session.push(piece).is_err() {
+        self.is_binary = self.is_new && piece.first() == Some(&BINARY);
+        if self.is_binary || self.session.push(piece).is_err() {
             return None;
         }
+        self.is_new = false;
         self.rests = false;
         Some(Pace::GetsOn)
     }
 
-    /// Does requests until none is whole, many were done, or much waits to be sent.
+    /// Does requests until none is whole, many were done, much was done, much waits to be sent, or a
+    /// reply waits.
     fn serve<R: Wait, C: Cache, N: Naming, G: Gate>(
         &mut self,
         service: &Service<'_, R, C, N, G>,
-        seat: &mut Seat<N>,
+        desk: &mut Desk<N>,
     ) -> Pace
-        ensures moved { Talks 16 service.now.users.now [] [] self.old self.new seat.old seat.new }
+        ensures moved { Talks 16 service.now.users.now [] [] self.old self.new desk.old desk.new }
     {
         let mut pace = Pace::Rests;
         for _ in 0..REQUESTS {
-            if self.rests || self.session.is_closed() || self.is_full() {
+            if self.rests || self.session.is_closed() || self.is_full() || self.pauses() {
                 return pace;
             }
-            if !self.ask(service, seat) {
+            if !self.ask(service, desk) {
                 return pace.and(Pace::Tries);
             }
             pace = Pace::GetsOn;
@@ -313,15 +390,21 @@ impl<W: Wire + Drop> Link<W> {
         pace
     }
 
+    /// Whether others are to go on first, or a reply waits.
+    fn pauses(&self) -> bool {
+        self.work.units() >= SHARE || self.guesses.waits()
+    }
+
     /// Asks for one request, and does it. Whether memory sufficed to ask.
     fn ask<R: Wait, C: Cache, N: Naming, G: Gate>(
         &mut self,
         service: &Service<'_, R, C, N, G>,
-        seat: &mut Seat<N>,
+        desk: &mut Desk<N>,
     ) -> bool
         requires { is_closed self.old.session.endpoint.phase ≡ false }
-        ensures moved { Talks 1 service.now.users.now [] [] self.old self.new seat.old seat.new }
+        ensures moved { Talks 1 service.now.users.now [] [] self.old self.new desk.old desk.new }
     {
+        let kept = self.session.kept();
         let Ok(want) = self.session.next(service.alloc, service.users) else {
             if self.refused.is_none() {
                 self.refused = Some(service.clock.now());
@@ -331,18 +414,53 @@ impl<W: Wire + Drop> Link<W> {
         self.refused = None;
         match want {
             Want::Nothing => self.rests = true,
-            Want::Said | Want::Close => {}
-            Want::Call(user, command) => self.call(service, seat, user, &command),
+            Want::Said | Want::Close => self.note_answer(service, kept),
+            Want::Call(user, command) => self.call(service, desk, user, &command),
         }
         true
     }
 
-    /// Notes the user of its first command.
+    /// Notes that a request was answered that calls no command, before which so many bytes were unread.
+    fn note_answer<R: Wait, C: Cache, N: Naming, G: Gate>(
+        &mut self,
+        service: &Service<'_, R, C, N, G>,
+        kept: usize,
+    )
+        ensures { self.new ≡ self.old }
+    {
+        self.work
+            .add_answer(kept.saturating_sub(self.session.kept()));
+        self.tell(service);
+    }
+
+    /// Tells the wire what an operator may want to know, and counts refused logins.
+    fn tell<R: Wait, C: Cache, N: Naming, G: Gate>(&mut self, service: &Service<'_, R, C, N, G>)
+        ensures { self.new ≡ self.old }
+    {
+        if let Some(news) = self.session.take_news() {
+            if let News::LoginRefused(_) = news {
+                self.guesses.add(service.clock.now());
+            }
+            self.wire.note(service.rt, Remark::News(news));
+        }
+    }
+
+    /// Tells the wire of a client that speaks the binary protocol.
+    fn tell_binary<R: Wait>(&mut self, rt: &R)
+        ensures { self.new ≡ self.old }
+    {
+        if self.is_binary {
+            self.wire.note(rt, Remark::IsBinary);
+        }
+    }
+
+    /// Tells the wire, once, as which user it logged in.
     fn meet(&mut self, user: UserNo)
         ensures { self.new ≡ self.old }
     {
-        if self.owner == Owner::Unknown {
-            self.owner = Owner::Found(user.number());
+        if !self.is_told {
+            self.is_told = true;
+            self.wire.set_user(user);
         }
     }
 
@@ -350,23 +468,25 @@ impl<W: Wire + Drop> Link<W> {
     fn call<R: Wait, C: Cache, N: Naming, G: Gate>(
         &mut self,
         service: &Service<'_, R, C, N, G>,
-        seat: &mut Seat<N>,
+        desk: &mut Desk<N>,
         user: UserNo,
         command: &Command,
     )
         requires room { reply_room ≤ self.old.session.room }
         requires runs { command.now ≢ Quit }
-        ensures answers { Answers user command.now self.old self.new seat.old seat.new }
+        ensures answers { Answers user command.now self.old self.new desk.old desk.new }
     {
         self.meet(user);
+        self.work.add_command(command);
         // A client with many requests in flight sent some of them together.
-        seat.set_more(self.session.kept() > 0);
+        desk.seat.set_more(self.session.kept() > 0);
         let gate = service.gate;
         gate.pass(user, Place::Before);
         let called = service.hall.call_with(
             service.rt,
             service.alloc,
-            seat,
+            &mut desk.seat,
+            &mut desk.refusals,
             user,
             service.clock.now(),
             self.conn,
@@ -374,31 +494,32 @@ impl<W: Wire + Drop> Link<W> {
             || gate.pass(user, Place::Held),
         );
         gate.pass(user, Place::After);
-        match called {
-            Ok(receipt) => {
-                // A reply that was refused says so itself.
-                let _ = self.session.answer(command, &receipt.slip.outcome);
-            }
+        let Ok(receipt) = called else {
             // The protocol has one text for a command that was not done. Memory may be there for the next
-            // one; a book that has given all its numbers does none again. The last two no server sees: its
-            // hall is made of the table by which its sessions log in, and nothing takes a book out of it.
-            Err(CallFault::NoMemory | CallFault::Worn | CallFault::NoUser | CallFault::OtherBook) =>
-                self.session.refuse(command),
-        }
+            // one; a worn book does none again. No server sees `NoUser` or `OtherBook`: its hall is made of
+            // the table by which its sessions log in, and nothing takes a book out of it.
+            self.session.refuse(command);
+            return;
+        };
+        // A reply that was refused says so itself.
+        let _ = self.session.answer(command, &receipt.slip.outcome);
+        drop(receipt);
     }
 
-    /// Writes until all is out or the wire takes no more; `None` where it fails.
+    /// Writes until all is out, the wire takes no more, or it took so much that others are to go on
+    /// first; `None` where it fails.
     fn write(&mut self) -> Option<Pace>
         ensures sends { (sent : List ℕ) × Carries sent [] self.old self.new }
     {
         let mut pace = Pace::Rests;
+        let mut taken = 0usize;
         for _ in 0..u64::MAX {
-            if !self.session.has_out() {
+            if !self.session.has_out() || taken >= MOST_TAKEN {
                 return Some(pace);
             }
             match self.put() {
                 Put::Wrote(0) => return Some(pace.and(Pace::Tries)),
-                Put::Wrote(_) => {}
+                Put::Wrote(n) => taken = taken.saturating_add(n),
                 Put::Later => return Some(pace),
                 Put::Failed => return None,
             }
@@ -414,6 +535,7 @@ impl<W: Wire + Drop> Link<W> {
         match self.wire.write(&self.session.parts()) {
             Put::Wrote(n) => {
                 self.session.sent(n);
+                self.work.add_write(n);
                 Put::Wrote(n)
             }
             Put::Later => Put::Later,

@@ -1,8 +1,10 @@
 //! What a worker reads and writes, and where it gets its connections.
-ghost use Rattle.std.specs.Prelude.{◌≡◌, ℕ, List, Option, length};
+ghost use Rattle.std.specs.Prelude.{◌≡◌, ℕ, List, Option, IfErr, length};
 ghost use Rattle.tc_workers.specs.Wires.{ReadsWithin, WritesWithin, Gives, Takes};
 
-use tc_session::Parts;
+use std::sync::Wait;
+use tc_session::{News, Parts};
+use tc_users::UserNo;
 
 /// What a read gave.
 #[derive(Clone, Copy, Debug, PartialEq, Eq)]
@@ -24,6 +26,15 @@ pub enum Put {
     /// Nothing can be taken yet.
     Later,
     Failed,
+}
+
+/// What an operator may want to know of a connection.
+#[derive(Clone, Copy, Debug, PartialEq, Eq)]
+pub enum Remark {
+    /// This happened in its session.
+    News(News),
+    /// Its client speaks the binary protocol, so it is closed.
+    IsBinary,
 }
 
 /// The two ways of a connection. No call of it waits.
@@ -49,6 +60,16 @@ pub trait Wire {
     /// Learns under which key its worker has it. Whether the inlet names that key each time that a
     /// read or a write would no longer answer `Later`; where it doesn't, the wire is asked each turn.
     fn set_key(&mut self, key: usize) -> bool
+        ensures gives_nothing { gave self.new ≡ gave self.old }
+        ensures takes_nothing { took self.new ≡ took self.old };
+
+    /// Learns whose connection it is. It is told once.
+    fn set_user(&mut self, user: UserNo)
+        ensures gives_nothing { gave self.new ≡ gave self.old }
+        ensures takes_nothing { took self.new ≡ took self.old };
+
+    /// Learns what an operator may want to know of its connection.
+    fn note<R: Wait>(&mut self, rt: &R, remark: Remark)
         ensures gives_nothing { gave self.new ≡ gave self.old }
         ensures takes_nothing { took self.new ≡ took self.old };
 }
@@ -87,7 +108,8 @@ pub enum Patience {
 /// Where a worker gets its connections L, each over a wire W, and learns which of them have something
 /// to do.
 pub trait Inlet<W, L>: Drop {
-    /// The next connection. It is asked once before each turn, and waits no longer than it is told.
+    /// The next connection. It waits no longer than it is told. Before each turn it is asked until none
+    /// is there, and 64 times at most.
     fn take(&mut self, patience: Patience) -> Taken<W, L>;
 
     /// The key of a wire that may be read or written again; each is named once.
@@ -95,5 +117,6 @@ pub trait Inlet<W, L>: Drop {
 
     /// Passes a connection on to the worker `to`, counted from 0, whose inlet gives it. Where that
     /// can't be, it comes back.
-    fn pass_on(&mut self, to: usize, link: L) -> Result<(), L>;
+    fn pass_on(&mut self, to: usize, link: L) -> Result<(), L>
+        ensures back { IfErr result (λ back. back ≡ link) };
 }

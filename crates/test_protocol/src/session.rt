@@ -18,7 +18,7 @@ use table::{
 };
 use tc_grammar::Command;
 use tc_item::NoMemory;
-use tc_session::{Session, Want, can_end};
+use tc_session::{News, Session, Want, can_end};
 use tc_stats::Outcome;
 use tc_users::{UserNo, Users};
 
@@ -86,10 +86,9 @@ fn expect_wanted(rt: &impl Abort, got: Wanted, want: Wanted, at: &str) {
 
 /// Whether this waits to be sent, in one slice.
 fn expect_out(rt: &impl Abort, session: &Session, out: &[u8], at: &str) {
-    let parts = session.parts();
-    let (first, second, third) = parts.as_slices();
+    let (first, behind) = session.parts().split_first();
     expect_bytes(rt, first, out, at);
-    assert!(rt; second.is_empty() && third.is_empty(), "{at}");
+    assert!(rt; behind.is_empty(), "{at}");
 }
 
 /// Takes a turn.
@@ -155,6 +154,50 @@ fn a_login_binds_to_the_user_whose_name_and_token_it_has(rt: HostRuntime) -> Res
 #[test]
 fn nothing_but_a_login_is_done_before_it(rt: HostRuntime) -> Result<(), Fail> {
     expect_owners(&rt, false, &BEFORE_A_LOGIN)
+}
+
+/// Whether what was said on a new connection is told so, once.
+fn expect_news(
+    rt: &(impl AllocGlobal + Abort),
+    users: &Users,
+    said: &str,
+    news: Option<News>,
+) -> Result<(), NoMemory> {
+    let mut session = Session::new(rt.alloc());
+    push(&mut session, said.as_bytes())?;
+    wanted(rt.alloc(), &mut session, users)?;
+    assert_eq!(rt; session.take_news(), news, "{said}");
+    assert_eq!(rt; session.take_news(), None, "{said}");
+    Ok(())
+}
+
+/// The news of a refused login of the user with this number, or of none.
+fn refused_login(user: Option<u32>) -> Option<News> {
+    match user {
+        Some(user) => Some(News::LoginRefused(Some(UserNo::new(user)))),
+        None => Some(News::LoginRefused(None)),
+    }
+}
+
+#[test]
+fn a_refused_login_is_told_by_its_user(rt: HostRuntime) -> Result<(), Fail> {
+    let users = users(rt.alloc())?;
+    expect_news(
+        &rt,
+        &users,
+        "set a 0 0 9\r\nalice two\r\n",
+        refused_login(Some(1)),
+    )?;
+    expect_news(
+        &rt,
+        &users,
+        "set a 0 0 9\r\none alice\r\n",
+        refused_login(None),
+    )?;
+    expect_news(&rt, &users, "set a 0 0 5\r\nalice\r\n", refused_login(None))?;
+    expect_news(&rt, &users, "set a 0 0 9\r\nalice one\r\n", None)?;
+    expect_news(&rt, &users, "set a 0 0 257\r\n", Some(News::LongBlock))?;
+    Ok(())
 }
 
 #[test]

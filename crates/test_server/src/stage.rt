@@ -4,8 +4,9 @@ ghost use Rattle.tc_fresh.specs.Beginning.{fresh_cache};
 
 use crate::hall::{busy, crowd, pages, refusals, scenes};
 use crate::workers::crews::{self, Hold};
+use crate::workers::deals::{self, Guests};
 use crate::workers::wires::Plan;
-use crate::workers::{moves, pressure, sips, talks, tapes};
+use crate::workers::{guesses, moves, pressure, sips, talks, tapes};
 use std::alloc::Global;
 use std::hash::RandomState;
 use std::marker::Brand;
@@ -51,6 +52,10 @@ pub enum Scene {
     Beside(Plan, Plan),
     /// A client that never reads beside one that does.
     Floods,
+    /// Many busy connections of alice's, with bob's or without.
+    Deals(Guests),
+    /// A client that guesses tokens.
+    Guesses,
     /// A client that reads a few bytes a call.
     Sips,
     /// A client over a wire that knows its bytes.
@@ -132,6 +137,8 @@ fn perform<
             rt, alloc, &hall, users, &mut seats, one, other,
         ),
         Scene::Floods => pressure::serve_flood(rt, alloc, &hall, users, &mut seats),
+        Scene::Deals(guests) => deals::deal(rt, alloc, &hall, users, &mut seats, *guests),
+        Scene::Guesses => guesses::guess(rt, alloc, &hall, users, &mut seats),
         Scene::Comes => moves::come(rt, alloc, &hall, users, &mut seats),
         Scene::Sips => sips::serve_sips(rt, alloc, &hall, users, &mut seats),
         Scene::Tapes => tapes::serve_tape(rt, alloc, &hall, users, &mut seats),

@@ -46,12 +46,11 @@ fn ask(
     Ok(())
 }
 
-/// What waits: the bytes of the first slice, how many bytes `d` the second has, and those of the third.
+/// A slice of what waits: these bytes, or so many bytes `d`.
 #[derive(Clone, Copy)]
-struct Waits<'a> {
-    first: &'a [u8],
-    data: usize,
-    third: &'a [u8],
+enum Slice {
+    Text(&'static [u8]),
+    Data(usize),
 }
 
 /// Whether bytes are so many `d`.
@@ -60,144 +59,88 @@ fn expect_data(rt: &impl Abort, data: &[u8], size: usize, at: &str) {
     assert!(rt; data.iter().all(|byte| *byte == b'd'), "{at}");
 }
 
-/// Whether this waits.
-fn expect_waits(rt: &impl Abort, session: &Session, waits: &Waits<'_>, at: &str) {
-    let parts = session.parts();
-    let (first, second, third) = parts.as_slices();
-    expect_bytes(rt, first, waits.first, at);
-    expect_data(rt, second, waits.data, at);
-    expect_bytes(rt, third, waits.third, at);
+/// Whether bytes are this slice.
+fn expect_slice(rt: &impl Abort, bytes: &[u8], slice: Slice) {
+    match slice {
+        Slice::Text(text) => expect_bytes(rt, bytes, text, "text"),
+        Slice::Data(size) => expect_data(rt, bytes, size, "data"),
+    }
 }
 
-const VALUE: &[u8] = b"VALUE k 7 16384\r\n";
+/// Whether what waits begins with these slices; how many bytes stand behind them.
+fn expect_front(rt: &impl Abort, session: &Session, slices: &[Slice]) -> usize {
+    let mut parts = session.parts();
+    for slice in slices {
+        let (first, behind) = parts.split_first();
+        expect_slice(rt, first, *slice);
+        parts = behind;
+    }
+    parts.len()
+}
 
-const END: &[u8] = b"\r\nEND\r\n";
+/// How many bytes are sent, and the slices that wait then.
+type Sending = (usize, &'static [Slice]);
 
-/// How many bytes are sent, and what waits then: some of the line, all of it, some of the data, all of
-/// it and a byte more, and more than waits.
-const SENT: [(usize, Waits<'static>); 5] = [
+const VALUE: Slice = Slice::Text(b"VALUE k 7 16384\r\n");
+
+const DATA: Slice = Slice::Data(16_384);
+
+const END: Slice = Slice::Text(b"\r\nEND\r\n");
+
+/// A reply with shared data, sent bit by bit: nothing, some of the line, all of it, some of the data,
+/// all of it and a byte more, and more than waits.
+const ONE: [Sending; 6] = [
+    (0, &[VALUE, DATA, END]),
+    (6, &[Slice::Text(b"k 7 16384\r\n"), DATA, END]),
+    (11, &[DATA, END]),
+    (16_000, &[Slice::Data(384), END]),
+    (385, &[Slice::Text(b"\nEND\r\n")]),
+    (9, &[]),
+];
+
+/// A reply with data of two hits: nothing is sent, then the first hit but its last byte, and all the data.
+const TWO: [Sending; 3] = [
     (
-        6,
-        Waits {
-            first: b"k 7 16384\r\n",
-            data: 16_384,
-            third: END,
-        },
+        0,
+        &[
+            VALUE,
+            DATA,
+            Slice::Text(b"\r\nVALUE l 7 16384\r\n"),
+            DATA,
+            END,
+        ],
     ),
     (
-        11,
-        Waits {
-            first: b"",
-            data: 16_384,
-            third: END,
-        },
+        17 + 16_384 + 1,
+        &[Slice::Text(b"\nVALUE l 7 16384\r\n"), DATA, END],
+    ),
+    (18 + 16_384, &[END]),
+];
+
+/// Two replies: the second stands behind the first one's end, and waits while that is sent.
+const BEHIND: [Sending; 2] = [
+    (
+        0,
+        &[
+            VALUE,
+            DATA,
+            Slice::Text(b"\r\nEND\r\nVALUE k 7 16384 1\r\n"),
+            DATA,
+            END,
+        ],
     ),
     (
-        16_000,
-        Waits {
-            first: b"",
-            data: 384,
-            third: END,
-        },
-    ),
-    (
-        385,
-        Waits {
-            first: b"\nEND\r\n",
-            data: 0,
-            third: b"",
-        },
-    ),
-    (
-        9,
-        Waits {
-            first: b"",
-            data: 0,
-            third: b"",
-        },
+        17 + 16_384 + 7,
+        &[Slice::Text(b"VALUE k 7 16384 1\r\n"), DATA, END],
     ),
 ];
 
 /// Sends what waits bit by bit.
-fn expect_sent(rt: &impl Abort, session: &mut Session) {
-    let all = Waits {
-        first: VALUE,
-        data: 16_384,
-        third: END,
-    };
-    expect_waits(rt, session, &all, "all");
-    for (sent, waits) in &SENT {
+fn expect_sendings(rt: &impl Abort, session: &mut Session, sendings: &[Sending]) {
+    for (sent, slices) in sendings {
         session.sent(*sent);
-        expect_waits(rt, session, waits, "sent");
-    }
-}
-
-/// Whether a reply of so many bytes waits in one slice, from a line to an end.
-fn expect_copied(rt: &impl Abort, session: &Session, line: &[u8], size: u64, end: &[u8]) {
-    let parts = session.parts();
-    let (first, second, third) = parts.as_slices();
-    assert!(rt; first.starts_with(line) && first.ends_with(end));
-    assert!(rt; second.is_empty() && third.is_empty());
-    expect_number(rt, first.len() as u64, size, "copied");
-}
-
-/// Whether a reply's data is shared, and the next one's stands behind its end.
-fn expect_second(rt: &impl Abort, session: &Session) {
-    let parts = session.parts();
-    let (first, second, third) = parts.as_slices();
-    expect_bytes(rt, first, VALUE, "first");
-    expect_data(rt, second, 16_384, "second");
-    assert!(rt; third.starts_with(b"\r\nEND\r\nVALUE k 7 16384 1\r\nd"));
-    assert!(rt; third.ends_with(b"d\r\nEND\r\n"));
-    expect_number(rt, third.len() as u64, 7 + 19 + 16_384 + 7, "third");
-}
-
-/// What is asked on a connection of alice's, one line or two, and what waits then.
-#[derive(Clone, Copy)]
-enum Case {
-    /// Data of 16,384 bytes is sent bit by bit, twice.
-    Shared,
-    /// Data of a byte less.
-    Less,
-    /// Data of two hits.
-    Several,
-    /// Data while other data waits.
-    Behind,
-}
-
-impl Case {
-    /// The keys that are found, and how many bytes each holds.
-    fn found(self) -> (&'static [&'static str], usize) {
-        match self {
-            Case::Shared | Case::Behind => (&["k"], 16_384),
-            Case::Less => (&["k"], 16_383),
-            Case::Several => (&["k", "l"], 16_384),
-        }
-    }
-
-    /// What is asked, in order.
-    fn lines(self) -> &'static [&'static str] {
-        match self {
-            Case::Shared | Case::Less => &["get k\r\n"],
-            Case::Several => &["get k l\r\n"],
-            Case::Behind => &["get k\r\n", "gets k\r\n"],
-        }
-    }
-}
-
-/// Whether what was asked is answered so.
-fn expect_case(rt: &impl Abort, session: &mut Session, case: Case) {
-    match case {
-        Case::Shared => expect_sent(rt, session),
-        Case::Less => expect_copied(rt, session, b"VALUE k 7 16383\r\n", 17 + 16_383 + 7, END),
-        Case::Several => {
-            expect_copied(rt, session, VALUE, 17 + 16_384 + 19 + 16_384 + 7, END);
-        }
-        Case::Behind => {
-            expect_second(rt, session);
-            session.sent(17 + 16_384 + 7);
-            expect_copied(rt, session, b"VALUE k 7 16384 1\r\n", 19 + 16_384 + 7, END);
-        }
+        let behind = expect_front(rt, session, slices);
+        expect_number(rt, behind as u64, 0, "behind");
     }
 }
 
@@ -215,35 +158,39 @@ fn ask_all(
     Ok(())
 }
 
-/// Asks so often on one connection of alice's, and looks each time.
-fn expect_cases(rt: &(impl AllocGlobal + Abort), case: Case, times: u32) -> Result<(), Fail> {
+/// Asks on one connection of alice's, twice, where so many bytes are found under each of these keys.
+fn expect_replies(
+    rt: &(impl AllocGlobal + Abort),
+    names: &[&str],
+    lines: &[&str],
+    sendings: &[Sending],
+) -> Result<(), Fail> {
     let users = users(rt.alloc())?;
     let mut session = opened(rt.alloc(), &users, true)?;
-    let (names, size) = case.found();
-    let outcome = found(rt.alloc(), names, size)?;
-    for _ in 0..times {
-        ask_all(rt, &mut session, &users, case.lines(), &outcome)?;
-        expect_case(rt, &mut session, case);
+    let outcome = found(rt.alloc(), names, 16_384)?;
+    for _ in 0..2 {
+        ask_all(rt, &mut session, &users, lines, &outcome)?;
+        expect_sendings(rt, &mut session, sendings);
+        session.sent(usize::MAX);
     }
     Ok(())
 }
 
 #[test]
 fn large_data_is_sent_from_where_it_lies(rt: HostRuntime) -> Result<(), Fail> {
-    expect_cases(&rt, Case::Shared, 2)
+    expect_replies(&rt, &["k"], &["get k\r\n"], &ONE)?;
+    expect_replies(&rt, &["k", "l"], &["get k l\r\n"], &TWO)?;
+    expect_replies(&rt, &["k"], &["get k\r\n", "gets k\r\n"], &BEHIND)
 }
 
 #[test]
-fn data_of_a_byte_less_is_copied(rt: HostRuntime) -> Result<(), Fail> {
-    expect_cases(&rt, Case::Less, 1)
-}
-
-#[test]
-fn data_of_several_hits_is_copied(rt: HostRuntime) -> Result<(), Fail> {
-    expect_cases(&rt, Case::Several, 1)
-}
-
-#[test]
-fn large_data_is_copied_while_other_waits(rt: HostRuntime) -> Result<(), Fail> {
-    expect_cases(&rt, Case::Behind, 1)
+fn smaller_data_is_shared_where_a_reply_is_long(rt: HostRuntime) -> Result<(), Fail> {
+    let users = users(rt.alloc())?;
+    let mut session = opened(rt.alloc(), &users, true)?;
+    let outcome = found(rt.alloc(), &["k"; 64], 16_383)?;
+    ask(&rt, &mut session, &users, "get k\r\n", &outcome)?;
+    let first = [Slice::Text(b"VALUE k 7 16383\r\n"), Slice::Data(16_383)];
+    let behind = expect_front(&rt, &session, &first);
+    expect_number(&rt, behind as u64, 63 * 16_402 + 7, "behind");
+    Ok(())
 }

@@ -15,6 +15,18 @@ workers = 4\n\n\
 # How many of a user's last commands are kept with their outcomes, so that an audit can replay them:\n\
 # 16 to 65536, and 64 where it is left out.\n\
 # journal = 64\n\n\
+# Limits on connections. Each may be left out, and is no limit then. Seconds are 1 to 86400, and\n\
+# connections 1 to 1024.\n\n\
+# A connection that has not logged in after so many seconds is closed.\n\
+login_seconds = 10\n\n\
+# A connection that takes no byte of its replies for so many seconds is closed.\n\
+stalled_seconds = 30\n\n\
+# So many connections that have not logged in may be open; for a further one the oldest is closed.\n\
+unbound_connections = 256\n\n\
+# Where the metrics are told, as Prometheus reads them: `GET /metrics` by plain HTTP. Whoever can\n\
+# connect there reads all users' names and counters. Without this table they are told nowhere.\n\
+# [metrics]\n\
+# listen = \"127.0.0.1:9150\"\n\n\
 # One [[user]] table for each user, at least one. Each user has a partition of its own.\n\
 [[user]]\n\
 # 1 to 64 letters, digits, `_`, `-` and `.`; no two users have the same name.\n\
@@ -23,7 +35,12 @@ name = \"alice\"\n\
 token = \"change-me-1\"\n\
 # The partition's size in bytes: 65536 (64 KiB) to 1073741824 (1 GiB). An item takes its key, its\n\
 # data and 64 bytes of it.\n\
-budget = 67108864\n\n\
+budget = 67108864\n\
+# So many of the user's connections may be open: 1 to 1024. It may be left out.\n\
+connections = 512\n\
+# A connection of the user that sends nothing for so many seconds is closed: 1 to 86400. It may be\n\
+# left out.\n\
+# idle_seconds = 3600\n\n\
 [[user]]\n\
 name = \"bob\"\n\
 token = \"change-me-2\"\n\
@@ -43,7 +60,7 @@ pub const ALICE: &str = "[[user]]\nname = \"alice\"\ntoken = \"one\"\nbudget = 6
 pub type Numbered = (&'static str, &'static str, u64);
 
 /// Texts, and the numbers of their first faults.
-pub const FIRST_FAULTS: [Numbered; 11] = [
+pub const FIRST_FAULTS: [Numbered; 15] = [
     ("x =", "", 1),
     ("", "", 2),
     (
@@ -55,6 +72,22 @@ pub const FIRST_FAULTS: [Numbered; 11] = [
     ("listen = \"a\"\nworkers = 4\njournal = 15\n", ALICE, 8),
     ("listen = \"a\"\nworkers = 4\n", ALICE, 0),
     ("listen = \"a\"\nworkers = 4\njournal = true\n", "", 2),
+    (
+        "listen = \"a\"\nworkers = 4\nlogin_seconds = 0\nstalled_seconds = 86401\n",
+        ALICE,
+        14,
+    ),
+    (
+        "listen = \"a\"\nworkers = 4\nunbound_connections = 1025\n",
+        ALICE,
+        16,
+    ),
+    ("metrics = 5\nlisten = \"a\"\nworkers = 4\n", ALICE, 2),
+    (
+        TOP,
+        "[[user]]\nname = \"alice\"\ntoken = \"one\"\nbudget = 65536\nidle_seconds = -1\n",
+        18,
+    ),
     (TOP, "", 6),
     (
         TOP,

@@ -13,8 +13,8 @@ use std::sync::{Arc, Wait};
 use std::test::*;
 use tc_locked::{Clock, Hall, Naming, Seat};
 use tc_plain::Cache;
-use tc_users::Users;
-use tc_workers::{Got, Open, Parts, Put, Wire, Worker};
+use tc_users::{UserNo, Users};
+use tc_workers::{Got, Open, Parts, Put, Remark, Wire, Worker};
 
 /// After so many turns more than 1,048,576 bytes wait for one that doesn't read: each turn asks for 16
 /// times 2,813 bytes.
@@ -100,6 +100,10 @@ impl Wire for Flood {
     fn set_key(&mut self, _key: usize) -> bool {
         false
     }
+
+    fn set_user(&mut self, _user: UserNo) {}
+
+    fn note<R: Wait>(&mut self, _rt: &R, _remark: Remark) {}
 }
 
 /// Adds a connection of a client, and gives what is seen of it.

@@ -11,8 +11,8 @@ use std::sync::{Arc, Wait};
 use std::test::*;
 use tc_locked::{Clock, Hall, Naming, Seat};
 use tc_plain::Cache;
-use tc_users::Users;
-use tc_workers::{Got, Open, Parts, Put, Wire, Worker};
+use tc_users::{UserNo, Users};
+use tc_workers::{Got, Open, Parts, Put, Remark, Wire, Worker};
 
 /// How many bytes `d` are stored, more than are copied to be sent.
 const DATA: usize = 17_000;
@@ -129,16 +129,19 @@ impl Wire for Sipping {
     }
 
     fn write(&mut self, from: &Parts<'_>) -> Put {
-        let (first, second, third) = from.as_slices();
-        let mut taken = self.sip(first, SIP);
-        taken += self.sip(second, SIP - taken);
-        taken += self.sip(third, SIP - taken);
-        Put::Wrote(taken)
+        let (first, behind) = from.split_first();
+        let taken = self.sip(first, SIP);
+        let (second, _) = behind.split_first();
+        Put::Wrote(taken + self.sip(second, SIP - taken))
     }
 
     fn set_key(&mut self, _key: usize) -> bool {
         false
     }
+
+    fn set_user(&mut self, _user: UserNo) {}
+
+    fn note<R: Wait>(&mut self, _rt: &R, _remark: Remark) {}
 }
 
 /// One connection, from its first byte to its last.

@@ -12,8 +12,8 @@ use std::sync::{Arc, Wait};
 use std::test::*;
 use tc_locked::{Clock, Hall, Naming, Seat};
 use tc_plain::Cache;
-use tc_users::Users;
-use tc_workers::{Got, Open, Parts, Put, Wire, Worker};
+use tc_users::{UserNo, Users};
+use tc_workers::{Got, Open, Parts, Put, Remark, Wire, Worker};
 
 /// So many turns are enough.
 const TURNS: u32 = 4;
@@ -50,7 +50,7 @@ impl Wire for Tape {
     }
 
     fn write(&mut self, from: &Parts<'_>) -> Put {
-        let (first, _, _) = from.as_slices();
+        let (first, _) = from.split_first();
         if self.heard.extend_from_slice(first).is_err() {
             return Put::Later;
         }
@@ -63,6 +63,10 @@ impl Wire for Tape {
     fn set_key(&mut self, _key: usize) -> bool {
         false
     }
+
+    fn set_user(&mut self, _user: UserNo) {}
+
+    fn note<R: Wait>(&mut self, _rt: &R, _remark: Remark) {}
 }
 
 /// One connection, from its first byte to its last.

@@ -2,10 +2,11 @@
 ghost use Rattle.std.specs.Prelude.{None, ◌≡◌, ◌<◌, ◌≤◌, length};
 
 use std::alloc::Global;
-use std::sync::Arc;
 use std::sync::atomic::AtomicU64;
 use std::sync::atomic::Ordering::SeqCst;
-use tc_workers::{Got, Parts, Put, Wire};
+use std::sync::{Arc, Wait};
+use tc_users::UserNo;
+use tc_workers::{Got, Parts, Put, Remark, Wire};
 
 /// How the bytes of a wire come.
 #[derive(Clone, Copy, Debug, PartialEq, Eq)]
@@ -176,14 +177,16 @@ impl Wire for Memory {
         if self.plan.ending == Ending::FailsAtWrite(self.writes) {
             return Put::Failed;
         }
-        let (first, second, third) = from.as_slices();
+        let (first, _) = from.split_first();
         self.hear(first);
-        self.hear(second);
-        self.hear(third);
-        Put::Wrote(from.len())
+        Put::Wrote(first.len())
     }
 
     fn set_key(&mut self, _key: usize) -> bool {
         matches!(self.plan.ending, Ending::Rests | Ending::TakesNothingAt(_))
     }
+
+    fn set_user(&mut self, _user: UserNo) {}
+
+    fn note<R: Wait>(&mut self, _rt: &R, _remark: Remark) {}
 }

@@ -1,6 +1,6 @@
-use Rattle.std.proofs.Common.{◌≡◌}
+use Rattle.tc_workers.specs.Between.{Changes}
 use Rattle.tc_workers.proofs.worker.Worker.pass_on.Given as goal
 
--- the seat is as it was
+-- connections were passed on, or came back
 abbrev pub invariant-loop : goal.invariant-loop
-invariant-loop g l = l.self.seat ≡ l.fn.self.seat
+invariant-loop g l = Changes l.initial.self l.self

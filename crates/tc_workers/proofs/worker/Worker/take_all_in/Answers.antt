@@ -5,5 +5,5 @@ use Rattle.tc_workers.proofs.worker.Worker.take_all_in.Goals as goal
 pub loop-at-preserved : goal.loop-at-preserved
 loop-at-preserved g c =
     let fits : 16 * c.loop-at.at + 16 ≤ 16 * (c.loop-at.at + 1) = omega arith in
-    let served = serves-append c.loop-at.invariant.1 c.take_in.ensures.serves in
-    (c.take_in.ensures.listed ∙ c.loop-at.invariant.0, serves-more fits served)
+    let served = serves-append c.loop-at.invariant.1 c.visit.ensures.serves in
+    (c.visit.ensures.listed ∙ c.loop-at.invariant.0, serves-more fits served)

@@ -1,0 +1,53 @@
+//! What a hall refused.
+ghost use Rattle.std.specs.Prelude.{◌≡◌, ◌++◌, ◌∷◌, []};
+
+use crate::call_fault::CallFault;
+use crate::naming::Naming;
+use http_server::Log;
+use std::marker::{Model, PhantomData};
+use tc_grammar::Command;
+use tc_users::UserNo;
+
+/// For whom and on which connection a command was refused, and why.
+#[derive(Clone, Copy, Debug, Drop)]
+pub struct Refused {
+    pub user: UserNo,
+    pub conn: u32,
+    pub fault: CallFault,
+}
+
+/// The calls that the hall N refused, in their order, each with its command. A hall's call alone adds to
+/// them. They stand in proofs alone: it takes no memory, and there is nothing to it when it runs.
+#[derive(Drop)]
+pub struct Refusals<N: Naming> {
+    log: Log<Refused, Command>,
+    of: PhantomData<N>,
+}
+
+impl<N: Naming> Model for Refusals<N> {
+    ghost use Rattle.std.specs.Prelude.{List};
+    ghost use Rattle.tc_locked.specs.Refusals.{Refusal};
+
+    ghost Value = { List Refusal };
+
+    ghost view = { λ r. r.log.items };
+}
+
+impl<N: Naming> Refusals<N> {
+    /// No call was refused.
+    pub fn new() -> Refusals<N>
+        ensures { result ≡ [] }
+    {
+        Refusals {
+            log: Log::new(),
+            of: PhantomData,
+        }
+    }
+
+    /// One call more was refused.
+    pub(crate) fn add(&mut self, refused: Refused, command: &Command)
+        ensures { self.new ≡ self.old ++ (refused, command.now) ∷ [] }
+    {
+        self.log = self.log.and(&refused, command);
+    }
+}

@@ -1,0 +1,2 @@
+pub mod MetricsText
+pub mod Replies

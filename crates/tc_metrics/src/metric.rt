@@ -1,0 +1,168 @@
+//! The metrics of each user.
+ghost use Rattle.std.specs.Prelude.{◌≡◌};
+ghost use Rattle.tc_metrics.specs.MetricsText.{metric_name, is_gauge, metric_number, all_metrics};
+
+use tc_stats::Counters;
+
+/// What is told of one user.
+#[derive(Debug, Drop)]
+pub struct UserFigures {
+    /// Letters, digits, `_`, `-` and `.`, as users' names are.
+    pub name: Vec<u8>,
+    /// How many connections of the user are open.
+    pub connections: u64,
+    /// How many calls of the user's cache there were.
+    pub calls: u64,
+    /// What its `stats` shows.
+    pub counters: Counters,
+}
+
+/// A metric that each user has: its connections, its calls, and each row of its `stats`.
+#[derive(Clone, Copy, Debug, PartialEq, Eq)]
+pub enum Metric {
+    Connections,
+    JournalCalls,
+    CurrItems,
+    TotalItems,
+    Bytes,
+    CmdGet,
+    CmdSet,
+    CmdFlush,
+    CmdTouch,
+    GetHits,
+    GetMisses,
+    DeleteMisses,
+    DeleteHits,
+    IncrMisses,
+    IncrHits,
+    DecrMisses,
+    DecrHits,
+    CasMisses,
+    CasHits,
+    CasBadval,
+    TouchHits,
+    TouchMisses,
+    Evictions,
+    LimitMaxbytes,
+    ItemSizeMax,
+    StoreTooLarge,
+}
+
+impl Metric {
+    /// All metrics, in the order in which they are told.
+    #[tactic(auto, unfolding(crate::specs::MetricsText::all_metrics))]
+    pub fn all() -> [Metric; 26]
+        ensures { result ≡ all_metrics }
+    {
+        [
+            Metric::Connections,
+            Metric::JournalCalls,
+            Metric::CurrItems,
+            Metric::TotalItems,
+            Metric::Bytes,
+            Metric::CmdGet,
+            Metric::CmdSet,
+            Metric::CmdFlush,
+            Metric::CmdTouch,
+            Metric::GetHits,
+            Metric::GetMisses,
+            Metric::DeleteMisses,
+            Metric::DeleteHits,
+            Metric::IncrMisses,
+            Metric::IncrHits,
+            Metric::DecrMisses,
+            Metric::DecrHits,
+            Metric::CasMisses,
+            Metric::CasHits,
+            Metric::CasBadval,
+            Metric::TouchHits,
+            Metric::TouchMisses,
+            Metric::Evictions,
+            Metric::LimitMaxbytes,
+            Metric::ItemSizeMax,
+            Metric::StoreTooLarge,
+        ]
+    }
+
+    /// Its name.
+    pub fn name(self) -> &'static str
+        ensures { result.now ≡ metric_name self }
+    {
+        match self {
+            Metric::Connections => "partcached_connections",
+            Metric::JournalCalls => "partcached_journal_calls_total",
+            Metric::CurrItems => "partcached_curr_items",
+            Metric::TotalItems => "partcached_total_items_total",
+            Metric::Bytes => "partcached_bytes",
+            Metric::CmdGet => "partcached_cmd_get_total",
+            Metric::CmdSet => "partcached_cmd_set_total",
+            Metric::CmdFlush => "partcached_cmd_flush_total",
+            Metric::CmdTouch => "partcached_cmd_touch_total",
+            Metric::GetHits => "partcached_get_hits_total",
+            Metric::GetMisses => "partcached_get_misses_total",
+            Metric::DeleteMisses => "partcached_delete_misses_total",
+            Metric::DeleteHits => "partcached_delete_hits_total",
+            Metric::IncrMisses => "partcached_incr_misses_total",
+            Metric::IncrHits => "partcached_incr_hits_total",
+            Metric::DecrMisses => "partcached_decr_misses_total",
+            Metric::DecrHits => "partcached_decr_hits_total",
+            Metric::CasMisses => "partcached_cas_misses_total",
+            Metric::CasHits => "partcached_cas_hits_total",
+            Metric::CasBadval => "partcached_cas_badval_total",
+            Metric::TouchHits => "partcached_touch_hits_total",
+            Metric::TouchMisses => "partcached_touch_misses_total",
+            Metric::Evictions => "partcached_evictions_total",
+            Metric::LimitMaxbytes => "partcached_limit_maxbytes",
+            Metric::ItemSizeMax => "partcached_item_size_max",
+            Metric::StoreTooLarge => "partcached_store_too_large_total",
+        }
+    }
+
+    /// Whether it may go down; else it is a count, which does not.
+    pub fn is_gauge(self) -> bool
+        ensures { result ≡ is_gauge self }
+    {
+        matches!(
+            self,
+            Metric::Connections
+                | Metric::CurrItems
+                | Metric::Bytes
+                | Metric::LimitMaxbytes
+                | Metric::ItemSizeMax
+        )
+    }
+
+    /// Its number of a user.
+    pub fn number(self, user: &UserFigures) -> u64
+        ensures { result ≡ metric_number self user.now }
+    {
+        match self {
+            Metric::Connections => user.connections,
+            Metric::JournalCalls => user.calls,
+            Metric::CurrItems => user.counters.curr_items,
+            Metric::TotalItems => user.counters.total_items,
+            Metric::Bytes => user.counters.bytes,
+            Metric::CmdGet => user.counters.cmd_get,
+            Metric::CmdSet => user.counters.cmd_set,
+            Metric::CmdFlush => user.counters.cmd_flush,
+            Metric::CmdTouch => user.counters.cmd_touch,
+            Metric::GetHits => user.counters.get_hits,
+            Metric::GetMisses => user.counters.get_misses,
+            Metric::DeleteMisses => user.counters.delete_misses,
+            Metric::DeleteHits => user.counters.delete_hits,
+            Metric::IncrMisses => user.counters.incr_misses,
+            Metric::IncrHits => user.counters.incr_hits,
+            Metric::DecrMisses => user.counters.decr_misses,
+            Metric::DecrHits => user.counters.decr_hits,
+            Metric::CasMisses => user.counters.cas_misses,
+            Metric::CasHits => user.counters.cas_hits,
+            Metric::CasBadval => user.counters.cas_badval,
+            Metric::TouchHits => user.counters.touch_hits,
+            Metric::TouchMisses => user.counters.touch_misses,
+            Metric::Evictions => user.counters.evictions,
+            Metric::LimitMaxbytes => user.counters.limit_maxbytes,
+            Metric::ItemSizeMax => user.counters.item_size_max,
+            Metric::StoreTooLarge => user.counters.store_too_large,
+        }
+    }
+}

@@ -1,0 +1,118 @@
+//! What a scraper asks, and how it is answered.
+ghost use Rattle.std.specs.Prelude.{◌≡◌, ◌≤◌, ◌++◌, ℕ, List, length, Some, None, OnOk, IsNone};
+ghost use Rattle.httparse.specs.Grammar.{RequestHead, ReadsRequest, HasNoRequest};
+ghost use Rattle.tc_metrics.specs.Replies.{status_of, answer_to, status_line, common_lines, header_lines};
+ghost use Rattle.tc_metrics.specs.Replies.{reply_of};
+
+use crate::text::write;
+use httparse::spans::{EMPTY_HEADER_SPAN, parse_request};
+use httparse::{Error, Status};
+use itoa::Buffer;
+use tc_item::NoMemory;
+
+/// The most bytes of a request's head.
+pub const MOST_HEAD: usize = 8_192;
+
+/// The most header lines of a request.
+const MOST_HEADERS: usize = 64;
+
+/// How a request is answered.
+#[derive(Clone, Copy, Debug, PartialEq, Eq)]
+pub enum Answer {
+    /// The metrics are told.
+    Told,
+    /// The request is none.
+    Malformed,
+    /// Another path is asked for.
+    NotFound,
+    /// The metrics are asked for by another method than GET.
+    NotAllowed,
+    /// The request's head is too long, or has too many lines.
+    TooLong,
+    /// Memory for the answer was refused.
+    Refused,
+}
+
+impl Answer {
+    /// The number and the words of its status.
+    pub fn status(self) -> &'static str
+        ensures { result.now ≡ status_of self }
+    {
+        match self {
+            Answer::Told => "200 OK",
+            Answer::Malformed => "400 Bad Request",
+            Answer::NotFound => "404 Not Found",
+            Answer::NotAllowed => "405 Method Not Allowed",
+            Answer::TooLong => "431 Request Header Fields Too Large",
+            Answer::Refused => "503 Service Unavailable",
+        }
+    }
+}
+
+/// How a request for this path by this method is answered.
+fn answer_to(method: &[u8], target: &[u8]) -> Answer
+    ensures { result ≡ answer_to method.now target.now }
+{
+    if target != b"/metrics".as_slice() {
+        return Answer::NotFound;
+    }
+    if method != b"GET".as_slice() {
+        return Answer::NotAllowed;
+    }
+    Answer::Told
+}
+
+/// How the request that came is answered, once its head is whole or can be none; `None` while more is to
+/// come.
+pub fn read_request(came: &[u8]) -> Option<Answer>
+    ensures whole { (h : RequestHead) (rest : List ℕ) → ReadsRequest came.now h rest
+        → length h.fields ≤ 64 → result ≡ Some (answer_to h.method h.target) }
+    ensures waits { IsNone result → HasNoRequest came.now }
+{
+    let mut headers = [EMPTY_HEADER_SPAN; MOST_HEADERS];
+    match parse_request(came, &mut headers) {
+        Ok(Status::Complete(head)) => { Some(answer_to(head.method.of(came), head.path.of(came))) }
+        Ok(Status::Partial) if came.len() < MOST_HEAD => None,
+        Ok(Status::Partial) | Err(Error::TooManyHeaders) => Some(Answer::TooLong),
+        Err(_) => Some(Answer::Malformed),
+    }
+}
+
+/// Puts the first line of a reply at the end.
+#[tactic(auto, unfolding(crate::specs::Replies::status_line))]
+fn write_status(out: &mut Vec<u8>, answer: Answer) -> Result<(), NoMemory>
+    ensures { OnOk result (out.new.items ≡ out.old.items ++ status_line answer) }
+{
+    write(out, b"HTTP/1.1 ")?;
+    write(out, answer.status().as_bytes())?;
+    write(out, b"\r\n")
+}
+
+/// The lines that each reply has, up to the length of its text.
+#[tactic(auto, unfolding(crate::specs::Replies::common_lines))]
+fn common_lines() -> &'static str
+    ensures { result.now ≡ common_lines }
+{
+    "Content-Type: text/plain; version=0.0.4\r\nAllow: GET\r\nConnection: close\r\nContent-Length: "
+}
+
+/// Puts the other lines of a reply at the end, and the empty line.
+#[tactic(auto, unfolding(crate::specs::Replies::header_lines))]
+fn write_headers(out: &mut Vec<u8>, length: usize) -> Result<(), NoMemory>
+    ensures { OnOk result (out.new.items ≡ out.old.items ++ header_lines length) }
+{
+    let mut buffer = Buffer::new();
+    write(out, common_lines().as_bytes())?;
+    write(out, buffer.format(length).as_bytes())?;
+    write(out, b"\r\n\r\n")
+}
+
+/// Puts the reply with this text at the end.
+#[tactic(auto, unfolding(crate::specs::Replies::reply_of))]
+pub fn write_reply(out: &mut Vec<u8>, answer: Answer, text: &[u8]) -> Result<(), NoMemory>
+    ensures { OnOk result (out.new.items ≡ out.old.items ++ reply_of answer text.now) }
+{
+    write_status(out, answer)?;
+    write_headers(out, text.len())?;
+    write(out, text)
+}

@@ -1,0 +1,25 @@
+-- When a connection has stayed too long. Source: docs/OPERATING.md, 'Settings': `login_seconds`, `stalled_seconds` and
+-- `idle_seconds`. Seconds are counted from the server's start, and a second that began is not a whole one.
+use Rattle.std.specs.Prelude.{ℕ, ◌+◌, Bool, false, nat_lt, ◌||◌, Option, Some, None}
+use Rattle.tc_users.specs.declared.limits.Limits.{Limits}
+use Rattle.tc_users.specs.declared.limits.UserLimits.{UserLimits}
+use Rattle.tc_net.specs.declared.overdue.Stay.{Stay}
+
+-- more seconds than the limit went by since a moment; never where there is no limit
+abbrev pub is_past : Option ℕ → ℕ → ℕ → Bool
+is_past None since now = false
+is_past (Some limit) since now = nat_lt (since + limit) now
+
+-- nothing of what waits for it was taken for too long
+abbrev pub is_stalled : Option ℕ → Option ℕ → ℕ → Bool
+is_stalled limit None now = false
+is_stalled limit (Some since) now = is_past limit since now
+
+-- it has not logged in for too long; or its user is known, and it has asked for nothing for too long
+abbrev pub is_silent : Limits → Option UserLimits → Stay → ℕ → Bool
+is_silent limits None stay now = is_past limits.login_seconds stay.came now
+is_silent limits (Some own) stay now = is_past own.idle_seconds stay.heard now
+
+-- either
+abbrev pub is_overdue : Limits → Option UserLimits → Stay → ℕ → Bool
+is_overdue limits own stay now = is_silent limits own stay now || is_stalled limits.stalled_seconds stay.stuck now

@@ -1,0 +1,33 @@
+//! What an operator is told while a server serves.
+use std::net::SocketAddr;
+use tc_users::UserNo;
+
+/// What became of a connection, in a line of its own.
+#[derive(Clone, Copy, Debug, PartialEq, Eq)]
+pub enum Notice {
+    /// All places are taken, so a connection from there was closed at once.
+    NoPlace {
+        peer: SocketAddr,
+    },
+    /// As many connections have not logged in as may be, so the oldest of them goes for one from there.
+    UnboundFull {
+        peer: SocketAddr,
+    },
+    /// A login from there was refused: that of this user, or of none, where its name is nobody's.
+    LoginRefused {
+        peer: SocketAddr,
+        user: Option<UserNo>,
+    },
+    /// A connection from there has not logged in, and sent a block longer than a login's may be.
+    LongBlock {
+        peer: SocketAddr,
+    },
+    /// A connection from there speaks the binary protocol, and was closed.
+    Binary {
+        peer: SocketAddr,
+    },
+    /// Memory was refused to a command from there, or to its reply.
+    NoMemory {
+        peer: SocketAddr,
+    },
+}

@@ -1,0 +1,119 @@
+//! Tables that were set aside, for what the page began with.
+//!
+//! Where nothing is held any more and the tables are large, they are set aside whole, and small ones take
+//! their place. What was held then is still told by those set aside, until the next page is prepared; from
+//! then on they tell what the page began with alone, and its turn is done with them.
+ghost use Rattle.std.specs.Prelude.{◌≡◌, ◌<◌, ◌^◌, true, IfOk};
+ghost use Rattle.tc_model.specs.Areas.{Areas as AreasOf};
+ghost use Rattle.tc_plain.specs.AreaLists.{areas_of};
+ghost use Rattle.tc_plain.specs.Then.{Then};
+ghost use Rattle.tc_plain.specs.declared.shared.entry.Entry.{Entry};
+ghost use Rattle.tc_partition.specs.Aside.{then_of};
+
+use crate::slots::Slots;
+use crate::tables::Tables;
+use std::alloc::Global;
+use std::mem;
+use tc_item::NoMemory;
+use tc_plain::{Areas, Change, Limits};
+
+/// Tables that were set aside, by what they are needed for.
+#[derive(Drop)]
+pub enum Aside {
+    /// None were.
+    Nothing,
+    /// For what the page began with, and for what the next page begins with.
+    Both(Slots),
+    /// For what the page began with alone.
+    Page(Slots),
+}
+
+impl Aside {
+    /// Whether nothing is set aside.
+    fn is_nothing(&self) -> bool
+        ensures { result ≡ true → self.now ≡ Aside.Nothing }
+    {
+        match self {
+            Aside::Nothing => true,
+            Aside::Both(_) | Aside::Page(_) => false,
+        }
+    }
+
+    /// The next page was prepared in the tables that are in use.
+    pub fn prepare(&mut self)
+        ensures page { (t u : Then (AreasOf Entry)) → u.page ≡ t.page
+            → (then_of self.new u).page ≡ (then_of self.old t).page }
+        ensures next { (t : Then (AreasOf Entry)) → (then_of self.new t).next ≡ t.next }
+    {
+        match mem::replace(self, Aside::Nothing) {
+            Aside::Nothing => {}
+            Aside::Both(slots) | Aside::Page(slots) => *self = Aside::Page(slots),
+        }
+    }
+
+    /// The entries when the page began, in their lists, over the same data; `held` are the tables in use.
+    pub fn opened(&self, alloc: Global, held: &Slots) -> Result<Areas, NoMemory>
+        ensures { IfOk result (λ areas. areas_of areas ≡ (then_of self.now held.now.then).page) }
+    {
+        match self {
+            Aside::Nothing => held.opened(alloc),
+            Aside::Both(slots) | Aside::Page(slots) => slots.opened(alloc),
+        }
+    }
+}
+
+/// Sets large tables aside where they hold nothing and none are set aside, and says whether it did: small
+/// ones are in use from then on. Where memory for those is refused, all stays as it was.
+pub fn set_aside(alloc: Global, held: &mut Slots, aside: &mut Aside, limits: Limits) -> bool
+    requires same { limits ≡ held.old.limits }
+    requires small { limits.main < 2 ^ 32 }
+    ensures areas { held.new.areas ≡ held.old.areas }
+    ensures limits { held.new.limits ≡ held.old.limits }
+    ensures then { then_of aside.new held.new.then ≡ then_of aside.old held.old.then }
+{
+    if held.count() > 0 || !held.are_large() || !aside.is_nothing() {
+        return false;
+    }
+    let Ok(fresh) = held.fresh(alloc, limits) else {
+        return false;
+    };
+    *aside = Aside::Both(mem::replace(held, fresh));
+    true
+}
+
+/// Begins the page at what was prepared, and gives what slots held before its changes. Tables that told what
+/// the page before began with alone are gone.
+pub fn turn(held: &mut Slots, aside: &mut Aside, gone: &mut Option<Tables>) -> Option<Vec<Change>>
+    ensures areas { held.new.areas ≡ held.old.areas }
+    ensures limits { held.new.limits ≡ held.old.limits }
+    ensures slots { held.new.slots ≡ held.old.slots }
+    ensures page { (then_of aside.new held.new.then).page
+        ≡ (then_of aside.old held.old.then).next }
+    ensures next { (then_of aside.new held.new.then).next
+        ≡ (then_of aside.old held.old.then).next }
+{
+    match mem::replace(aside, Aside::Nothing) {
+        Aside::Nothing => held.turn(),
+        Aside::Both(mut slots) => {
+            let given = slots.turn();
+            *aside = Aside::Both(slots);
+            given
+        }
+        Aside::Page(slots) => {
+            let given = held.turn();
+            *gone = Some(slots.retire(held));
+            given
+        }
+    }
+}
+
+/// Gives the memory of one table back of those that are gone.
+pub fn shed(gone: &mut Option<Tables>) {
+    let left = match gone {
+        Some(tables) => tables.shed(),
+        None => false,
+    };
+    if !left {
+        *gone = None;
+    }
+}

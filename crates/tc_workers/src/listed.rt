@@ -1,0 +1,55 @@
+//! The list of connections that a turn goes over.
+
+/// Whether a listed connection was left out of turns.
+#[derive(Clone, Copy, Debug, PartialEq, Eq, PartialOrd, Ord)]
+pub(crate) enum Waits {
+    /// Of each since this one.
+    Since(u64),
+    No,
+}
+
+/// A connection that is to be served: its number, under which key it stands at its worker, and whether
+/// it was left out.
+#[derive(Clone, Copy, Debug)]
+pub(crate) struct Listed {
+    conn: u32,
+    pub(crate) key: usize,
+    waits: Waits,
+}
+
+impl Listed {
+    /// One that was not left out.
+    pub(crate) fn new(conn: u32, key: usize) -> Listed {
+        Listed {
+            conn,
+            key,
+            waits: Waits::No,
+        }
+    }
+
+    /// Its place in a turn: behind those that were left out, and they by how long.
+    pub(crate) fn rank(&self) -> (Waits, u32) {
+        (self.waits, self.conn)
+    }
+
+    /// Notes that it is served in this turn, or left out.
+    pub(crate) fn note(&mut self, is_served: bool, turn: u64) {
+        self.waits = match self.waits {
+            _ if is_served => Waits::No,
+            Waits::No => Waits::Since(turn),
+            since => since,
+        };
+    }
+
+    /// Whether it was left out of the turn.
+    pub(crate) fn waits(&self) -> bool {
+        self.waits != Waits::No
+    }
+}
+
+/// A connection that another worker is to serve: under which key it stands here, and that worker.
+#[derive(Clone, Copy, Debug)]
+pub(crate) struct Leaving {
+    pub(crate) key: usize,
+    pub(crate) to: usize,
+}

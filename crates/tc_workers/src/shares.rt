@@ -1,0 +1,55 @@
+//! How many workers serve the users of each home.
+use std::alloc::{AllocError, Global};
+use std::sync::atomic::AtomicU64;
+use std::sync::atomic::Ordering::SeqCst;
+
+/// 2^32 divided by the golden ratio: numbers that follow one another, taken as often, lie evenly
+/// spread over 2^32 places.
+const GOLDEN: u32 = 2_654_435_769;
+
+/// The workers that serve the users of one home.
+#[derive(Drop)]
+struct Share {
+    /// How many workers: the home and its helpers.
+    width: AtomicU64,
+    /// The first helper; the others follow it.
+    first: AtomicU64,
+}
+
+/// Who helps each worker with the connections of its users. All workers read it, and whoever deals out
+/// the work writes it.
+#[derive(Drop)]
+pub struct Shares {
+    shares: Vec<Share>,
+}
+
+impl Shares {
+    /// Each of so many workers serves its users alone.
+    pub fn new(alloc: Global, workers: usize) -> Result<Shares, AllocError> {
+        let mut shares = Vec::with_capacity(alloc, workers)?;
+        for _ in 0..workers {
+            shares.push(Share {
+                width: AtomicU64::new(1),
+                first: AtomicU64::new(0),
+            })?;
+        }
+        Ok(Shares { shares })
+    }
+
+    /// From now on a home has so many workers: itself, and helpers from `first` on.
+    pub fn set(&self, home: usize, width: usize, first: usize) {
+        if let Some(share) = self.shares.get(home) {
+            share.first.store(first as u64, SeqCst);
+            share.width.store(width as u64, SeqCst);
+        }
+    }
+
+    /// Which of a home's helpers serves a connection, from 0; `None` where the home itself does.
+    pub(crate) fn helper(&self, home: usize, conn: u32) -> Option<usize> {
+        let share = self.shares.get(home)?;
+        let width = share.width.load(SeqCst).min(u64::from(u32::MAX));
+        let place = u64::from(conn.wrapping_mul(GOLDEN)).wrapping_mul(width) >> 32;
+        let nth = place.checked_sub(1)?;
+        Some(share.first.load(SeqCst).wrapping_add(nth) as usize)
+    }
+}
