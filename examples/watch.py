@@ -100,6 +100,8 @@ def main():
     asked = words.parse_args()
     with open(asked.settings, "rb") as file:
         settings = tomllib.load(file)
+    if asked.http and "metrics" not in settings:
+        sys.exit(f"{asked.settings}: no [metrics] says where the server tells them")
     host, _, port = settings["listen"].rpartition(":")
     users = [User((host.strip("[]"), int(port)), row) for row in settings["user"]]
     while True:
