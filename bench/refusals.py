@@ -303,38 +303,34 @@ def turn():
 
 
 def request():
-    """A request for which there is no memory is tried again, and its connection closed after a second;
-    others are served all the while."""
+    """A request for which there is no memory is tried once more, and then answered; its connection goes on,
+    and others are served all the while."""
     server = Server(until=2, **{"from": 1}, over=60_000, mark=1)
     slow, other = Client(server), Client(server)
     # All but the last byte is there before memory is scarce: what can't be kept drops a connection at once.
     large = b"set k 0 0 100000\r\n" + b"x" * 100_000 + b"\r"
     slow.socket.sendall(large)
     time.sleep(0.1)
-    server.mark()
-    slow.socket.sendall(b"\n")
-    time.sleep(0.4)
-    serves(other)
-    server.mark(signal.SIGUSR2)
-    if slow.ask(b"", b"STORED\r\n") != b"STORED\r\n":
-        raise Wrong("a request is not tried again")
-    slow.socket.sendall(large)
-    time.sleep(0.1)
     used = server.seconds()
     server.mark()
-    slow.socket.sendall(b"\n")
+    began = time.monotonic()
+    if slow.ask(b"\n", b"STORED\r\n") != REFUSED:
+        raise Wrong("a request without memory is not answered so")
+    waited = time.monotonic() - began
+    serves(slow)
     serves(other)
-    open_for = slow.seconds_to_end()
     used = server.seconds() - used
-    serves(other)
     server.mark(signal.SIGUSR2)
     refusals = server.refusals()
+    if slow.ask(large + b"\n", b"STORED\r\n") != b"STORED\r\n":
+        raise Wrong("a connection does not go on")
+    slow.close()
     other.close()
     is_ended(server)
-    if not 1 <= open_for <= 3:
-        raise Wrong(f"closed after {open_for:.1f} s")
-    print(f"a request without memory: stored once there was some; closed after {open_for:.1f} s without, "
-          f"with {refusals} refusals in all and {used:.2f} s of a processor", flush=True)
+    if waited > 0.5 or refusals != 2:
+        raise Wrong(f"answered after {waited:.2f} s and {refusals} refusals")
+    print(f"a request without memory: answered so after {waited:.3f} s and {refusals} refusals, "
+          f"with {used:.2f} s of a processor; its connection goes on", flush=True)
 
 
 def serves(client):

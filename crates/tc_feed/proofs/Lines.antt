@@ -14,6 +14,8 @@ use Rattle.tc_grammar.specs.declared.line.Line.TheVariants.{Ready, NeedsBlock, R
 use Rattle.tc_grammar.specs.Reading.{reading}
 use Rattle.tc_feed.specs.declared.request.Request.TheVariants.{Refused}
 use Rattle.tc_feed.specs.declared.request.Taken.{Taken}
+use Rattle.tc_feed.specs.declared.passing.Passing.{Passing}
+use Rattle.tc_feed.specs.Passing.{passing_of}
 use Rattle.tc_feed.specs.Stream.{Reader, line_length, line_room, block_request, block_of, line_request, first_by, first, trimmed}
 use Rattle.tc_feed.specs.CutStream.{IsFoundInMore, IsCutAnywhere}
 use Rattle.tc_feed.specs.Looking.{needed_of}
@@ -132,6 +134,18 @@ first_by_within limit u (Some n) t h e =
 -- a request takes bytes that are there
 pub first_within : (limit : ℕ) (u : List ℕ) (t : Taken) → first limit u ≡ Some t → t.length ≤ length u
 first_within limit u t e = first_by_within limit u _ t refl e
+
+-- and so does one that is passed over
+pub passing_within : (limit : ℕ) (u : List ℕ) (p : Passing) → option_map passing_of (first limit u) ≡ Some p
+    → p.length ≤ length u
+passing_within limit u p e = go (first limit u) (λ t h. first_within limit u t h) e
+  where
+    go : (o : Option Taken) → ((t : Taken) → o ≡ Some t → t.length ≤ length u) → option_map passing_of o ≡ Some p
+        → p.length ≤ length u
+    go None f e = absurd (none_some p e)
+    go (Some t) f e =
+        let le : t.length ≤ length u = f t refl in
+        let same : t.length ≡ p.length = ap (λ r. r.length) (same_some _ p e) in omega arith
 
 -- the law of cutting
 

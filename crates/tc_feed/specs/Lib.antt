@@ -2,3 +2,4 @@ pub mod Stream
 pub mod CutStream
 pub mod Scanned
 pub mod Looking
+pub mod Passing

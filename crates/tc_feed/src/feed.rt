@@ -1,8 +1,10 @@
 //! The unread bytes of a stream.
-ghost use Rattle.std.specs.Prelude.{◌≡◌, ◌++◌, ◌+◌, ◌≤◌, [], drop, None, OnOk, OnErr, IfOk, IsTrue, length as list_length};
+ghost use Rattle.std.specs.Prelude.{◌≡◌, ◌++◌, ◌+◌, ◌≤◌, [], drop, None, OnOk, OnErr, IfOk, IsTrue, option_map, length as list_length};
+ghost use Rattle.tc_feed.specs.Passing.{passed_of};
 ghost use Rattle.tc_feed.specs.Stream.{Reader, more, empty, longest_line, first, found, after_first};
 
 use crate::Request;
+use crate::passing::{Passed, first_passed};
 use crate::reading::{Finding, look};
 use std::alloc::Global;
 use std::marker::Model;
@@ -122,6 +124,24 @@ impl Feed {
             Some(taken) => {
                 self.pass(alloc, taken.length, taken.skip);
                 Ok(Some(taken.request))
+            }
+        }
+    }
+
+    /// Passes over the next whole request, where blocks of at most `limit` bytes are taken: it is gone,
+    /// with its block, and what stands behind it stays. It takes no memory. `None` only where no whole
+    /// request begins the unread bytes.
+    pub fn pass_over(&mut self, alloc: Global, limit: u32) -> Option<Passed>
+        ensures passed { result ≡ option_map passed_of (found limit self.old) }
+        ensures after { self.new ≡ after_first limit self.old }
+        ensures no_longer { list_length self.new.unread ≤ list_length self.old.unread }
+    {
+        let unread = &self.bytes[self.start..];
+        match first_passed(limit, unread, self.scanned) {
+            None => None,
+            Some(passing) => {
+                self.pass(alloc, passing.length, passing.skip);
+                Some(passing.request)
             }
         }
     }

@@ -10,10 +10,12 @@
 mod feed;
 mod laws;
 mod line_end;
+mod passing;
 mod reading;
 mod request;
 
 pub use feed::Feed;
 pub use laws::cutting;
 pub use line_end::LONGEST_LINE;
+pub use passing::Passed;
 pub use request::Request;

@@ -151,7 +151,7 @@ fn look_for_line(unread: &[u8]) -> Finding
 }
 
 /// Where the first line of unread bytes ends, of which the first `scanned` hold no line feed.
-fn find_end(unread: &[u8], scanned: usize) -> Option<usize>
+pub(crate) fn find_end(unread: &[u8], scanned: usize) -> Option<usize>
     requires within { scanned ≤ length unread.now }
     requires short { scanned ≤ longest_line + 1 }
     requires none { line_length (take scanned unread.now) ≡ None }

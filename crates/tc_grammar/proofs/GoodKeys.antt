@@ -34,3 +34,22 @@ all_read front rest args e none = sym (append-nil front) ∙ ap (λ xs. front ++
 pub length-some : (keys : List (List ℕ)) → (keys ≡ [] → ⊥) → 0 < length keys
 length-some [] h = absurd (h refl)
 length-some (key ∷ keys) h = omega arith
+
+pub bad_key_behind : (token : List ℕ) (rest : List (List ℕ)) → list_all is_key rest ≡ false
+    → list_all is_key (token ∷ rest) ≡ false
+bad_key_behind token rest e = go (is_key token) (list_all is_key rest) e
+  where
+    go : (b c : Bool) → c ≡ false → (b && c) ≡ false
+    go true c h = h
+    go false c h = refl
+
+pub keys_of-none : (token : List ℕ) (rest args : List (List ℕ)) → args ≡ token ∷ rest → list_all is_key (token ∷ rest) ≡ false
+    → keys_of args ≡ None
+keys_of-none token rest args e bad = keys_of-bad args (ap (list_all is_key) e ∙ bad)
+
+pub keys_of-all : (token : List ℕ) (rest args : List (List ℕ)) → args ≡ token ∷ rest → is_key token ≡ true
+    → list_all is_key rest ≡ true → keys_of args ≡ Some args
+keys_of-all token rest args e first good =
+    let all : list_all is_key (token ∷ rest) ≡ true = rw (first, good) refl in
+    let some : 0 < length (token ∷ rest) = omega arith in
+    keys_of-good args (omega (arith, some, ap length e)) (ap (list_all is_key) e ∙ all)

@@ -5,6 +5,7 @@ pub mod Keyed
 pub mod Lines
 pub mod Names
 pub mod Numbers
+pub mod Outlines
 pub mod Reading
 pub mod Retrieval
 pub mod Storage

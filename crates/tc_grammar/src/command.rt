@@ -1,6 +1,7 @@
 //! Commands: what a line asks of a cache.
 ghost use Rattle.std.specs.Prelude.{◌≡◌, IfOk};
 ghost use Rattle.tc_grammar.specs.declared.command.Command.TheVariants.{Store, Get, Gat, Delete, Count, Touch};
+ghost use Rattle.tc_grammar.specs.Outlines.{is_quiet};
 
 use std::alloc::Global;
 use tc_item::{Blob, Key, Keys, NoMemory};
@@ -173,6 +174,25 @@ fn copy_touch(alloc: Global, key: &Key, exptime: i64, quiet: bool) -> Result<Com
 }
 
 impl Command {
+    /// Whether the line has `noreply`.
+    pub fn is_quiet(&self) -> bool
+        ensures { result ≡ is_quiet self.now }
+    {
+        match self {
+            Command::Store(head, _) => head.quiet,
+            Command::Delete { quiet, .. } => *quiet,
+            Command::Count { quiet, .. } => *quiet,
+            Command::Touch { quiet, .. } => *quiet,
+            Command::Flush { quiet, .. } => *quiet,
+            Command::Verbosity { quiet, .. } => *quiet,
+            Command::Get { .. }
+            | Command::Gat { .. }
+            | Command::Stats
+            | Command::Version
+            | Command::Quit => false,
+        }
+    }
+
     /// An equal command. A block is shared and not copied.
     pub fn copy(&self, alloc: Global) -> Result<Command, NoMemory>
         ensures { IfOk result (λ command. command ≡ self.now) }

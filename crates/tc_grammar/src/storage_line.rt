@@ -13,11 +13,11 @@ use std::alloc::Global;
 use tc_item::{Key, NoMemory, is_key};
 
 /// The most bytes that a block may be announced with.
-const LONGEST_BLOCK: u64 = (1 << 31) - 1;
+pub(crate) const LONGEST_BLOCK: u64 = (1 << 31) - 1;
 
 /// What follows the block's length: the cas unique, and whether the line is quiet.
 #[tactic(auto, unfolding(crate::specs::Storage::ending_of))]
-fn read_ending(kind: StoreKind, mut tokens: Tokens) -> Option<(u64, bool)>
+pub(crate) fn read_ending(kind: StoreKind, mut tokens: Tokens) -> Option<(u64, bool)>
     ensures { result ≡ ending_of kind tokens.entry }
 {
     match kind {

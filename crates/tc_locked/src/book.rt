@@ -17,7 +17,7 @@ use std::marker::Model;
 use std::mem;
 use tc_grammar::Command;
 use tc_item::{Moment, NoMemory};
-use tc_plain::{Cache, LeftOver, Plain};
+use tc_plain::{Cache, LeftOver, Plain, Progress};
 use tc_stats::Outcome;
 
 /// A cache, which knows what it stood for when its page began, and the calls that it did since, seen as
@@ -303,12 +303,12 @@ impl<C: Cache> Book<C> {
         Ok(slip)
     }
 
-    /// Deferred work of the cache, at most `limit` pieces of it.
-    pub fn maintain(&mut self, now: Moment, limit: u32)
+    /// Deferred work of the cache, at most `limit` pieces of it (`Cache::maintain`).
+    pub fn maintain(&mut self, now: Moment, limit: u32) -> Progress
         ensures { self.new ≡ after_maintain self.old now }
     {
-        self.cache.maintain(now, limit);
         self.moment = self.moment.later(now);
+        self.cache.maintain(now, limit)
     }
 
     /// Begins a new page at what the cache stands for, where the page has entries. A refusal changes
@@ -441,6 +441,15 @@ impl<C: Cache> Book<C> {
             return None;
         }
         Some(&self.entries[(number - before - 1) as usize])
+    }
+
+    /// How many bytes the entries of the page keep, their data among them.
+    pub fn journal_bytes(&self) -> u64 {
+        let mut bytes: u64 = 0;
+        for entry in &self.entries[..self.used] {
+            bytes = bytes.saturating_add(entry.bytes());
+        }
+        bytes
     }
 
     /// How many pages were turned.

@@ -21,7 +21,7 @@ use std::marker::{Model, PhantomData};
 use std::sync::{Mutex, Wait};
 use tc_grammar::Command;
 use tc_item::Moment;
-use tc_plain::Cache;
+use tc_plain::{Cache, Progress};
 use tc_users::UserNo;
 
 /// The books of all users of the hall N. Contracts see how many there are.
@@ -179,13 +179,24 @@ impl<C: Cache, N: Naming> Hall<C, N> {
         self.try_call(rt, alloc, seat, user, now, conn, command, || ())
     }
 
-    /// Deferred work of a user's cache, at most `limit` pieces of it; nothing for an unknown user.
-    pub fn maintain<R: Wait>(&self, rt: &R, user: UserNo, now: Moment, limit: u32) {
+    /// Deferred work of a user's cache, at most `limit` pieces of it; nothing for an unknown user. No
+    /// clause says how far it came: where more is left, the user's calls do it.
+    pub fn maintain<R: Wait>(&self, rt: &R, user: UserNo, now: Moment, limit: u32) -> Progress {
         let number = user.number();
         if number == 0 || number > self.users() {
-            return;
+            return Progress::Done;
         }
-        lock_soon(&self.books[(number - 1) as usize], rt, TRIES).maintain(now, limit);
+        lock_soon(&self.books[(number - 1) as usize], rt, TRIES).maintain(now, limit)
+    }
+
+    /// How many bytes the entries of a user's page keep, their data among them, whether the cache has it
+    /// too or not; none for an unknown user. It is a figure for who runs the server, and no promise.
+    pub fn journal_bytes<R: Wait>(&self, rt: &R, user: UserNo) -> u64 {
+        let number = user.number();
+        if number == 0 || number > self.users() {
+            return 0;
+        }
+        lock_soon(&self.books[(number - 1) as usize], rt, TRIES).journal_bytes()
     }
 
     /// Ends the hall. It is refused exactly where fewer seats than all are given, and the hall and the

@@ -18,7 +18,7 @@ use std::marker::{Model, PhantomData};
 use std::mem;
 use tc_grammar::Command;
 use tc_item::Moment;
-use tc_plain::Cache;
+use tc_plain::{Cache, Progress};
 use tc_users::UserNo;
 
 /// A book of the hall N, seen as its user, its state and the notes of all its pages.
@@ -90,15 +90,20 @@ impl<C: Cache, N: Naming> Kept<C, N> {
         Ok(called)
     }
 
-    /// Deferred work of the cache, at most `limit` pieces of it.
-    pub fn maintain(&mut self, now: Moment, limit: u32)
+    /// Deferred work of the cache, at most `limit` pieces of it (`Cache::maintain`).
+    pub fn maintain(&mut self, now: Moment, limit: u32) -> Progress
         ensures { self.new ≡ record {
           user = self.old.user;
           book = after_maintain self.old.book now;
           log = self.old.log;
         } }
     {
-        self.book.maintain(now, limit);
+        self.book.maintain(now, limit)
+    }
+
+    /// How many bytes the entries of its page keep.
+    pub(crate) fn journal_bytes(&self) -> u64 {
+        self.book.journal_bytes()
     }
 
     /// The number of the book's user.

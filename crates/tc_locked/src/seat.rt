@@ -11,7 +11,7 @@ use std::marker::{Model, PhantomData};
 pub struct Seat<N: Naming> {
     pub(crate) inner: TableSeat,
     pub(crate) number: usize,
-    /// How often it tries a user's lock before its thread naps.
+    /// How often it tries a user's lock before its thread waits.
     pub(crate) tries: u32,
     pub(crate) of: PhantomData<N>,
 }
@@ -40,7 +40,7 @@ impl<N: Naming> Seat<N> {
     }
 
     /// Notes whether its thread has more calls at hand, which are best made in a row. It decides
-    /// nothing but how long a call looks for its user's lock before its thread naps.
+    /// nothing but how long a call looks for its user's lock before its thread waits.
     pub fn set_more(&mut self, has_more: bool)
         ensures { self.new ≡ self.old }
     {

@@ -9,8 +9,8 @@ use Rattle.tc_metrics.specs.declared.metric.Metric.{Metric}
 use Rattle.tc_metrics.specs.declared.server.OwnMetric.{OwnMetric}
 use Rattle.tc_metrics.specs.declared.server.OwnMetric.TheVariants.{UnboundConnections, RefusedLogins, LimitedConnections}
 use Rattle.tc_metrics.specs.declared.server.OwnMetric.TheVariants.{ResidentMemory, Uptime}
-use Rattle.tc_metrics.specs.declared.metric.Metric.TheVariants.{Connections, JournalCalls, CurrItems, TotalItems, Bytes, CmdGet, CmdSet}
-use Rattle.tc_metrics.specs.declared.metric.Metric.TheVariants.{CmdFlush, CmdTouch, GetHits, GetMisses, DeleteMisses, DeleteHits, IncrMisses}
+use Rattle.tc_metrics.specs.declared.metric.Metric.TheVariants.{Connections, JournalCalls, JournalBytes, CurrItems, TotalItems, Bytes, CmdGet}
+use Rattle.tc_metrics.specs.declared.metric.Metric.TheVariants.{CmdSet, CmdFlush, CmdTouch, GetHits, GetMisses, DeleteMisses, DeleteHits, IncrMisses}
 use Rattle.tc_metrics.specs.declared.metric.Metric.TheVariants.{IncrHits, DecrMisses, DecrHits, CasMisses, CasHits, CasBadval, TouchHits}
 use Rattle.tc_metrics.specs.declared.metric.Metric.TheVariants.{TouchMisses, Evictions, LimitMaxbytes, ItemSizeMax, StoreTooLarge}
 
@@ -18,6 +18,7 @@ use Rattle.tc_metrics.specs.declared.metric.Metric.TheVariants.{TouchMisses, Evi
 abbrev pub metric_name : Metric → List ℕ
 metric_name Connections = codes "partcached_connections"
 metric_name JournalCalls = codes "partcached_journal_calls_total"
+metric_name JournalBytes = codes "partcached_journal_bytes"
 metric_name CurrItems = codes "partcached_curr_items"
 metric_name TotalItems = codes "partcached_total_items_total"
 metric_name Bytes = codes "partcached_bytes"
@@ -46,6 +47,7 @@ metric_name StoreTooLarge = codes "partcached_store_too_large_total"
 -- whether it may go down
 abbrev pub is_gauge : Metric → Bool
 is_gauge Connections = true
+is_gauge JournalBytes = true
 is_gauge CurrItems = true
 is_gauge Bytes = true
 is_gauge LimitMaxbytes = true
@@ -56,6 +58,7 @@ is_gauge other = false
 abbrev pub metric_number : Metric → UserFigures → ℕ
 metric_number Connections user = user.connections
 metric_number JournalCalls user = user.calls
+metric_number JournalBytes user = user.journal
 metric_number CurrItems user = user.counters.curr_items
 metric_number TotalItems user = user.counters.total_items
 metric_number Bytes user = user.counters.bytes
@@ -84,7 +87,7 @@ metric_number StoreTooLarge user = user.counters.store_too_large
 -- all metrics, in the order in which they are told
 unfoldable pub all_metrics : List Metric
 all_metrics =
-    Connections ∷ JournalCalls ∷ CurrItems ∷ TotalItems ∷ Bytes
+    Connections ∷ JournalCalls ∷ JournalBytes ∷ CurrItems ∷ TotalItems ∷ Bytes
     ∷ CmdGet ∷ CmdSet ∷ CmdFlush ∷ CmdTouch ∷ GetHits
     ∷ GetMisses ∷ DeleteMisses ∷ DeleteHits ∷ IncrMisses ∷ IncrHits
     ∷ DecrMisses ∷ DecrHits ∷ CasMisses ∷ CasHits ∷ CasBadval

@@ -13,15 +13,18 @@ pub struct UserFigures {
     pub connections: u64,
     /// How many calls of the user's cache there were.
     pub calls: u64,
+    /// How many bytes the entries of the user's page keep.
+    pub journal: u64,
     /// What its `stats` shows.
     pub counters: Counters,
 }
 
-/// A metric that each user has: its connections, its calls, and each row of its `stats`.
+/// A metric that each user has: its connections, its calls, its journal, and each row of its `stats`.
 #[derive(Clone, Copy, Debug, PartialEq, Eq)]
 pub enum Metric {
     Connections,
     JournalCalls,
+    JournalBytes,
     CurrItems,
     TotalItems,
     Bytes,
@@ -51,12 +54,13 @@ pub enum Metric {
 impl Metric {
     /// All metrics, in the order in which they are told.
     #[tactic(auto, unfolding(crate::specs::MetricsText::all_metrics))]
-    pub fn all() -> [Metric; 26]
+    pub fn all() -> [Metric; 27]
         ensures { result ≡ all_metrics }
     {
         [
             Metric::Connections,
             Metric::JournalCalls,
+            Metric::JournalBytes,
             Metric::CurrItems,
             Metric::TotalItems,
             Metric::Bytes,
@@ -91,6 +95,7 @@ impl Metric {
         match self {
             Metric::Connections => "partcached_connections",
             Metric::JournalCalls => "partcached_journal_calls_total",
+            Metric::JournalBytes => "partcached_journal_bytes",
             Metric::CurrItems => "partcached_curr_items",
             Metric::TotalItems => "partcached_total_items_total",
             Metric::Bytes => "partcached_bytes",
@@ -125,6 +130,7 @@ impl Metric {
         matches!(
             self,
             Metric::Connections
+                | Metric::JournalBytes
                 | Metric::CurrItems
                 | Metric::Bytes
                 | Metric::LimitMaxbytes
@@ -139,6 +145,7 @@ impl Metric {
         match self {
             Metric::Connections => user.connections,
             Metric::JournalCalls => user.calls,
+            Metric::JournalBytes => user.journal,
             Metric::CurrItems => user.counters.curr_items,
             Metric::TotalItems => user.counters.total_items,
             Metric::Bytes => user.counters.bytes,

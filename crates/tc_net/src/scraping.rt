@@ -50,6 +50,7 @@ fn first_figures(alloc: Global, users: &Users) -> Result<Vec<UserFigures>, NoMem
             name: Vec::from_slice(alloc, row.name.as_bytes())?,
             connections: 0,
             calls: 0,
+            journal: 0,
             counters: Counters::new(),
         })?;
     }
@@ -71,7 +72,7 @@ fn count_connections(figures: &mut [UserFigures], door: &Door) {
     }
 }
 
-/// Asks for a user's `stats`, by one call of the hall.
+/// Asks for a user's `stats`, by one call of the hall, and for what its page keeps.
 fn ask<R: Wait, C: Cache, N: Naming, A: Audience>(
     from: &Sources<'_, R, C, N, A>,
     alloc: Global,
@@ -84,6 +85,7 @@ fn ask<R: Wait, C: Cache, N: Naming, A: Audience>(
         .hall
         .call(from.rt, alloc, seat, user, now, CONN, &Command::Stats)?;
     figures.calls = receipt.slip.number;
+    figures.journal = from.hall.journal_bytes(from.rt, user);
     if let Outcome::Stats(statistics) = &receipt.slip.outcome {
         figures.counters = *statistics.counters();
     }

@@ -26,6 +26,7 @@ use crate::work::Work;
 use std::alloc::Global;
 use tc_item::{Due, Key, Moment, NoMemory, Slot, alive};
 use tc_plain::{Areas, Change, End, Entry, EvictionState, Limits};
+use tc_readbuf::Noted;
 use tc_sketch::{PastSketch, hash};
 use tc_stats::Counters;
 
@@ -251,6 +252,18 @@ impl LiveSlots {
         self.held.access_at(slot);
     }
 
+    /// Reads what a look-up that was noted will change: its counters, and its node in the lists. What that
+    /// comes to says nothing.
+    pub(crate) fn read_noted(&self, noted: Noted) -> u64 {
+        match noted {
+            Noted::Hit(slot) => {
+                let node = u64::from(self.held.has_node(slot));
+                node.wrapping_add(u64::from(self.sketch.freq(self.held.hash_at(slot))))
+            }
+            Noted::Miss(hash) => u64::from(self.sketch.freq(hash)),
+        }
+    }
+
     /// One look-up of a key of this hash that holds nothing.
     pub(crate) fn miss(&mut self, hash: u64)
         ensures live { live_of self.new ≡ do_note (Miss hash) (live_of self.old) }
@@ -279,6 +292,7 @@ impl LiveSlots {
             Some(slot) => {
                 if alive {
                     self.held.replace(slot, entry);
+                    self.hints.note(hash, slot);
                 } else {
                     self.held.empty(slot);
                 }

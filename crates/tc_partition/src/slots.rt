@@ -241,6 +241,11 @@ impl Slots {
         }
     }
 
+    /// Whether a slot is in the lists.
+    pub fn has_node(&self, slot: Slot) -> bool {
+        self.lists.holds(slot)
+    }
+
     /// The key of what a slot holds; no bytes where it holds nothing.
     pub fn key_at(&self, slot: Slot) -> &[u8]
         ensures { result.now ≡ (entry_or (slice_index_or self.now.slots slot.0 None)).key }

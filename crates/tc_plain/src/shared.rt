@@ -1,6 +1,7 @@
 //! What every cache shares of a command: the law that it keeps (`Cache`), the entry under a key, which
 //! work each command is (`Commands`, `act`), what a storage line offers (`offer`), what a command will
-//! do (`Plan`), how it ends (`End`), the hits that it shows, and what the turn of a page leaves over.
+//! do (`Plan`), how it ends (`End`), the hits that it shows, what the turn of a page leaves over, and how far
+//! deferred work came (`Progress`).
 //!
 //! The cache that a server runs (`tc_partition`) and the reference keep these alike. Nothing here looks
 //! through a list of entries.
@@ -14,3 +15,4 @@ pub(crate) mod hits;
 pub(crate) mod left_over;
 pub(crate) mod offers;
 pub(crate) mod plans;
+pub(crate) mod progress;

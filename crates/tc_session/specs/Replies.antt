@@ -8,6 +8,7 @@ use Rattle.tc_grammar.specs.declared.command.Form.TheVariants.{Bare, WithCas}
 use Rattle.tc_grammar.specs.declared.command.Command.{Command}
 use Rattle.tc_grammar.specs.declared.command.Command.TheVariants.{Store, Get, Gat, Delete, Count, Touch, Flush, Stats as AskStats}
 use Rattle.tc_grammar.specs.declared.command.Command.TheVariants.{Version as AskVersion, Verbosity, Quit}
+use Rattle.tc_grammar.specs.Outlines.{is_quiet}
 use Rattle.tc_grammar.specs.declared.fault.Fault.TheVariants.{TooLarge as TooLargeFault, NotNumeric as NotNumericFault}
 use Rattle.tc_grammar.specs.declared.fault.Fault.TheVariants.{CasWorn as CasWornFault}
 use Rattle.tc_stats.specs.declared.counters.Counters.{Counters}
@@ -17,20 +18,6 @@ use Rattle.tc_stats.specs.declared.outcome.Outcome.TheVariants.{Stored, NotStore
 use Rattle.tc_stats.specs.declared.outcome.Outcome.TheVariants.{Values, Done, Stats, Version, TooLarge, NotNumeric, CasWorn}
 use Rattle.tc_stats.specs.StatsRows.{version_text, stats_rows}
 use Rattle.tc_session.specs.Texts.{line_end, fault_line, unless_quiet}
-
--- the line has `noreply`
-abbrev pub is_quiet : Command → Bool
-is_quiet (Store head blob) = head.quiet
-is_quiet (Get form keys) = false
-is_quiet (Gat form exptime keys) = false
-is_quiet (Delete key quiet) = quiet
-is_quiet (Count way key value quiet) = quiet
-is_quiet (Touch key exptime quiet) = quiet
-is_quiet (Flush delay quiet) = quiet
-is_quiet AskStats = false
-is_quiet AskVersion = false
-is_quiet (Verbosity level quiet) = quiet
-is_quiet Quit = false
 
 -- a storage name's refusal for what its key holds
 abbrev pub is_refusal : StoreKind → Outcome → Bool

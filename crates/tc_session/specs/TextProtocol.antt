@@ -10,6 +10,7 @@ use Rattle.tc_grammar.specs.declared.command.Command.{Command}
 use Rattle.tc_grammar.specs.declared.command.Command.TheVariants.{Store, Quit}
 use Rattle.tc_grammar.specs.declared.fault.Fault.{Fault}
 use Rattle.tc_grammar.specs.declared.fault.Fault.TheVariants.{LineTooLong, Unauthenticated, AuthenticationFailure}
+use Rattle.tc_grammar.specs.Outlines.{is_quiet}
 use Rattle.tc_feed.specs.declared.request.Request.{Request}
 use Rattle.tc_feed.specs.declared.request.Request.TheVariants.{Ask, Refused}
 use Rattle.tc_feed.specs.Stream.{Reader, more, empty, found, after_first}
@@ -17,7 +18,7 @@ use Rattle.tc_stats.specs.declared.outcome.Outcome.{Outcome}
 use Rattle.tc_users.specs.declared.users.UserSpec.{UserSpec}
 use Rattle.tc_users.specs.Login.{opens}
 use Rattle.tc_session.specs.Texts.{fault_line, unless_quiet}
-use Rattle.tc_session.specs.Replies.{is_quiet, render}
+use Rattle.tc_session.specs.Replies.{render}
 
 -- the most bytes of a block before a connection is bound; after it they are those of the largest item
 abbrev pub unbound_limit : ℕ

@@ -1,12 +1,13 @@
 //! Which outcomes a command can come to, and how its reply is written.
 ghost use Rattle.std.specs.Prelude.{◌≡◌, ◌≤◌, ◌++◌, true, false, take, length, IsOk, OnOk, OnErr};
 ghost use Rattle.tc_grammar.specs.declared.fault.Fault.TheVariants.{NoMemory as OutOfMemory};
+ghost use Rattle.tc_grammar.specs.Outlines.{is_quiet};
 ghost use Rattle.tc_session.specs.SessionView.{reply_room};
 ghost use Rattle.tc_session.specs.Texts.{fault_line, unless_quiet};
-ghost use Rattle.tc_session.specs.Replies.{is_quiet, is_refusal, is_store_end, can_end, form_of, reply_of, render, is_long};
+ghost use Rattle.tc_session.specs.Replies.{is_refusal, is_store_end, can_end, form_of, reply_of, render, is_long};
 
 use crate::output::Output;
-use crate::reply::{is_quiet, write_fault, write_version};
+use crate::reply::{write_fault, write_version};
 use tc_grammar::{Command, Fault, Form, StoreKind};
 use tc_item::NoMemory;
 use tc_stats::Outcome;
@@ -104,7 +105,7 @@ pub(crate) fn write_refusal(out: &mut Output, command: &Command)
     ensures { out.new.bytes
         ≡ out.old.bytes ++ unless_quiet (is_quiet command.now) (fault_line OutOfMemory) }
 {
-    if !is_quiet(command) {
+    if !command.is_quiet() {
         write_fault(out, Fault::NoMemory);
     }
 }
@@ -122,7 +123,7 @@ pub(crate) fn write_reply(
         ≡ out.old.bytes ++ unless_quiet (is_quiet command.now) (fault_line OutOfMemory)) }
     ensures short { is_long outcome.now ≡ false → IsOk result }
 {
-    if is_quiet(command) {
+    if command.is_quiet() {
         return Ok(());
     }
     if write_outcome(out, form_of(command), outcome).is_err() {

@@ -8,6 +8,7 @@
 
 mod answering;
 mod chain;
+mod declined;
 mod news;
 mod output;
 mod parts;
@@ -17,6 +18,7 @@ mod values;
 mod want;
 
 pub use answering::can_end;
+pub use declined::Declined;
 pub use news::News;
 pub use parts::Parts;
 pub use session::Session;

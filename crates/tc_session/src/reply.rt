@@ -2,40 +2,11 @@
 ghost use Rattle.std.specs.Prelude.{◌≡◌, ◌+◌, ◌≤◌, ◌++◌, codes};
 ghost use Rattle.tc_session.specs.SessionView.{reply_room};
 ghost use Rattle.tc_session.specs.Texts.{fault_line, line_end};
-ghost use Rattle.tc_session.specs.Replies.{is_quiet};
 ghost use Rattle.tc_stats.specs.StatsRows.{version_text};
 
 use crate::output::Output;
-use tc_grammar::{Command, Fault};
+use tc_grammar::Fault;
 use tc_stats::VERSION;
-
-/// Whether the line has `noreply`.
-pub(crate) fn is_quiet(command: &Command) -> bool
-    ensures { result ≡ is_quiet command.now }
-{
-    match command {
-        Command::Store(head, _) => head.quiet,
-        Command::Delete { key: _, quiet } => *quiet,
-        Command::Count {
-            way: _,
-            key: _,
-            value: _,
-            quiet,
-        } => *quiet,
-        Command::Touch {
-            key: _,
-            exptime: _,
-            quiet,
-        } => *quiet,
-        Command::Flush { delay: _, quiet } => *quiet,
-        Command::Verbosity { level: _, quiet } => *quiet,
-        Command::Get { .. }
-        | Command::Gat { .. }
-        | Command::Stats
-        | Command::Version
-        | Command::Quit => false,
-    }
-}
 
 /// Says a fault's line.
 pub(crate) fn write_fault(out: &mut Output, fault: Fault)

@@ -1,11 +1,18 @@
 //! A connection.
-ghost use Rattle.std.specs.Prelude.{◌≡◌, ◌≢◌, ◌+◌, ◌<◌, ◌≤◌, ◌++◌, ◌↔◌, ℕ, [], true, false, codes, drop, length};
-ghost use Rattle.std.specs.Prelude.{None, IsOk, IfOk, IfSome, IsTrue, OnOk, OnErr};
+ghost use Rattle.std.specs.Prelude.{◌≡◌, ◌≢◌, ◌+◌, ◌<◌, ◌≤◌, ◌++◌, ◌↔◌, ℕ, List, [], true, false, codes, drop, length};
+ghost use Rattle.std.specs.Prelude.{None, Some, IsOk, IfOk, IfSome, IsTrue, OnOk, OnErr};
 ghost use Rattle.tc_model.specs.Connection.{turn, login, login_turn, unbound_turn, bound_turn, with_piece, shut_endpoint};
 ghost use Rattle.tc_model.specs.Connection.{new_endpoint, Unbound, Bound, Nothing, Close, is_closed};
 ghost use Rattle.tc_grammar.specs.declared.fault.Fault.TheVariants.{AuthenticationFailure, NoMemory as OutOfMemory};
 ghost use Rattle.tc_session.specs.Texts.{fault_line, unless_quiet};
-ghost use Rattle.tc_session.specs.Replies.{is_quiet, can_end, render, is_long};
+ghost use Rattle.tc_users.specs.declared.users.UserSpec.{UserSpec};
+ghost use Rattle.tc_grammar.specs.Outlines.{is_quiet};
+ghost use Rattle.tc_feed.specs.Passing.{passed_of};
+ghost use Rattle.tc_feed.specs.Stream.{found, after_first};
+ghost use Rattle.tc_feed.specs.declared.request.Request.{Request as AnyRequest};
+ghost use Rattle.tc_item.specs.Bounds.{largest_item};
+ghost use Rattle.tc_session.specs.Declines.{IsPassed, IsAsked};
+ghost use Rattle.tc_session.specs.Replies.{can_end, render, is_long};
 ghost use Rattle.tc_session.specs.TextProtocol.{text_protocol, fault_said, unbound_asks, unbound_command, unbound_store};
 ghost use Rattle.tc_session.specs.TextProtocol.{bound_wants, bound_command};
 ghost use Rattle.tc_session.specs.SessionView.{SessionView, want_of, fault_want, fault_phase, KeepsAtMost, most_resting};
@@ -13,13 +20,14 @@ ghost use Rattle.tc_session.specs.SessionView.{reply_room, needed_room};
 
 use crate::Want;
 use crate::answering::{write_refusal, write_reply};
+use crate::declined::Declined;
 use crate::news::{News, named};
 use crate::output::Output;
 use crate::parts::Parts;
-use crate::reply::{is_quiet, write_fault};
+use crate::reply::write_fault;
 use std::alloc::Global;
 use std::marker::Model;
-use tc_feed::{Feed, Request};
+use tc_feed::{Feed, Passed, Request};
 use tc_grammar::{Command, Fault, Head, StoreKind};
 use tc_item::{LARGEST_ITEM, NoMemory};
 use tc_stats::Outcome;
@@ -137,6 +145,119 @@ impl Session {
         }
     }
 
+    /// The connection's next request, as `next` has it. Where memory is refused once more to a request,
+    /// `None`: a bound connection's command is then passed over, and its refusal said. A refusal leaves
+    /// the request unread.
+    pub fn ask(
+        &mut self,
+        alloc: Global,
+        users: &Users,
+        is_retry: bool,
+        declined: &mut Declined,
+    ) -> Result<Option<Want>, NoMemory>
+        ensures asked { IfOk result (IsAsked (turn text_protocol users.now self.old.endpoint)
+            self.old self.new declined.old declined.new) }
+        ensures endpoint { OnOk result (self.new.endpoint
+            ≡ (turn text_protocol users.now self.old.endpoint).endpoint) }
+        ensures room { OnOk result (reply_room ≤ self.new.room) }
+        ensures open_bounded { IfOk result (λ asked. IfSome asked (λ want. want_of want ≡ Nothing
+            → is_closed self.old.endpoint.phase ≡ false
+            → length self.new.endpoint.reader.unread ≤ most_resting)) }
+        ensures no_longer { length self.new.endpoint.reader.unread
+            ≤ length self.old.endpoint.reader.unread }
+        ensures endpoint_on_err { OnErr result (self.new.endpoint ≡ self.old.endpoint) }
+        ensures out_on_err { OnErr result (self.new.out ≡ self.old.out) }
+        ensures declined_on_err { OnErr result (declined.new ≡ declined.old) }
+    {
+        match self.next(alloc, users) {
+            Ok(want) => Ok(Some(want)),
+            Err(NoMemory) if is_retry => self.decline_listed(alloc, declined),
+            Err(NoMemory) => Err(NoMemory),
+        }
+    }
+
+    /// Declines a bound connection's next request, and lists it.
+    fn decline_listed(
+        &mut self,
+        alloc: Global,
+        declined: &mut Declined,
+    ) -> Result<Option<Want>, NoMemory>
+        ensures asked { (rows : List UserSpec) → IfOk result (IsAsked (turn text_protocol rows self.old.endpoint)
+            self.old self.new declined.old declined.new) }
+        ensures endpoint { (rows : List UserSpec) → OnOk result (self.new.endpoint
+            ≡ (turn text_protocol rows self.old.endpoint).endpoint) }
+        ensures busy { IfOk result (λ asked. IfSome asked (λ want. want_of want ≢ Nothing)) }
+        ensures room { OnOk result (reply_room ≤ self.new.room) }
+        ensures no_longer { length self.new.endpoint.reader.unread
+            ≤ length self.old.endpoint.reader.unread }
+        ensures endpoint_on_err { OnErr result (self.new.endpoint ≡ self.old.endpoint) }
+        ensures out_on_err { OnErr result (self.new.out ≡ self.old.out) }
+        ensures declined_on_err { OnErr result (declined.new ≡ declined.old) }
+    {
+        let Some(user) = self.user() else {
+            return Err(NoMemory)
+        };
+        let listed = declined.and(&self.feed, user);
+        match self.decline(alloc, user)? {
+            Some(want) => Ok(Some(want)),
+            None => {
+                *declined = listed;
+                Ok(None)
+            }
+        }
+    }
+
+    /// Passes over the next whole request of the user's connection, with its block. A command is not
+    /// done, and `None`: that memory was refused is said, unless its line has `noreply`. What needs no
+    /// cache is answered as `next` does. It takes no memory but for room to say so; a refusal, also where no
+    /// whole request is there, leaves all as it was.
+    pub fn decline(&mut self, alloc: Global, user: UserNo) -> Result<Option<Want>, NoMemory>
+        requires bound { self.old.endpoint.phase ≡ Bound user }
+        ensures passed { IfOk result (IsPassed user (bound_turn text_protocol user
+            (after_first largest_item self.old.endpoint.reader)
+            (bound_wants (found largest_item self.old.endpoint.reader))) self.old self.new) }
+        ensures endpoint { OnOk result (self.new.endpoint ≡ (bound_turn text_protocol user
+            (after_first largest_item self.old.endpoint.reader)
+            (bound_wants (found largest_item self.old.endpoint.reader))).endpoint) }
+        ensures busy { IfOk result (λ asked. IfSome asked (λ want. want_of want ≢ Nothing)) }
+        ensures room { OnOk result (reply_room ≤ self.new.room) }
+        ensures no_longer { length self.new.endpoint.reader.unread
+            ≤ length self.old.endpoint.reader.unread }
+        ensures endpoint_on_err { OnErr result (self.new.endpoint ≡ self.old.endpoint) }
+        ensures out_on_err { OnErr result (self.new.out ≡ self.old.out) }
+    {
+        self.out.reserve(NEEDED_ROOM)?;
+        match self.feed.pass_over(alloc, LARGEST_ITEM) {
+            None => Err(NoMemory),
+            Some(passed) => Ok(self.answer_passed(user, passed)),
+        }
+    }
+
+    /// What is made of a request of the user's that was passed over.
+    fn answer_passed(&mut self, user: UserNo, passed: Passed) -> Option<Want>
+        requires room { needed_room ≤ self.old.room }
+        requires bound { self.old.endpoint.phase ≡ Bound user }
+        ensures passed { (request : AnyRequest) → passed_of request ≡ passed
+            → IsPassed user (bound_turn text_protocol user self.old.endpoint.reader
+            (bound_wants (Some request))) self.old self.new result }
+        ensures endpoint { (request : AnyRequest) → passed_of request ≡ passed
+            → self.new.endpoint ≡ (bound_turn text_protocol user self.old.endpoint.reader
+            (bound_wants (Some request))).endpoint }
+        ensures busy { IfSome result (λ want. want_of want ≢ Nothing) }
+        ensures reader { self.new.endpoint.reader ≡ self.old.endpoint.reader }
+        ensures room { reply_room ≤ self.new.room }
+    {
+        match passed {
+            Passed::Command { quiet } => {
+                self.news = Some(News::NoMemory);
+                self.say_fault(Fault::NoMemory, quiet);
+                None
+            }
+            Passed::Quit => Some(self.close()),
+            Passed::Refused { fault, quiet } => Some(self.fail(fault, quiet)),
+        }
+    }
+
     /// What a request means before the connection is bound.
     fn greet(&mut self, users: &Users, request: Option<Request>) -> Want
         requires room { needed_room ≤ self.old.room }
@@ -190,7 +311,7 @@ impl Session {
             Command::Store(head, blob) => self.greet_store(users, head, blob.as_slice()),
             Command::Quit => self.close(),
             _ => {
-                self.say_fault(Fault::Unauthenticated, is_quiet(command));
+                self.say_fault(Fault::Unauthenticated, command.is_quiet());
                 Want::Said
             }
         }

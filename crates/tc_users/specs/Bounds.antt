@@ -31,4 +31,4 @@ most_connections = 1024
 
 -- the entries of a journal's page where the settings say nothing
 abbrev pub default_page : ℕ
-default_page = 64
+default_page = 16

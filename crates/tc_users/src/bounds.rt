@@ -22,4 +22,4 @@ pub const MOST_SECONDS: u32 = 86_400;
 pub const MOST_CONNECTIONS: u32 = 1_024;
 
 /// The entries of a journal's page where the settings say nothing.
-pub const DEFAULT_PAGE: usize = 64;
+pub const DEFAULT_PAGE: usize = 16;

@@ -61,7 +61,7 @@ pub struct Settings {
     pub listen: Address,
     /// How many threads serve connections, 1 to 64.
     pub workers: usize,
-    /// How many entries a journal's page has, 16 to 65,536; 64 where the text says nothing.
+    /// How many entries a journal's page has, 16 to 65,536; 16 where the text says nothing.
     pub journal: usize,
     /// The limits on all connections.
     pub limits: Limits,

@@ -1,10 +1,11 @@
 -- Each connection of a worker goes on, and was served by one table.
 use Rattle.std.proofs.Common.{ℕ, List, [], ◌∷◌, Option, Some, None, sym, subst}
 use Rattle.tc_users.specs.declared.users.UserSpec.{UserSpec}
-use Rattle.tc_workers.specs.Lives.{TalkState, AreAll, IsOpen}
+use Rattle.tc_workers.specs.Lives.{TalkState, AreAll, IsOpen, IsOpened}
 use Rattle.tc_workers.specs.Turns.{WorkerState, Visit, Moved, Dropped, AllVisits, Serves}
 use Rattle.tc_workers.specs.Between.{TakesIn, Opens, MayDrop, Changes}
 use Rattle.tc_workers.specs.Staying.{AllOpen}
+use Rattle.tc_workers.proofs.Latest.{rose-first}
 use Rattle.tc_workers.proofs.Holding.{AllHeld, held-set, held-at, held-enters, held-changes, held-dropped}
 
 open-visits : (rows : List UserSpec) (a b : List (Option TalkState)) (vs : List Visit) → AllHeld (IsOpen rows) a
@@ -23,10 +24,16 @@ pub taking-open : (rows : List UserSpec) (talk : TalkState) (a b : WorkerState) 
     → TakesIn talk a b → AllOpen rows b
 taking-open rows talk a b all still x = held-enters (IsOpen rows) talk a.links b.links all still x.enters
 
+-- a connection as it was opened
+pub open-new : {rows : List UserSpec} {conn : ℕ} {gave took : Option (List ℕ)} {t : TalkState} → IsOpened conn gave took t
+    → IsOpen rows t
+open-new {rows} x =
+    record { by = subst (AreAll rows) (sym x.unserved) tt; on = x.on; rose = rose-first x.last_is }
+
 pub opening-open : (rows : List UserSpec) (conn : ℕ) (gave took : Option (List ℕ)) (a b : WorkerState) → AllOpen rows a
     → Opens conn gave took a b → AllOpen rows b
 opening-open rows conn gave took a b all x =
-    let still : IsOpen rows x.talk = record { by = subst (AreAll rows) (sym x.opened.unserved) tt; on = x.opened.on } in
+    let still : IsOpen rows x.talk = open-new x.opened in
     taking-open rows x.talk a b all still x.takes
 
 pub passing-open : (rows : List UserSpec) (a b : WorkerState) → AllOpen rows a → Changes a b → AllOpen rows b

@@ -10,16 +10,22 @@ use Rattle.tc_item.specs.declared.no_memory.NoMemory.{NoMemory}
 use Rattle.tc_grammar.specs.declared.command.Command.{Command}
 use Rattle.tc_users.specs.declared.users.UserSpec.{UserSpec}
 use Rattle.tc_session.specs.Replies.{render, is_long}
+use Rattle.tc_session.specs.Declines.{Decline, Declines, IsAsked as IsAskedOrDeclined}
 use Rattle.tc_session.specs.Refusals.{refusal_of}
+use Rattle.tc_session.specs.SessionView.{SessionView, want_of}
 use Rattle.tc_session.specs.TextProtocol.{text_protocol}
+use Rattle.tc_session.specs.declared.want.Want.{Want as WantCode}
 use Rattle.tc_locked.specs.declared.entry.Slip.{Slip}
 use Rattle.tc_locked.specs.Views.{note}
 use Rattle.tc_locked.specs.declared.call_fault.CallFault.{CallFault}
 use Rattle.tc_locked.specs.Calls.{Wrote}
-use Rattle.tc_locked.specs.Refusals.{refusal}
-use Rattle.tc_workers.specs.Talks.{Move, Came, Asked, Did, Undone, Ended, happening_of, Calls, NeedsNoCache, Says, AllMoves}
-use Rattle.tc_workers.specs.Talks.{notes_of, notes_in, refusals_of, refusals_in, piece_of, pieces_in, LinkState, DeskState}
-use Rattle.tc_workers.specs.Talks.{Goes, Notes, Talks, Carries, Answers}
+use Rattle.tc_locked.specs.KeptBooks.{SeatState}
+use Rattle.tc_locked.specs.Refusals.{Refusal, refusal}
+use Rattle.tc_workers.specs.Talks.{Move, Came, Asked, Did, Undone, Declined, Ended, happening_of, Calls, NeedsNoCache, Says, AllMoves}
+use Rattle.tc_workers.specs.Talks.{notes_of, notes_in, refusals_of, refusals_in, declined_of, declined_in, piece_of, pieces_in}
+use Rattle.tc_workers.specs.Talks.{number_after, last_after}
+use Rattle.tc_workers.specs.Talks.{LinkState, DeskState, Goes, Notes, Talks, Carries, Answers}
+use Rattle.tc_workers.proofs.Latest.{last_after-append}
 
 -- the moves of two lists in a row
 pub all_moves-append : (rows : List UserSpec) (conn : ℕ) (e f g : Endpoint text_protocol) (ms ns : List Move) (said more : List ℕ)
@@ -48,10 +54,22 @@ refusals_in-append (m ∷ ms) ns =
     ap (λ xs. refusals_of m ++ xs) (refusals_in-append ms ns)
     ∙ sym (append_assoc (refusals_of m) (refusals_in ms) (refusals_in ns))
 
+pub declined_in-append : (ms ns : List Move) → declined_in (ms ++ ns) ≡ declined_in ms ++ declined_in ns
+declined_in-append [] ns = refl
+declined_in-append (m ∷ ms) ns =
+    ap (λ xs. declined_of m ++ xs) (declined_in-append ms ns)
+    ∙ sym (append_assoc (declined_of m) (declined_in ms) (declined_in ns))
+
 pieces_in-append : (ms ns : List Move) → pieces_in (ms ++ ns) ≡ pieces_in ms ++ pieces_in ns
 pieces_in-append [] ns = refl
 pieces_in-append (m ∷ ms) ns =
     ap (λ xs. piece_of m ++ xs) (pieces_in-append ms ns) ∙ sym (append_assoc (piece_of m) (pieces_in ms) (pieces_in ns))
+
+-- the latest entry after two lists of moves
+last_after-moves : (last : Option ℕ) (ms ns : List Move)
+    → last_after last (notes_in (ms ++ ns)) ≡ last_after (last_after last (notes_in ms)) (notes_in ns)
+last_after-moves last ms ns =
+    ap (last_after last) (notes_in-append ms ns) ∙ last_after-append last (notes_in ms) (notes_in ns)
 
 -- known bytes that grow twice
 appends-append : (a b c : Option (List ℕ)) (xs ys : List ℕ) → Appends a b xs → Appends b c ys → Appends a c (xs ++ ys)
@@ -84,8 +102,9 @@ appends-as a b c xs same x = subst (λ (o : Option (List ℕ)). Appends a o xs) 
 pub goes-one : {rows : List UserSpec} {a b : LinkState} (m : Move) (said : List ℕ)
     → endpoint_after text_protocol rows (happening_of m) (Some a.session.endpoint) ≡ Some b.session.endpoint
     → Says rows a.conn a.session.endpoint m said → b.session.out ≡ a.session.out ++ said → b.conn ≡ a.conn
-    → Appends a.gave b.gave (piece_of m) → Appends a.took b.took [] → Goes rows (m ∷ []) [] [] a b
-goes-one {a = a} {b} m said steps says out conn gave took =
+    → b.last ≡ last_after a.last (notes_of m) → Appends a.gave b.gave (piece_of m) → Appends a.took b.took []
+    → Goes rows (m ∷ []) [] [] a b
+goes-one {a = a} {b} m said steps says out conn last gave took =
     let piece : piece_of m ≡ (piece_of m ++ []) ++ [] = sym (append-nil (piece_of m)) ∙ sym (append-nil (piece_of m ++ [])) in
     record {
       said = said;
@@ -94,6 +113,7 @@ goes-one {a = a} {b} m said steps says out conn gave took =
       conn = conn;
       gave = subst (λ (xs : List ℕ). Appends a.gave b.gave xs) piece gave;
       took = took;
+      last = last ∙ ap (last_after a.last) (sym (append-nil (notes_of m)));
     }
 
 regroup : (out said more s t b-out c-out : List ℕ) → out ++ said ≡ s ++ b-out → b-out ++ more ≡ t ++ c-out
@@ -122,6 +142,8 @@ goes-append {rows} {ms} {ns} {s} {t} {lost} {a} {b} {c} x y =
           subst (λ (xs : List ℕ). Appends a.gave c.gave xs) pieces
           (appends-append a.gave b.gave c.gave (pieces_in ms ++ []) (pieces_in ns ++ lost) x.gave y.gave);
       took = appends-append a.took b.took c.took s t x.took y.took;
+      last =
+          y.last ∙ ap (λ (l : Option ℕ). last_after l (notes_in ns)) x.last ∙ sym (last_after-moves a.last ms ns);
     }
 
 -- a desk at which no call was made
@@ -130,16 +152,18 @@ notes-still {a = a} same = record {
   number = ap (λ d. d.seat.number) same;
   notes = ap (λ d. d.seat.notes) same ∙ sym (append-nil a.seat.notes);
   refused = ap (λ d. d.refused) same ∙ sym (append-nil a.refused);
+  declined = ap (λ d. d.declined) same ∙ sym (append-nil a.declined);
   few = omega arith;
 }
 
 -- the same of moves at which none was
-pub notes-silent : {most : ℕ} {ms : List Move} {a b : DeskState} → notes_in ms ≡ [] → refusals_in ms ≡ [] → b ≡ a
-    → Notes most ms a b
-notes-silent {a = a} silent unrefused same = record {
+pub notes-silent : {most : ℕ} {ms : List Move} {a b : DeskState} → notes_in ms ≡ [] → refusals_in ms ≡ []
+    → declined_in ms ≡ [] → b ≡ a → Notes most ms a b
+notes-silent {a = a} silent unrefused undeclined same = record {
   number = ap (λ d. d.seat.number) same;
   notes = ap (λ d. d.seat.notes) same ∙ sym (append-nil a.seat.notes) ∙ ap (λ xs. a.seat.notes ++ xs) (sym silent);
   refused = ap (λ d. d.refused) same ∙ sym (append-nil a.refused) ∙ ap (λ xs. a.refused ++ xs) (sym unrefused);
+  declined = ap (λ d. d.declined) same ∙ sym (append-nil a.declined) ∙ ap (λ xs. a.declined ++ xs) (sym undeclined);
   few = omega (arith, ap length silent, ap length unrefused);
 }
 
@@ -152,6 +176,7 @@ notes-more {most} {more} {ms} h x = record {
   number = x.number;
   notes = x.notes;
   refused = x.refused;
+  declined = x.declined;
   few = let f : length (notes_in ms) + length (refusals_in ms) ≤ most = x.few in omega arith;
 }
 
@@ -165,6 +190,9 @@ notes-append {most} {more} {ms} {ns} {a} {b} {c} x y = record {
   refused =
       y.refused ∙ ap (λ xs. xs ++ refusals_in ns) x.refused ∙ append_assoc a.refused (refusals_in ms) (refusals_in ns)
       ∙ ap (λ xs. a.refused ++ xs) (sym (refusals_in-append ms ns));
+  declined =
+      y.declined ∙ ap (λ xs. xs ++ declined_in ns) x.declined ∙ append_assoc a.declined (declined_in ms) (declined_in ns)
+      ∙ ap (λ xs. a.declined ++ xs) (sym (declined_in-append ms ns));
   few =
       let f : length (notes_in ms) + length (refusals_in ms) ≤ most = x.few in
       let g : length (notes_in ns) + length (refusals_in ns) ≤ more = y.few in
@@ -181,6 +209,7 @@ carries-append x y = record {
   moves = x.moves ++ y.moves;
   silent = notes_in-append x.moves y.moves ∙ ap (λ xs. xs ++ notes_in y.moves) x.silent ∙ y.silent;
   unrefused = refusals_in-append x.moves y.moves ∙ ap (λ xs. xs ++ refusals_in y.moves) x.unrefused ∙ y.unrefused;
+  undeclined = declined_in-append x.moves y.moves ∙ ap (λ xs. xs ++ declined_in y.moves) x.undeclined ∙ y.undeclined;
   goes = λ rows. goes-append (x.goes rows) (y.goes rows);
 }
 
@@ -196,7 +225,7 @@ talks-append x y = record {
 pub carries-talks : {most : ℕ} {rows : List UserSpec} {s lost : List ℕ} {a b : LinkState} {desk : DeskState} → Carries s lost a b
     → Talks most rows s lost a b desk desk
 carries-talks {rows = rows} x =
-    record { moves = x.moves; goes = x.goes rows; noted = notes-silent x.silent x.unrefused refl }
+    record { moves = x.moves; goes = x.goes rows; noted = notes-silent x.silent x.unrefused x.undeclined refl }
 
 pub talks-more : {most more : ℕ} {rows : List UserSpec} {s lost : List ℕ} {a b : LinkState} {from to : DeskState} → most ≤ more
     → Talks most rows s lost a b from to → Talks more rows s lost a b from to
@@ -233,11 +262,12 @@ talks-sent {most} {rows} {b = b} {c = c} {to = to} x same (s, y) =
 
 -- a connection that did nothing
 pub carries-still : {a b : LinkState} → b.session.endpoint ≡ a.session.endpoint → b.session.out ≡ a.session.out → b.conn ≡ a.conn
-    → Appends a.gave b.gave [] → Appends a.took b.took [] → Carries [] [] a b
-carries-still {a = a} endpoint out conn gave took = record {
+    → b.last ≡ a.last → Appends a.gave b.gave [] → Appends a.took b.took [] → Carries [] [] a b
+carries-still {a = a} endpoint out conn last gave took = record {
   moves = [];
   silent = refl;
   unrefused = refl;
+  undeclined = refl;
   goes = λ rows. record {
     said = [];
     moved = (endpoint, refl);
@@ -245,24 +275,26 @@ carries-still {a = a} endpoint out conn gave took = record {
     conn = conn;
     gave = gave;
     took = took;
+    last = last;
   };
 }
 
 pub carries-same : {a b : LinkState} → b ≡ a → Carries [] [] a b
 carries-same same =
     carries-still (ap (λ l. l.session.endpoint) same) (ap (λ l. l.session.out) same) (ap (λ l. l.conn) same)
-    (appends-same (ap (λ l. l.gave) same)) (appends-same (ap (λ l. l.took) same))
+    (ap (λ l. l.last) same) (appends-same (ap (λ l. l.gave) same)) (appends-same (ap (λ l. l.took) same))
 
 -- a connection whose wire took the first of what waited
 pub carries-wrote : {a b : LinkState} (n : ℕ) (waits : List ℕ) → waits ≡ a.session.out → b.session.out ≡ drop n a.session.out
-    → b.session.endpoint ≡ a.session.endpoint → b.conn ≡ a.conn → b.gave ≡ a.gave → Appends a.took b.took (take n waits)
-    → (s : List ℕ) × Carries s [] a b
-carries-wrote {a} {b} n waits all out endpoint conn gave took = (
+    → b.session.endpoint ≡ a.session.endpoint → b.conn ≡ a.conn → b.last ≡ a.last → b.gave ≡ a.gave
+    → Appends a.took b.took (take n waits) → (s : List ℕ) × Carries s [] a b
+carries-wrote {a} {b} n waits all out endpoint conn last gave took = (
   take n a.session.out,
   record {
     moves = [];
     silent = refl;
     unrefused = refl;
+    undeclined = refl;
     goes = λ rows. record {
       said = [];
       moved = (endpoint, refl);
@@ -272,6 +304,7 @@ carries-wrote {a} {b} n waits all out endpoint conn gave took = (
       conn = conn;
       gave = appends-same gave;
       took = subst (λ (xs : List ℕ). Appends a.took b.took (take n xs)) all took;
+      last = last;
     };
   },
 )
@@ -280,24 +313,28 @@ carries-wrote {a} {b} n waits all out endpoint conn gave took = (
 pub carries-came : {T : Type 0} {a b : LinkState} (piece : List ℕ) (r : Option T)
     → OnSome r (b.session.endpoint ≡ with_piece text_protocol a.session.endpoint piece)
     → IfNone r (b.session.endpoint ≡ a.session.endpoint) → b.session.out ≡ a.session.out → b.conn ≡ a.conn
-    → Appends a.gave b.gave piece → b.took ≡ a.took → (lost : List ℕ) × Carries [] lost a b × (IsSome r → lost ≡ [])
-carries-came {a = a} piece (Some x) came refused out conn gave took = (
+    → b.last ≡ a.last → Appends a.gave b.gave piece → b.took ≡ a.took
+    → (lost : List ℕ) × Carries [] lost a b × (IsSome r → lost ≡ [])
+carries-came {a = a} piece (Some x) came refused out conn last gave took = (
   [],
   record {
     moves = Came piece ∷ [];
     silent = refl;
     unrefused = refl;
+    undeclined = refl;
     goes = λ rows.
-        goes-one (Came piece) [] (ap Some (sym came)) refl (out ∙ sym (append-nil a.session.out)) conn gave (appends-same took);
+        goes-one (Came piece) [] (ap Some (sym came)) refl (out ∙ sym (append-nil a.session.out)) conn last gave
+        (appends-same took);
   },
   λ yes. refl,
 )
-carries-came {a = a} piece None came refused out conn gave took = (
+carries-came {a = a} piece None came refused out conn last gave took = (
   piece,
   record {
     moves = [];
     silent = refl;
     unrefused = refl;
+    undeclined = refl;
     goes = λ rows. record {
       said = [];
       moved = (refused, refl);
@@ -305,6 +342,7 @@ carries-came {a = a} piece None came refused out conn gave took = (
       conn = conn;
       gave = gave;
       took = appends-same took;
+      last = last;
     };
   },
   λ no. cc,
@@ -312,30 +350,92 @@ carries-came {a = a} piece None came refused out conn gave took = (
 
 -- a connection whose peer ended
 pub carries-ended : {a b : LinkState} → b.session.endpoint ≡ shut_endpoint text_protocol a.session.endpoint
-    → b.session.out ≡ a.session.out → b.conn ≡ a.conn → Keeps a.gave b.gave → b.took ≡ a.took → Carries [] [] a b
-carries-ended {a} {b} endpoint out conn gave took = record {
+    → b.session.out ≡ a.session.out → b.conn ≡ a.conn → b.last ≡ a.last → Keeps a.gave b.gave → b.took ≡ a.took
+    → Carries [] [] a b
+carries-ended {a} {b} endpoint out conn last gave took = record {
   moves = Ended ∷ [];
   silent = refl;
   unrefused = refl;
+  undeclined = refl;
   goes = λ rows.
-      goes-one Ended [] (ap Some (sym endpoint)) refl (out ∙ sym (append-nil a.session.out)) conn
+      goes-one Ended [] (ap Some (sym endpoint)) refl (out ∙ sym (append-nil a.session.out)) conn last
       (appends-kept a.gave b.gave gave) (appends-same took);
 }
 
 -- a connection whose request needs no cache
-pub talks-asked : {rows : List UserSpec} {a b : LinkState} {desk : DeskState} (w : Want Command)
+pub talks-asked : {rows : List UserSpec} {a b : LinkState} {from to : DeskState} (w : Want Command)
     → w ≡ (turn text_protocol rows a.session.endpoint).want → NeedsNoCache w
     → b.session.endpoint ≡ (turn text_protocol rows a.session.endpoint).endpoint
     → b.session.out ≡ a.session.out ++ (turn text_protocol rows a.session.endpoint).said → b.conn ≡ a.conn
-    → b.gave ≡ a.gave → b.took ≡ a.took → Talks 1 rows [] [] a b desk desk
-talks-asked {rows} {a} w wanted alone endpoint out conn gave took = record {
+    → b.last ≡ a.last → b.gave ≡ a.gave → b.took ≡ a.took → to ≡ from → Talks 1 rows [] [] a b from to
+talks-asked {rows} {a} w wanted alone endpoint out conn last gave took same = record {
   moves = Asked ∷ [];
   goes =
       goes-one Asked (turn text_protocol rows a.session.endpoint).said (ap Some (sym endpoint))
-      (record { alone = subst (λ (v : Want Command). NeedsNoCache v) wanted alone; says = refl }) out conn (appends-same gave)
-      (appends-same took);
-  noted = notes-silent refl refl refl;
+      (record { alone = subst (λ (v : Want Command). NeedsNoCache v) wanted alone; says = refl }) out conn last
+      (appends-same gave) (appends-same took);
+  noted = notes-silent refl refl refl same;
 }
+
+-- a connection whose request is declined
+pub talks-declined : {rows : List UserSpec} {a b : LinkState} {from to : DeskState} (user : ℕ)
+    → Declines user (turn text_protocol rows a.session.endpoint) a.session b.session
+    → to.declined ≡ from.declined ++ (a.session.endpoint.reader, user) ∷ [] → to.seat ≡ from.seat → to.refused ≡ from.refused
+    → b.session.endpoint ≡ (turn text_protocol rows a.session.endpoint).endpoint → b.conn ≡ a.conn → b.last ≡ a.last
+    → b.gave ≡ a.gave → b.took ≡ a.took → Talks 1 rows [] [] a b from to
+talks-declined {a = a} {from = from} user x declined seat refused endpoint conn last gave took = record {
+  moves = Declined (a.session.endpoint.reader, user) ∷ [];
+  goes =
+      goes-one (Declined (a.session.endpoint.reader, user)) (refusal_of x.command) (ap Some (sym endpoint))
+      (record { command = x.command; wanted = x.wanted; unread = refl; says = refl }) x.says conn last
+      (appends-same gave) (appends-same took);
+  noted = record {
+    number = ap (λ s. s.number) seat;
+    notes = ap (λ s. s.notes) seat ∙ sym (append-nil from.seat.notes);
+    refused = refused ∙ sym (append-nil from.refused);
+    declined = declined;
+    few = omega arith;
+  };
+}
+
+abbrev desk_of : SeatState → List Refusal → List Decline → DeskState
+desk_of seat refused declined = record { seat = seat; refused = refused; declined = declined }
+
+-- a desk of which each part is as before
+pub same-desk : {a b : DeskState} → b.seat ≡ a.seat → b.refused ≡ a.refused → b.declined ≡ a.declined → b ≡ a
+same-desk {a} {b} seat refused declined =
+    ap (λ s. desk_of s b.refused b.declined) seat ∙ ap (λ r. desk_of a.seat r b.declined) refused
+    ∙ ap (λ d. desk_of a.seat a.refused d) declined
+
+-- what was asked for is what the machine has
+pub asked-some : (rows : List UserSpec) (a b : SessionView) (from to : List Decline) (o : Option WantCode) (w : WantCode)
+    → o ≡ Some w → IsAskedOrDeclined (turn text_protocol rows a.endpoint) a b from to o
+    → (want_of w ≡ (turn text_protocol rows a.endpoint).want)
+    × (b.out ≡ a.out ++ (turn text_protocol rows a.endpoint).said)
+    × (to ≡ from)
+asked-some rows a b from to o w same x =
+    subst (λ (p : Option WantCode). IsAskedOrDeclined (turn text_protocol rows a.endpoint) a b from to p) same x
+
+-- or it is declined
+pub talks-none : {rows : List UserSpec} {a b : LinkState} {from to : DeskState} (o : Option WantCode) → o ≡ None
+    → IsAskedOrDeclined (turn text_protocol rows a.session.endpoint) a.session b.session from.declined to.declined o
+    → to.seat ≡ from.seat → to.refused ≡ from.refused
+    → b.session.endpoint ≡ (turn text_protocol rows a.session.endpoint).endpoint → b.conn ≡ a.conn → b.last ≡ a.last
+    → b.gave ≡ a.gave → b.took ≡ a.took → Talks 1 rows [] [] a b from to
+talks-none {rows} {a} {b} {from} {to} o same x seat refused endpoint conn last gave took =
+    let y =
+    subst
+    (λ (p : Option WantCode).
+    IsAskedOrDeclined (turn text_protocol rows a.session.endpoint) a.session b.session from.declined to.declined p) same x in
+    talks-declined y.0 y.1 y.2 seat refused endpoint conn last gave took
+
+-- a connection that memory was refused to ask for
+pub talks-unasked : {rows : List UserSpec} {a b : LinkState} {from to : DeskState} → b.session.endpoint ≡ a.session.endpoint
+    → b.session.out ≡ a.session.out → b.conn ≡ a.conn → b.last ≡ a.last → b.gave ≡ a.gave → b.took ≡ a.took → to ≡ from
+    → Talks 1 rows [] [] a b from to
+talks-unasked {rows} endpoint out conn last gave took same =
+    let x = carries-still endpoint out conn last (appends-same gave) (appends-same took) in
+    record { moves = x.moves; goes = x.goes rows; noted = notes-silent x.silent x.unrefused x.undeclined same }
 
 calls-act : (conn user : ℕ) (command : Command) (m : Move) (answer : List ℕ) → Calls conn user command m answer
     → happening_of m ≡ Act
@@ -343,6 +443,7 @@ calls-act conn user command (Did n unsaid) answer c = refl
 calls-act conn user command (Undone r) answer c = refl
 calls-act conn user command (Came piece) answer c = absurd c
 calls-act conn user command Asked answer c = absurd c
+calls-act conn user command (Declined d) answer c = absurd c
 calls-act conn user command Ended answer c = absurd c
 
 calls-says : (rows : List UserSpec) (conn user : ℕ) (command : Command) (e : Endpoint text_protocol) (m : Move) (answer : List ℕ)
@@ -354,6 +455,7 @@ calls-says rows conn user command e (Undone r) answer wanted c =
     record { user = user; command = command; answer = answer; wanted = wanted; calls = c; says = refl }
 calls-says rows conn user command e (Came piece) answer wanted c = absurd c
 calls-says rows conn user command e Asked answer wanted c = absurd c
+calls-says rows conn user command e (Declined d) answer wanted c = absurd c
 calls-says rows conn user command e Ended answer wanted c = absurd c
 
 calls-piece : (conn user : ℕ) (command : Command) (m : Move) (answer : List ℕ) → Calls conn user command m answer
@@ -362,6 +464,7 @@ calls-piece conn user command (Did n unsaid) answer c = refl
 calls-piece conn user command (Undone r) answer c = refl
 calls-piece conn user command (Came piece) answer c = absurd c
 calls-piece conn user command Asked answer c = absurd c
+calls-piece conn user command (Declined d) answer c = absurd c
 calls-piece conn user command Ended answer c = absurd c
 
 -- a connection whose request's call is made
@@ -369,8 +472,9 @@ pub talks-called : {rows : List UserSpec} {a mid b : LinkState} {from to : DeskS
     → (turn text_protocol rows a.session.endpoint).want ≡ Call user command
     → mid.session.endpoint ≡ (turn text_protocol rows a.session.endpoint).endpoint
     → mid.session.out ≡ a.session.out ++ (turn text_protocol rows a.session.endpoint).said → mid.conn ≡ a.conn
-    → mid.gave ≡ a.gave → mid.took ≡ a.took → Answers user command mid b from to → Talks 1 rows [] [] a b from to
-talks-called {rows} {a} {mid} {b} user command wanted endpoint out conn gave took x =
+    → mid.last ≡ a.last → mid.gave ≡ a.gave → mid.took ≡ a.took → Answers user command mid b from to
+    → Talks 1 rows [] [] a b from to
+talks-called {rows} {a} {mid} {b} user command wanted endpoint out conn last gave took x =
     let t = turn text_protocol rows a.session.endpoint in
     let calls : Calls a.conn user command x.move x.answer =
     subst (λ (n : ℕ). Calls n user command x.move x.answer) conn x.calls in
@@ -385,10 +489,17 @@ talks-called {rows} {a} {mid} {b} user command wanted endpoint out conn gave too
           (calls-act a.conn user command x.move x.answer calls)
           ∙ ap Some (sym (x.endpoint ∙ endpoint)))
           (calls-says rows a.conn user command a.session.endpoint x.move x.answer wanted calls)
-          (x.said ∙ ap (λ xs. xs ++ x.answer) out ∙ append_assoc a.session.out t.said x.answer) (x.conn ∙ conn) none
+          (x.said ∙ ap (λ xs. xs ++ x.answer) out ∙ append_assoc a.session.out t.said x.answer) (x.conn ∙ conn)
+          (x.last ∙ ap (λ (l : Option ℕ). last_after l (notes_of x.move)) last) none
           (appends-same (x.took ∙ took));
       noted = x.noted;
     }
+
+-- the same at a desk that is this one
+pub talks-from : {most : ℕ} {rows : List UserSpec} {s lost : List ℕ} {a b : LinkState} {from mid to : DeskState} → mid ≡ from
+    → Talks most rows s lost a b mid to → Talks most rows s lost a b from to
+talks-from {most} {rows} {s} {lost} {a} {b} {to = to} same x =
+    subst (λ (d : DeskState). Talks most rows s lost a b d to) same x
 
 not-false : (b : Bool) → (b ≡ false → false ≡ true) → b ≡ true
 not-false true h = refl
@@ -396,64 +507,70 @@ not-false false h = h refl
 
 -- what a desk keeps of a call that is entered
 notes-entered : {user now conn : ℕ} {command : Command} {slip : Slip} {from to : DeskState} (unsaid : Bool)
-    (w : Wrote user from.seat now conn command slip to.seat) → to.refused ≡ from.refused
+    (w : Wrote user from.seat now conn command slip to.seat) → to.refused ≡ from.refused → to.declined ≡ from.declined
     → Notes 1 (Did (note user slip.page w.entry) unsaid ∷ []) from to
-notes-entered {from = from} unsaid w none = record {
+notes-entered {from = from} unsaid w none undeclined = record {
   number = ap (λ s. s.number) w.seat;
   notes = ap (λ s. s.notes) w.seat;
   refused = none ∙ sym (append-nil from.refused);
+  declined = undeclined ∙ sym (append-nil from.declined);
   few = omega arith;
 }
 
 -- a command whose call is entered, and answered as the session's answer says
 pub answers-entered : {user now : ℕ} {command : Command} {slip : Slip} {a b : LinkState} {from to : DeskState} (conn : ℕ)
-    → Wrote user from.seat now conn command slip to.seat → to.refused ≡ from.refused → conn ≡ a.conn
+    → Wrote user from.seat now conn command slip to.seat → to.refused ≡ from.refused → to.declined ≡ from.declined → conn ≡ a.conn
     → (r : Result (Unit {0}) NoMemory)
     → OnOk r (b.session.out ≡ a.session.out ++ render command slip.outcome)
     → OnErr r (b.session.out ≡ a.session.out ++ refusal_of command) → (is_long slip.outcome ≡ false → IsOk r)
-    → b.session.endpoint ≡ a.session.endpoint → b.conn ≡ a.conn → b.gave ≡ a.gave → b.took ≡ a.took
-    → Answers user command a b from to
-answers-entered {user} {command = command} {slip = slip} conn w none same (Ok x) reply undone short at kept gave took = record {
-  move = Did (note user slip.page w.entry) false;
-  answer = render command slip.outcome;
-  calls = record {
-    of = refl;
-    on = w.conn_is ∙ same;
-    does = w.command_is;
-    answers = ap (λ c. render c slip.outcome) (sym w.command_is) ∙ ap (λ s. render w.entry.command s.outcome) w.told;
-    long = λ no. cc;
-  };
-  noted = notes-entered false w none;
-  said = reply;
-  endpoint = at;
-  conn = kept;
-  gave = gave;
-  took = took;
-}
-answers-entered {user} {command = command} {slip = slip} conn w none same (Err e) reply undone short at kept gave took = record {
-  move = Did (note user slip.page w.entry) true;
-  answer = refusal_of command;
-  calls = record {
-    of = refl;
-    on = w.conn_is ∙ same;
-    does = w.command_is;
-    answers = ap refusal_of (sym w.command_is);
-    long = λ yes. ap (λ s. is_long s.outcome) (sym w.told) ∙ not-false (is_long slip.outcome) short;
-  };
-  noted = notes-entered true w none;
-  said = undone;
-  endpoint = at;
-  conn = kept;
-  gave = gave;
-  took = took;
-}
+    → b.session.endpoint ≡ a.session.endpoint → b.conn ≡ a.conn → b.last ≡ number_after a.last slip.number → b.gave ≡ a.gave
+    → b.took ≡ a.took → Answers user command a b from to
+answers-entered {user} {command = command} {slip = slip} {a} conn w none undeclined same (Ok x) reply undone short at kept last gave took =
+    record {
+      move = Did (note user slip.page w.entry) false;
+      answer = render command slip.outcome;
+      calls = record {
+        of = refl;
+        on = w.conn_is ∙ same;
+        does = w.command_is;
+        answers = ap (λ c. render c slip.outcome) (sym w.command_is) ∙ ap (λ s. render w.entry.command s.outcome) w.told;
+        long = λ no. cc;
+      };
+      noted = notes-entered false w none undeclined;
+      said = reply;
+      endpoint = at;
+      conn = kept;
+      gave = gave;
+      took = took;
+      last = last ∙ ap (λ s. number_after a.last s.number) w.told;
+    }
+answers-entered {user} {command = command} {slip = slip} {a} conn w none undeclined same (Err e) reply undone short at kept last gave took =
+    record {
+      move = Did (note user slip.page w.entry) true;
+      answer = refusal_of command;
+      calls = record {
+        of = refl;
+        on = w.conn_is ∙ same;
+        does = w.command_is;
+        answers = ap refusal_of (sym w.command_is);
+        long = λ yes. ap (λ s. is_long s.outcome) (sym w.told) ∙ not-false (is_long slip.outcome) short;
+      };
+      noted = notes-entered true w none undeclined;
+      said = undone;
+      endpoint = at;
+      conn = kept;
+      gave = gave;
+      took = took;
+      last = last ∙ ap (λ s. number_after a.last s.number) w.told;
+    }
 
 -- a command whose call is refused, and answered so
 pub answers-refused : {user : ℕ} {command : Command} {a b : LinkState} {from to : DeskState} (conn : ℕ) (fault : CallFault)
-    → to.seat ≡ from.seat → to.refused ≡ from.refused ++ refusal user conn fault command ∷ [] → conn ≡ a.conn
+    → to.seat ≡ from.seat → to.refused ≡ from.refused ++ refusal user conn fault command ∷ []
+    → to.declined ≡ from.declined → conn ≡ a.conn
     → b.session.out ≡ a.session.out ++ refusal_of command → b.session.endpoint ≡ a.session.endpoint → b.conn ≡ a.conn
-    → b.gave ≡ a.gave → b.took ≡ a.took → Answers user command a b from to
-answers-refused {user} {command} {from = from} conn fault seat refused same said endpoint kept gave took = record {
+    → b.last ≡ a.last → b.gave ≡ a.gave → b.took ≡ a.took → Answers user command a b from to
+answers-refused {user} {command} {from = from} conn fault seat refused undeclined same said endpoint kept last gave took = record {
   move = Undone (refusal user conn fault command);
   answer = refusal_of command;
   calls = record { of = refl; on = same; does = refl; answers = refl };
@@ -461,6 +578,7 @@ answers-refused {user} {command} {from = from} conn fault seat refused same said
     number = ap (λ s. s.number) seat;
     notes = ap (λ s. s.notes) seat ∙ sym (append-nil from.seat.notes);
     refused = refused;
+    declined = undeclined ∙ sym (append-nil from.declined);
     few = omega arith;
   };
   said = said;
@@ -468,4 +586,5 @@ answers-refused {user} {command} {from = from} conn fault seat refused same said
   conn = kept;
   gave = gave;
   took = took;
+  last = last;
 }

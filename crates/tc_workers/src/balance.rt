@@ -1,18 +1,19 @@
 //! The policy by which users whose worker has no time left are served by several.
 //!
 //! It looks, many times a second, at what the workers did, and changes how many of them serve the users
-//! of a home (its width) by trial: a helper comes, the one with the most time, and stays where the users
-//! are sent a tenth more with it; it goes, and stays away where they are sent as much without it. After
-//! a trial that failed the next one waits, longer each time, until the load is another one. A helper
-//! also goes where fewer workers have time enough, or where its own users want its time. Nothing here
-//! is promised: whoever serves a connection, its client is sent the same bytes.
+//! of a home (its width) by trial: the width is doubled, and stays so where the users are sent a twelfth
+//! more with it; it is halved, and stays so where they are sent nearly as much without it. A trial begins
+//! once a load has been the same for some looks, so that its rise is not put down to a helper. After a
+//! trial that failed the next one waits, longer each time, until the load is another one. Helpers also go
+//! where fewer workers have time enough, or where their own users want their time. Nothing here is
+//! promised: whoever serves a connection, its client is sent the same bytes.
 use crate::did::Did;
-use crate::shares::Shares;
+use crate::shares::{Shares, helper_of};
 use std::alloc::{AllocError, Global};
 use std::sync::Arc;
 
-/// A worker that waited for less than so many thousandths of its time has none left.
-const BUSY: u64 = 900;
+/// Workers that waited for less than so many thousandths of their time have little left.
+const BUSY: u64 = 700;
 
 /// One that worked for less than so many thousandths has time to help.
 const FREE: u64 = 500;
@@ -23,45 +24,45 @@ const MOSTLY: u64 = 500;
 /// A helper with no time left is wanted by its own users where they take so many thousandths of it.
 const WANTED: u64 = 200;
 
-/// A worker less would do where the others were busy for less than so many thousandths of their time.
-const SPARE: u64 = 700;
+/// Half the workers would do where they would be busy for less than so many thousandths of their time.
+const SPARE: u64 = 600;
 
-/// After so many looks on end that its workers were full a home's width is changed.
-const PATIENCE: u32 = 2;
+/// After so many looks on end that its workers were full, and much the same was sent, a trial begins.
+const PATIENCE: u32 = 5;
 
 /// So many looks at the beginning of a trial are left out, in which connections move.
-const SETTLING: u32 = 1;
+const SETTLING: u32 = 2;
 
 /// So many looks make a trial.
-const LOOKS: u32 = 4;
+const LOOKS: u32 = 5;
 
-/// After so many looks on end at which fewer workers would do, or its users want it, a helper goes.
+/// After so many looks on end at which half the workers would do, half of them go.
 const SLACK: u32 = 20;
 
+/// After so many looks on end at which their own users want them, half of them go.
 const CROWDED: u32 = 4;
 
-/// After so many looks on end at which much more or much less was sent, the load is another one; but no
-/// more often than this.
+/// After so many looks on end at which much more or much less was sent, the load is another one.
 const CHANGED: u32 = 2;
 
-const LASTING: u32 = 40;
-
 /// After a trial that failed, so many looks pass before the next of its kind: the least and the most.
-const LEAST_REST: u32 = 100;
+const LEAST_REST: u32 = 50;
 
 const MOST_REST: u32 = 3_200;
 
-/// Whether one worker more is tried, or one fewer.
+/// Whether twice as many workers are tried, or half of them.
 #[derive(Clone, Copy, Debug, PartialEq, Eq)]
 enum Way {
     More,
     Fewer,
 }
 
-/// A trial: how many looks are left of it, and what was sent at those made.
+/// A trial: how many workers there were before it, how many looks are left of it, and what was sent at
+/// those made.
 #[derive(Clone, Copy, Debug)]
 struct Trial {
     way: Way,
+    before: usize,
     left: u32,
     sent: u64,
 }
@@ -97,11 +98,11 @@ impl Rest {
 struct Seen {
     /// How many bytes came from its users and went to them.
     sent: u64,
-    /// Its workers have no time left, and its users take it.
+    /// Its workers have little time left, and its users take it.
     is_full: bool,
-    /// One worker less would have time enough.
+    /// Half of its workers would have time enough.
     is_slack: bool,
-    /// Its last helper has no time left, and its own users want it.
+    /// A helper has no time left, and its own users want it.
     is_crowded: bool,
 }
 
@@ -109,6 +110,7 @@ struct Seen {
 #[derive(Clone, Copy, Debug)]
 struct Home {
     width: usize,
+    /// The first helper, counted from the home.
     first: usize,
     trial: Option<Trial>,
     more: Rest,
@@ -118,8 +120,6 @@ struct Home {
     slack: u32,
     crowded: u32,
     changed: u32,
-    /// How many looks pass before a load may be another one again.
-    lasting: u32,
     /// What is sent at a look, smoothed.
     usual: u64,
 }
@@ -136,7 +136,6 @@ impl Home {
             slack: 0,
             crowded: 0,
             changed: 0,
-            lasting: 0,
             usual: 0,
         }
     }
@@ -145,16 +144,16 @@ impl Home {
     fn note(&mut self, seen: Seen) {
         self.more.pass();
         self.fewer.pass();
-        self.lasting = self.lasting.saturating_sub(1);
         self.full = next_count(self.full, seen.is_full);
         self.slack = next_count(self.slack, seen.is_slack);
         self.crowded = next_count(self.crowded, seen.is_crowded);
-        let is_other = self.lasting == 0 && is_another(seen.sent, self.usual);
-        self.changed = next_count(self.changed, is_other);
+        self.changed = next_count(self.changed, is_another(seen.sent, self.usual));
         if self.changed >= CHANGED {
             self.begin_anew(seen.sent);
         } else if self.changed == 0 {
-            self.usual = (self.usual / 2).saturating_add(seen.sent / 2);
+            self.usual = (self.usual / 4)
+                .saturating_mul(3)
+                .saturating_add(seen.sent / 4);
         }
     }
 
@@ -162,28 +161,29 @@ impl Home {
     fn begin_anew(&mut self, sent: u64) {
         self.usual = sent;
         self.changed = 0;
-        self.lasting = LASTING;
+        self.full = 0;
         self.more = Rest::new();
         self.fewer = Rest::new();
     }
 
-    /// The last helper goes.
+    /// Half of the workers go.
     fn narrow(&mut self) {
-        self.width = self.width.saturating_sub(1).max(1);
+        self.width = (self.width / 2).max(1);
         self.slack = 0;
         self.crowded = 0;
         self.full = 0;
     }
 
-    /// The last helper goes since others want it.
-    fn yield_helper(&mut self) {
+    /// Half of the workers go since others want them.
+    fn yield_helpers(&mut self) {
         self.narrow();
         self.more.lengthen();
     }
 
-    fn begin_trial(&mut self, way: Way) {
+    fn begin_trial(&mut self, way: Way, before: usize) {
         self.trial = Some(Trial {
             way,
+            before,
             left: LOOKS + SETTLING,
             sent: 0,
         });
@@ -196,8 +196,8 @@ impl Home {
         self.slack = 0;
         self.crowded = 0;
         let has_failed = match way {
-            Way::More => sent < self.usual.saturating_add(self.usual / 10),
-            Way::Fewer => sent < self.usual.saturating_sub(self.usual / 20),
+            Way::More => sent < self.usual.saturating_add(self.usual / 12),
+            Way::Fewer => sent < self.usual.saturating_sub(self.usual / 24),
         };
         match (way, has_failed) {
             (Way::More, true) | (Way::Fewer, false) => self.more.lengthen(),
@@ -207,6 +207,19 @@ impl Home {
             self.usual = sent;
         }
         has_failed
+    }
+
+    /// One look of a trial, at which so much was sent.
+    fn try_on(&mut self, trial: Trial, sent: u64) {
+        let mut trial = trial;
+        trial.left = trial.left.saturating_sub(1);
+        if trial.left < LOOKS {
+            trial.sent = trial.sent.saturating_add(sent);
+        }
+        self.trial = Some(trial);
+        if trial.left == 0 && self.end_trial(trial.way, trial.sent / u64::from(LOOKS)) {
+            self.width = trial.before;
+        }
     }
 }
 
@@ -239,13 +252,13 @@ impl Balance {
 
     /// The worker at a place among those of a home.
     fn member(&self, own: usize, home: &Home, place: usize) -> usize {
-        if place == 0 {
-            return own;
+        match place.checked_sub(1) {
+            None => own,
+            Some(nth) => helper_of(own, home.first, nth, self.homes.len()),
         }
-        home.first.wrapping_add(place - 1) % self.homes.len().max(1)
     }
 
-    /// Whether a home's workers have no time left, and its users take it.
+    /// Whether a home's workers have little time left, and its users take it.
     fn is_full(&self, did: &Did, own: usize, home: &Home) -> bool {
         for place in 0..home.width {
             if did.busy(self.member(own, home, place)) < BUSY {
@@ -255,51 +268,65 @@ impl Balance {
         did.load(own) >= MOSTLY.saturating_mul(home.width as u64)
     }
 
-    /// Whether a home's last helper has no time left, and its own users want it.
+    /// Whether a helper of a home has no time left, and its own users want it.
     fn is_crowded(&self, did: &Did, own: usize, home: &Home) -> bool {
-        if home.width <= 1 {
-            return false;
+        for place in 1..home.width {
+            let helper = self.member(own, home, place);
+            if did.busy(helper) >= BUSY && did.load_on(helper, helper) >= WANTED {
+                return true;
+            }
         }
-        let helper = self.member(own, home, home.width - 1);
-        did.busy(helper) >= BUSY && did.load_on(helper, helper) >= WANTED
+        false
     }
 
     /// What a look shows of a home.
     fn see(&self, did: &Did, own: usize, home: &Home) -> Seen {
-        let fewer = (home.width as u64).saturating_sub(1);
+        let half = home.width as u64 / 2;
         Seen {
             sent: did.bytes(own),
             is_full: self.is_full(did, own, home),
-            is_slack: did.load(own) < fewer.saturating_mul(SPARE),
+            is_slack: did.load(own) < half.saturating_mul(SPARE),
             is_crowded: self.is_crowded(did, own, home),
         }
     }
 
-    /// The first helper of a home that is to have one more, where the next has time: the first is any,
-    /// and the others follow it.
-    fn next_helper(&self, did: &Did, own: usize, home: &Home) -> Option<usize> {
-        if home.width == 1 {
-            return self.most_free(did, own);
-        }
-        let next = self.member(own, home, home.width);
-        if home.width >= self.homes.len() || next == own || did.busy(next) >= FREE {
-            return None;
-        }
-        Some(home.first)
+    /// Whether a worker has time to help, which its own users leave it.
+    fn is_free(&self, did: &Did, worker: usize) -> bool {
+        did.busy(worker) < FREE && did.load_on(worker, worker) < WANTED
     }
 
-    /// The worker other than this one with the most time, where one has time to help.
+    /// The first helper of a home, counted from it: the worker with the most time, where one has time to
+    /// help.
     fn most_free(&self, did: &Did, own: usize) -> Option<usize> {
         let mut best = None;
         let mut least = FREE;
-        for at in 0..self.homes.len() {
-            let busy = did.busy(at);
-            if at != own && busy < least {
-                least = busy;
-                best = Some(at);
+        for first in 0..self.homes.len().saturating_sub(1) {
+            let worker = helper_of(own, first, 0, self.homes.len());
+            if self.is_free(did, worker) && did.busy(worker) < least {
+                least = did.busy(worker);
+                best = Some(first);
             }
         }
         best
+    }
+
+    /// The home with twice its workers, or all there are, where those that come have time to help.
+    fn doubled(&self, did: &Did, own: usize, home: &Home) -> Option<Home> {
+        let mut wider = *home;
+        wider.width = home.width.saturating_mul(2).min(self.homes.len());
+        if home.width == 1 {
+            wider.first = self.most_free(did, own)?;
+        }
+        for place in home.width..wider.width {
+            if !self.is_free(did, self.member(own, &wider, place)) {
+                return None;
+            }
+        }
+        if wider.width > home.width {
+            Some(wider)
+        } else {
+            None
+        }
     }
 
     /// Decides for one home.
@@ -311,7 +338,7 @@ impl Balance {
         let width = home.width;
         let seen = self.see(did, own, &home);
         match home.trial {
-            Some(trial) => try_on(&mut home, trial, seen.sent),
+            Some(trial) => home.try_on(trial, seen.sent),
             None => self.settle(did, own, &mut home, seen),
         }
         if home.width != width {
@@ -328,8 +355,8 @@ impl Balance {
         if home.slack >= SLACK {
             home.narrow();
         } else if home.crowded >= CROWDED {
-            home.yield_helper();
-        } else if home.full >= PATIENCE {
+            home.yield_helpers();
+        } else if home.full >= PATIENCE && home.changed == 0 {
             self.begin(did, own, home);
         }
     }
@@ -344,33 +371,16 @@ impl Balance {
         if self.is_trying() {
             return;
         }
-        if home.width > 1 && home.fewer.left == 0 {
-            home.begin_trial(Way::Fewer);
+        let before = home.width;
+        if before > 1 && home.fewer.left == 0 {
             home.narrow();
+            home.begin_trial(Way::Fewer, before);
         } else if home.more.left == 0
-            && let Some(first) = self.next_helper(did, own, home)
+            && let Some(wider) = self.doubled(did, own, home)
         {
-            home.begin_trial(Way::More);
-            home.first = first;
-            home.width = home.width.saturating_add(1);
+            *home = wider;
+            home.begin_trial(Way::More, before);
         }
-    }
-}
-
-/// One look of a trial.
-fn try_on(home: &mut Home, trial: Trial, sent: u64) {
-    let mut trial = trial;
-    trial.left = trial.left.saturating_sub(1);
-    if trial.left < LOOKS {
-        trial.sent = trial.sent.saturating_add(sent);
-    }
-    home.trial = Some(trial);
-    if trial.left > 0 || !home.end_trial(trial.way, trial.sent / u64::from(LOOKS)) {
-        return;
-    }
-    match trial.way {
-        Way::More => home.narrow(),
-        Way::Fewer => home.width = home.width.saturating_add(1),
     }
 }
 

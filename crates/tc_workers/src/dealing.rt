@@ -5,10 +5,19 @@
 //! users have something to do, those of one that owes a share or more are left out of a turn. A user
 //! with whom nobody waits owes nothing when its turn begins, and its turn ends after some shares, so
 //! that who comes is soon seen.
-ghost use Rattle.std.specs.Prelude.{◌≡◌, ◌<◌, ◌↔◌, IsTrue, IfSome, slice_set};
-ghost use Rattle.tc_workers.specs.Dealing.{idle, paid_at, charged, account_of};
+//!
+//! The first time that a user comes in a second of the clock, its cache is maintained, a piece of work
+//! that the user owes as any other. While more is left its connections are left out, too.
+//!
+//! What waits to be sent to a user's connections is summed. Where it comes to more than the user may have,
+//! each of them with more than a few bytes that wait is full: it reads nothing and does no request.
+ghost use Rattle.std.specs.Prelude.{◌≡◌, ◌≢◌, ◌<◌, ◌↔◌, ◌+◌, ◌-◌, ◌^◌, ◌≤◌, min, IsTrue, IfSome, slice_set};
+ghost use Rattle.tc_workers.specs.Dealing.{idle, paid_at, charged, after_progress, account_of};
+ghost use Rattle.tc_workers.specs.Dealing.{least_out, most_out, with_backlog, without_backlog};
 
 use std::alloc::Global;
+use tc_item::Moment;
+use tc_plain::Progress;
 
 /// What a turn pays each user, in quarters of a microsecond: half a millisecond.
 pub(crate) const SHARE: u64 = 2_000;
@@ -16,24 +25,59 @@ pub(crate) const SHARE: u64 = 2_000;
 /// The most that is done in a turn of one user alone.
 const ALONE: u64 = 8_000;
 
-/// What a user did that no share has paid.
+/// How many pieces of deferred work are done at a time before a user is served in a new second.
+pub(crate) const PIECES: u32 = 2_048;
+
+/// What so many cost: a third of a microsecond each.
+const PIECES_COST: u64 = 2_730;
+
+/// With more bytes that wait to be sent to it, a connection reads nothing and does no request.
+const MOST_OUT: usize = 1_048_576;
+
+/// A connection to which no more wait is never full.
+pub(crate) const LEAST_OUT: usize = 16_384;
+
+/// How many bytes may wait to be sent to all connections of a user before those with more are full.
+const MOST_OF_USER: usize = 8_388_608;
+
+/// How many bytes wait to be sent to a connection, and whose it is.
+#[derive(Clone, Copy, Debug)]
+pub(crate) struct Backlog {
+    pub(crate) user: usize,
+    pub(crate) bytes: usize,
+}
+
+/// What a user did that no share has paid, how far its cache is maintained, and what waits for it.
 #[derive(Clone, Copy, Debug)]
 struct Account {
     owed: u64,
     /// The turn whose share was paid last.
     paid: u64,
+    /// The moment at which nothing of its cache's deferred work was left.
+    kept_up: Moment,
+    /// How many bytes wait to be sent to its connections.
+    backlog: usize,
 }
 
 impl Account {
     /// Of a user who did nothing before this turn.
     fn new(turn: u64) -> Account
-        ensures owed { result.owed ≡ 0 }
-        ensures paid { result.paid ≡ turn }
+        ensures { result ≡ record idle { paid = turn } }
     {
         Account {
             owed: 0,
             paid: turn,
+            kept_up: Moment::FIRST,
+            backlog: 0,
         }
+    }
+
+    /// Owes nothing from this turn on.
+    fn forgive(&mut self, turn: u64)
+        ensures { self.new ≡ record self.old { owed = 0; paid = turn } }
+    {
+        self.owed = 0;
+        self.paid = turn;
     }
 
     /// Pays a share for each turn since the last that was paid. Nothing is saved up.
@@ -50,6 +94,43 @@ impl Account {
         ensures { self.new ≡ charged work self.old }
     {
         self.owed = self.owed.saturating_add(work);
+    }
+
+    /// Notes how far maintenance at a moment came. Where more is left, what was done is owed.
+    fn note(&mut self, now: Moment, progress: Progress)
+        ensures { self.new ≡ after_progress now progress self.old }
+    {
+        match progress {
+            Progress::Done => self.kept_up = now,
+            Progress::MoreLeft => self.charge(PIECES_COST),
+        }
+    }
+
+    /// So many bytes more wait.
+    fn add(&mut self, bytes: usize)
+        ensures { self.new ≡ record self.old {
+          backlog = min (self.old.backlog + bytes) (2 ^ 64 - 1);
+        } }
+    {
+        self.backlog = self.backlog.saturating_add(bytes);
+    }
+
+    /// So many bytes wait no more.
+    fn take_off(&mut self, bytes: usize)
+        ensures { self.new ≡ record self.old { backlog = self.old.backlog - bytes } }
+    {
+        self.backlog = self.backlog.saturating_sub(bytes);
+    }
+
+    /// With how many bytes that wait a connection is not full yet, for which so many wait.
+    fn most_out(&self, own: usize) -> usize
+        ensures { result ≡ most_out self.now.backlog own }
+    {
+        let others = self.backlog.saturating_sub(own);
+        MOST_OF_USER
+            .saturating_sub(others)
+            .max(LEAST_OUT)
+            .min(MOST_OUT)
     }
 
     /// Whether less is owed than may be.
@@ -105,7 +186,7 @@ impl Dealing {
     {
         self.most = ALONE;
         if let Some(account) = self.accounts.get_mut(user) {
-            *account = Account::new(self.turn);
+            account.forgive(self.turn);
         }
     }
 
@@ -132,6 +213,71 @@ impl Dealing {
             }
             None => true,
         }
+    }
+
+    /// Whether a user's cache may have deferred work left at this moment.
+    pub(crate) fn is_behind(&self, user: usize, now: Moment) -> bool
+        ensures { IsTrue result → (account_of self.now.accounts.items user).kept_up ≢ now }
+    {
+        match self.accounts.get(user) {
+            Some(account) => account.kept_up != now,
+            None => false,
+        }
+    }
+
+    /// Notes how far maintenance of a user's cache came at this moment.
+    pub(crate) fn note_progress(&mut self, user: usize, now: Moment, progress: Progress)
+        ensures { self.new.accounts.items ≡ slice_set self.old.accounts.items user
+            (after_progress now progress (account_of self.old.accounts.items user)) }
+    {
+        if let Some(account) = self.accounts.get_mut(user) {
+            account.note(now, progress);
+        }
+    }
+
+    /// With how many bytes that wait to be sent this connection is not full yet.
+    pub(crate) fn most_out(&self, backlog: Backlog) -> usize
+        ensures most { result
+            ≡ most_out (account_of self.now.accounts.items backlog.user).backlog backlog.bytes }
+        ensures least { least_out ≤ result }
+    {
+        match self.accounts.get(backlog.user) {
+            Some(account) => account.most_out(backlog.bytes),
+            None => MOST_OUT,
+        }
+    }
+
+    /// A connection came.
+    pub(crate) fn enter(&mut self, backlog: Backlog) {
+        self.open(backlog.user);
+        self.add(backlog);
+    }
+
+    /// So much more waits.
+    fn add(&mut self, backlog: Backlog)
+        ensures { self.new.accounts.items ≡ with_backlog backlog self.old.accounts.items }
+    {
+        if let Some(account) = self.accounts.get_mut(backlog.user) {
+            account.add(backlog.bytes);
+        }
+    }
+
+    /// A connection goes.
+    pub(crate) fn leave(&mut self, backlog: Backlog)
+        ensures { self.new.accounts.items ≡ without_backlog backlog self.old.accounts.items }
+    {
+        if let Some(account) = self.accounts.get_mut(backlog.user) {
+            account.take_off(backlog.bytes);
+        }
+    }
+
+    /// What waits for a connection was so much, and is so much now.
+    pub(crate) fn note_backlog(&mut self, before: Backlog, after: Backlog)
+        ensures { self.new.accounts.items
+            ≡ with_backlog after (without_backlog before self.old.accounts.items) }
+    {
+        self.leave(before);
+        self.add(after);
     }
 
     /// Notes what was done for a user.

@@ -3,12 +3,15 @@ ghost use Rattle.std.specs.Prelude.{◌≡◌, []};
 
 use std::marker::Model;
 use tc_locked::{Naming, Refusals, Seat};
+use tc_session::Declined;
 
-/// A seat of the hall N, and the calls that the hall refused it, seen as both.
+/// A seat of the hall N, the calls that the hall refused it, and the requests that were declined, seen as
+/// these.
 #[derive(Drop)]
 pub(crate) struct Desk<N: Naming> {
     pub(crate) seat: Seat<N>,
     pub(crate) refusals: Refusals<N>,
+    pub(crate) declined: Declined,
 }
 
 impl<N: Naming> Model for Desk<N> {
@@ -16,17 +19,18 @@ impl<N: Naming> Model for Desk<N> {
 
     ghost Value = { DeskState };
 
-    ghost view = { λ d. record { seat = d.seat; refused = d.refusals } };
+    ghost view = { λ d. record { seat = d.seat; refused = d.refusals; declined = d.declined } };
 }
 
 impl<N: Naming> Desk<N> {
-    /// A desk at which no call was refused.
+    /// A desk at which no call was refused, and no request declined.
     pub(crate) fn new(seat: Seat<N>) -> Desk<N>
-        ensures { result ≡ record { seat = seat; refused = [] } }
+        ensures { result ≡ record { seat = seat; refused = []; declined = [] } }
     {
         Desk {
             seat,
             refusals: Refusals::new(),
+            declined: Declined::new(),
         }
     }
 
@@ -34,7 +38,11 @@ impl<N: Naming> Desk<N> {
     pub(crate) fn into_seat(self) -> Seat<N>
         ensures { result ≡ self.seat }
     {
-        let Desk { seat, refusals: _ } = self;
+        let Desk {
+            seat,
+            refusals: _,
+            declined: _,
+        } = self;
         seat
     }
 }

@@ -1,8 +1,7 @@
 //! What a worker's turns, and all that happens between them, leave true of its connections.
 ghost use Rattle.tc_workers.specs.Staying.{TurnKeepsOpen, OpeningKeepsOpen, TakingKeepsOpen};
 ghost use Rattle.tc_workers.specs.Staying.{PassingKeepsOpen, DroppingKeepsOpen};
-ghost use Rattle.tc_workers.specs.Answering.{TurnKeepsNoted, TakingKeepsNoted};
-ghost use Rattle.tc_workers.specs.Answering.{PassingKeepsNoted, DroppingKeepsNoted, NotedIsAnswered};
+ghost use Rattle.tc_workers.specs.Answering.{CrewAnswers};
 
 /// While all turns are by one table of users, each connection goes on and was served by that table
 /// alone, so that it is a talk since it was opened (`Talk::is_talk`). One that is taken over has to be so
@@ -15,13 +14,11 @@ pub fn staying_open()
     ensures dropping { DroppingKeepsOpen }
 {}
 
-/// A worker's connections are told what their users' books say, each call once and in its order: since
-/// a connection came to the worker, its calls stand in the notes of the worker's seat; and once the hall
-/// is closed, those of a user stand in the user's book.
+/// A crew's connections are told what their users' books say. In a crew to which no connection had come,
+/// whatever befell its workers, turn by turn by one table of users: once the hall is closed, the calls
+/// that a connection made since it was opened stand in its user's book, each once and in the order in
+/// which it made them, whichever workers served it. A connection that comes to a worker from another one
+/// has to come as it left that.
 pub fn answering()
-    ensures turn { TurnKeepsNoted }
-    ensures taking { TakingKeepsNoted }
-    ensures passing { PassingKeepsNoted }
-    ensures dropping { DroppingKeepsNoted }
-    ensures answered { NotedIsAnswered }
+    ensures { CrewAnswers }
 {}

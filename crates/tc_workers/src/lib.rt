@@ -6,14 +6,17 @@
 //! writes at once. Then each writes until its wire takes no more, and where nothing is left to do it
 //! looks at the wire once more. A turn is dealt out by user (`dealing.rt`): where several users'
 //! connections have something to do, those of one who did more than its share are left out, and go first
-//! in the next. A connection whose wire answered that nothing can be done is left out of the turns until
-//! the worker's `Inlet` names it. Where each user has a worker (`Homes`), a connection is passed on to it
-//! after the turn of its login. A `Keeper` does the deferred work of one user after another; its thread
-//! also asks a `Source` for the moment, which may look at the hall by a seat of its own. `run_crew` gives
-//! each worker a thread and the keeper one, and hands all seats and the source back.
+//! in the next. So are those of a user of whose items many are due in a new second: they are taken out in
+//! pieces, one a turn, before that user is served. A connection whose wire answered that nothing can be
+//! done is left out of the turns until the worker's `Inlet` names it. Where each user has a worker
+//! (`Homes`), a connection is passed on to it after the turn of its login. A `Keeper` does the deferred
+//! work of one user after another; its thread also asks a `Source` for the moment, which may look at the
+//! hall by a seat of its own. `run_crew` gives each worker a thread and the keeper one, and hands all seats
+//! and the source back.
 //!
 //! What a worker does on a connection is a list of moves (`specs/Talks.antt`): bytes came, a request was
-//! asked for, a command was called and answered, its peer ended. Callers see a connection as a
+//! asked for, a command was called and answered, or declined where memory was refused to read it, its
+//! peer ended. Callers see a connection as a
 //! `LinkState`; `Link::take_in` and `Link::give_out` say which moves lead from one to the next, what is
 //! said at them, which calls the seat notes for them and which the hall refused. A turn is a list of
 //! visits of connections (`specs/Turns.antt`; `Worker::turn` `serves`), each by such moves; one to whose
@@ -23,17 +26,17 @@
 //!
 //! A worker keeps a link as a `Talk`, whose invariant is that the link is whole since it was opened
 //! (`specs/Lives.antt`). Two laws say what all turns come to: each connection of a worker is such a talk
-//! (`staying_open`), and since it came its calls stand in its seat's notes and in its user's book, each
-//! once and in order (`answering`, `specs/Answering.antt`).
+//! (`staying_open`), and since it was opened its calls stand in its user's book, each once and in order,
+//! whichever workers of a crew served it (`answering`, `specs/Crewing.antt`, `specs/Answering.antt`).
 //!
 //! What a wire may answer is `specs/Wires.antt`. One that knows what bytes it gave and took says so; of
 //! one that knows none, as a socket, nothing is said of bytes.
 //!
-//! No clause says that a worker gets the connection that another passed on, in which order the calls
-//! stand of one that two workers served, that a hall refuses only for want of memory, that a thread gets
-//! on, or that memory suffices.
+//! No clause says that a worker gets the connection that another passed on, that a hall refuses only for
+//! want of memory, that a thread gets on, or that memory suffices.
 #![tactic(auto)]
 
+mod admitted;
 mod balance;
 mod crew;
 mod dealing;
@@ -46,6 +49,7 @@ mod keeper;
 mod laws;
 mod link;
 mod listed;
+mod order;
 mod pace;
 mod service;
 mod shares;

@@ -1,6 +1,6 @@
 //! One connection of a worker.
 ghost use Rattle.std.specs.Prelude.{◌≡◌, ◌≢◌, ◌≤◌, ℕ, List, [], true, false, length};
-ghost use Rattle.std.specs.Prelude.{OnSome, IfNone, IsSome};
+ghost use Rattle.std.specs.Prelude.{OnSome, IfNone, Some, IsSome};
 ghost use Rattle.tc_model.specs.Connection.{is_closed, new_endpoint, with_piece};
 ghost use Rattle.tc_grammar.specs.declared.command.Command.TheVariants.{Quit};
 ghost use Rattle.tc_session.specs.TextProtocol.{text_protocol};
@@ -8,11 +8,13 @@ ghost use Rattle.tc_session.specs.SessionView.{reply_room};
 ghost use Rattle.tc_workers.specs.Talks.{Talks, Carries, Answers};
 ghost use Rattle.tc_workers.specs.Turns.{longest_piece, most_kept};
 
-use crate::dealing::SHARE;
+use crate::admitted::Admitted;
+use crate::dealing::{Backlog, SHARE};
 use crate::desk::Desk;
 use crate::gate::{Gate, Place};
 use crate::guesses::Guesses;
 use crate::homes::Homes;
+use crate::order::number_after;
 use crate::pace::{Onward, Pace};
 use crate::service::Service;
 use crate::wire::{Change, Got, Put, Remark, Wire};
@@ -22,7 +24,7 @@ use std::marker::Model;
 use std::sync::Wait;
 use tc_grammar::Command;
 use tc_item::Moment;
-use tc_locked::Naming;
+use tc_locked::{Clock, Naming};
 use tc_plain::Cache;
 use tc_session::{News, Session, Want};
 use tc_users::UserNo;
@@ -36,9 +38,6 @@ const REQUESTS: u32 = 16;
 /// The first byte of a connection that speaks the binary protocol (doc/protocol-binary.txt).
 const BINARY: u8 = 0x80;
 
-/// With more bytes that wait to be sent, nothing is read and no request is done.
-const MOST_OUT: usize = 1_048_576;
-
 /// Once a wire took so many bytes in half a turn, it takes no more before the other connections went on.
 const MOST_TAKEN: usize = 524_288;
 
@@ -47,7 +46,7 @@ const MOST_TAKEN: usize = 524_288;
 const EARLY_OUT: usize = 16_384;
 
 /// A connection: its wire, and what came on it. Contracts see its number, its session, whether no whole
-/// request of it is unread, and what bytes its wire gave and took.
+/// request of it is unread, what bytes its wire gave and took, and the number of its latest entry.
 #[derive(Drop)]
 pub(crate) struct Link<W: Wire + Drop> {
     pub(crate) conn: u32,
@@ -55,7 +54,7 @@ pub(crate) struct Link<W: Wire + Drop> {
     session: Session,
     /// No request was asked for yet, or the last one that was asked for isn't whole.
     rests: bool,
-    /// When memory was refused to a look for a request, where it was refused to each since then.
+    /// When memory was refused to the last look for a request, where it was refused to each since then.
     refused: Option<Moment>,
     /// Its inlet names it when its wire may be read or written again.
     is_watched: bool,
@@ -63,6 +62,8 @@ pub(crate) struct Link<W: Wire + Drop> {
     is_listed: bool,
     /// How far its turn came.
     pace: Pace,
+    /// As whom and when it was admitted to its turn.
+    admitted: Admitted,
     /// Its wire was told whose it is.
     is_told: bool,
     /// No byte came yet.
@@ -73,6 +74,11 @@ pub(crate) struct Link<W: Wire + Drop> {
     guesses: Guesses,
     /// What was done in this half of its turn.
     work: Work,
+    /// The number in its book of its latest call's entry, 0 before the first; none once one was not above
+    /// the one before it. A book numbers its entries upwards, and a connection is one user's for good, so
+    /// that is never seen: what is asked here takes the place of a proof that two workers' calls for one
+    /// connection are entered in order.
+    last: Option<u64>,
 }
 
 impl<W: Wire + Drop> Model for Link<W> {
@@ -89,6 +95,7 @@ impl<W: Wire + Drop> Model for Link<W> {
       rests = l.rests;
       gave = W.gave l.wire;
       took = W.took l.wire;
+      last = l.last;
     } };
 
     ghost invariant = { λ l. (length l.session.endpoint.reader.unread ≤ most_kept)
@@ -103,6 +110,7 @@ impl<W: Wire + Drop> Link<W> {
         ensures out { result.session.out ≡ [] }
         ensures gave { result.gave ≡ W.gave wire }
         ensures took { result.took ≡ W.took wire }
+        ensures last { result.last ≡ Some 0 }
     {
         Link {
             conn,
@@ -113,11 +121,13 @@ impl<W: Wire + Drop> Link<W> {
             is_watched: false,
             is_listed: true,
             pace: Pace::Rests,
+            admitted: Admitted::not_yet(),
             is_told: false,
             is_new: true,
             is_binary: false,
             guesses: Guesses::none(),
             work: Work::none(),
+            last: Some(0),
         }
     }
 
@@ -132,11 +142,13 @@ impl<W: Wire + Drop> Link<W> {
             is_watched: _,
             is_listed: _,
             pace: _,
+            admitted: _,
             is_told: _,
             is_new: _,
             is_binary: _,
             guesses: _,
             work: _,
+            last: _,
         } = self;
         wire
     }
@@ -190,6 +202,21 @@ impl<W: Wire + Drop> Link<W> {
         }
     }
 
+    /// Is admitted to a turn.
+    pub(crate) fn admit(&mut self, admitted: Admitted)
+        ensures { self.new ≡ self.old }
+    {
+        self.admitted = admitted;
+    }
+
+    /// How many bytes wait to be sent to it, and whose it is for the deal.
+    pub(crate) fn backlog(&self) -> Backlog {
+        Backlog {
+            user: self.user(),
+            bytes: self.session.out_len(),
+        }
+    }
+
     /// What was done in the last half of a turn.
     pub(crate) fn work(&self) -> u64 {
         self.work.units()
@@ -213,6 +240,7 @@ impl<W: Wire + Drop> Link<W> {
         ensures moved { (sent lost : List ℕ)
             × Talks 16 service.now.users.now sent lost self.old self.new desk.old desk.new
             × (result ≡ true → lost ≡ []) }
+        ensures ordered { result ≡ true → IsSome self.old.last → IsSome self.new.last }
     {
         self.work = Work::none();
         if self.guesses.waits() {
@@ -232,6 +260,7 @@ impl<W: Wire + Drop> Link<W> {
         ensures moved { (sent lost : List ℕ)
             × Talks 16 service.now.users.now sent lost self.old self.new desk.old desk.new
             × (result ≡ true → lost ≡ []) }
+        ensures ordered { result ≡ true → IsSome self.old.last → IsSome self.new.last }
     {
         let Some(came) = self.read(buffer) else {
             self.tell_binary(service.rt);
@@ -240,7 +269,17 @@ impl<W: Wire + Drop> Link<W> {
         let served = self.serve(service, desk);
         self.tell(service);
         self.pace = came.and(served);
+        if !self.is_ordered() {
+            return false;
+        }
         self.keeps_out() || self.send()
+    }
+
+    /// Whether its calls were entered in the order in which it made them.
+    fn is_ordered(&self) -> bool
+        ensures { result ≡ true → IsSome self.now.last }
+    {
+        self.last.is_some()
     }
 
     /// Whether what waits to be sent is kept for the second half of the turn.
@@ -317,7 +356,7 @@ impl<W: Wire + Drop> Link<W> {
 
     /// Whether so much waits to be sent that its client is to read first.
     fn is_full(&self) -> bool {
-        self.session.out_len() > MOST_OUT
+        self.session.out_len() > self.admitted.most_out
     }
 
     /// Reads once, where all that came is read and little waits to be sent; `None` where it is over.
@@ -358,6 +397,7 @@ impl<W: Wire + Drop> Link<W> {
         ensures conn { self.new.conn ≡ self.old.conn }
         ensures gave { self.new.gave ≡ self.old.gave }
         ensures took { self.new.took ≡ self.old.took }
+        ensures last { self.new.last ≡ self.old.last }
     {
         self.is_binary = self.is_new && piece.first() == Some(&BINARY);
         if self.is_binary || self.session.push(piece).is_err() {
@@ -368,8 +408,8 @@ impl<W: Wire + Drop> Link<W> {
         Some(Pace::GetsOn)
     }
 
-    /// Does requests until none is whole, many were done, much was done, much waits to be sent, or a
-    /// reply waits.
+    /// Does requests until none is whole, many were done, much was done, much waits to be sent, a reply
+    /// waits, or it is to be admitted anew. The first is done in any case, so that it gets on.
     fn serve<R: Wait, C: Cache, N: Naming, G: Gate>(
         &mut self,
         service: &Service<'_, R, C, N, G>,
@@ -380,6 +420,9 @@ impl<W: Wire + Drop> Link<W> {
         let mut pace = Pace::Rests;
         for _ in 0..REQUESTS {
             if self.rests || self.session.is_closed() || self.is_full() || self.pauses() {
+                return pace;
+            }
+            if pace == Pace::GetsOn && self.is_to_be_admitted(service.clock) {
                 return pace;
             }
             if !self.ask(service, desk) {
@@ -395,7 +438,15 @@ impl<W: Wire + Drop> Link<W> {
         self.work.units() >= SHARE || self.guesses.waits()
     }
 
-    /// Asks for one request, and does it. Whether memory sufficed to ask.
+    /// Whether what is unread is for another turn: since it was admitted it has logged in, or the clock
+    /// went on.
+    fn is_to_be_admitted(&self, clock: &Clock) -> bool {
+        let Admitted { user, now, .. } = self.admitted;
+        self.session.kept() > 0 && (self.user() != user || clock.now() != now)
+    }
+
+    /// Asks for one request, and does it; a command to which memory is refused twice is declined. Whether
+    /// memory sufficed to ask, or to say so.
     fn ask<R: Wait, C: Cache, N: Naming, G: Gate>(
         &mut self,
         service: &Service<'_, R, C, N, G>,
@@ -405,19 +456,35 @@ impl<W: Wire + Drop> Link<W> {
         ensures moved { Talks 1 service.now.users.now [] [] self.old self.new desk.old desk.new }
     {
         let kept = self.session.kept();
-        let Ok(want) = self.session.next(service.alloc, service.users) else {
-            if self.refused.is_none() {
-                self.refused = Some(service.clock.now());
-            }
+        // Memory may be there in the next turn; a client is not to wait for it any longer.
+        let is_retry = self.refused.is_some();
+        let Ok(asked) = self
+            .session
+            .ask(service.alloc, service.users, is_retry, &mut desk.declined)
+        else {
+            self.note_refusal(service.clock.now());
             return false;
         };
         self.refused = None;
+        let Some(want) = asked else {
+            self.note_answer(service, kept);
+            return true;
+        };
         match want {
             Want::Nothing => self.rests = true,
             Want::Said | Want::Close => self.note_answer(service, kept),
             Want::Call(user, command) => self.call(service, desk, user, &command),
         }
         true
+    }
+
+    /// Notes since when memory is refused to its requests.
+    fn note_refusal(&mut self, now: Moment)
+        ensures { self.new ≡ self.old }
+    {
+        if self.refused.is_none() {
+            self.refused = Some(now);
+        }
     }
 
     /// Notes that a request was answered that calls no command, before which so many bytes were unread.
@@ -488,7 +555,7 @@ impl<W: Wire + Drop> Link<W> {
             &mut desk.seat,
             &mut desk.refusals,
             user,
-            service.clock.now(),
+            self.admitted.now,
             self.conn,
             command,
             || gate.pass(user, Place::Held),
@@ -503,6 +570,7 @@ impl<W: Wire + Drop> Link<W> {
         };
         // A reply that was refused says so itself.
         let _ = self.session.answer(command, &receipt.slip.outcome);
+        self.last = number_after(self.last, receipt.slip.number);
         drop(receipt);
     }
 

@@ -7,12 +7,20 @@ use std::sync::atomic::Ordering::SeqCst;
 /// spread over 2^32 places.
 const GOLDEN: u32 = 2_654_435_769;
 
+/// The nth helper of a home, of so many workers: the others in the order of their numbers, from the home
+/// on, beginning with the one that is its first.
+pub(crate) fn helper_of(home: usize, first: usize, nth: usize, workers: usize) -> usize {
+    let others = workers.saturating_sub(1).max(1);
+    let place = first.wrapping_add(nth) % others;
+    home.wrapping_add(place).wrapping_add(1) % workers.max(1)
+}
+
 /// The workers that serve the users of one home.
 #[derive(Drop)]
 struct Share {
     /// How many workers: the home and its helpers.
     width: AtomicU64,
-    /// The first helper; the others follow it.
+    /// The first helper, counted from the home; the others follow it.
     first: AtomicU64,
 }
 
@@ -36,7 +44,7 @@ impl Shares {
         Ok(Shares { shares })
     }
 
-    /// From now on a home has so many workers: itself, and helpers from `first` on.
+    /// From now on a home has so many workers: itself, and helpers from `first` on, counted from it.
     pub fn set(&self, home: usize, width: usize, first: usize) {
         if let Some(share) = self.shares.get(home) {
             share.first.store(first as u64, SeqCst);
@@ -44,12 +52,13 @@ impl Shares {
         }
     }
 
-    /// Which of a home's helpers serves a connection, from 0; `None` where the home itself does.
+    /// Which helper of a home serves a connection; `None` where the home itself does.
     pub(crate) fn helper(&self, home: usize, conn: u32) -> Option<usize> {
         let share = self.shares.get(home)?;
         let width = share.width.load(SeqCst).min(u64::from(u32::MAX));
         let place = u64::from(conn.wrapping_mul(GOLDEN)).wrapping_mul(width) >> 32;
         let nth = place.checked_sub(1)?;
-        Some(share.first.load(SeqCst).wrapping_add(nth) as usize)
+        let first = share.first.load(SeqCst) as usize;
+        Some(helper_of(home, first, nth as usize, self.shares.len()))
     }
 }

@@ -5,6 +5,8 @@ ghost use Rattle.tc_workers.specs.Talks.{Talks, Carries};
 ghost use Rattle.tc_workers.specs.Lives.{IsOpened, IsOpen, HasTalk};
 ghost use Rattle.tc_workers.specs.Turns.{most_kept};
 
+use crate::admitted::Admitted;
+use crate::dealing::Backlog;
 use crate::desk::Desk;
 use crate::gate::Gate;
 use crate::homes::Homes;
@@ -119,6 +121,18 @@ impl<W: Wire + Drop> Talk<W> {
     /// Whose it is for the deal of a turn (`Link::user`).
     pub(crate) fn user(&self) -> usize {
         self.link.user()
+    }
+
+    /// Is admitted to a turn.
+    pub(crate) fn admit(&mut self, admitted: Admitted)
+        ensures { self.new ≡ self.old }
+    {
+        self.link.admit(admitted);
+    }
+
+    /// How many bytes wait to be sent to it, and whose it is for the deal.
+    pub(crate) fn backlog(&self) -> Backlog {
+        self.link.backlog()
     }
 
     /// What was done in the last half of a turn.

@@ -99,7 +99,9 @@ fn perform<C: Cache>(
 ) -> Result<(), NoMemory> {
     match deed {
         Deed::Does(line, times) => repeat(rt, alloc, cache, line, times)?,
-        Deed::Maintains(limit) => cache.maintain(at(1_000), limit),
+        Deed::Maintains(limit) => {
+            cache.maintain(at(1_000), limit);
+        }
     }
     Ok(())
 }

@@ -58,6 +58,48 @@ const REQUESTS: [&str; 12] = [
     VERSION,
 ];
 
+const COMMAND: &str = "Command { quiet: false }";
+
+const QUIET_COMMAND: &str = "Command { quiet: true }";
+
+/// What is passed over of the stream.
+const PASSED: [&str; 12] = [
+    COMMAND,
+    COMMAND,
+    BAD_CHUNK,
+    UNKNOWN,
+    "Refused { fault: BadChunk, quiet: true }",
+    TOO_LARGE,
+    "Refused { fault: TooLarge, quiet: true }",
+    BAD_FORMAT,
+    COMMAND,
+    UNKNOWN,
+    COMMAND,
+    COMMAND,
+];
+
+/// What is passed over of single lines.
+const LINES: [(&str, &str); 18] = [
+    ("get a b c\r\n", COMMAND),
+    ("get a noreply\r\n", COMMAND),
+    ("gets a\x7f\r\n", BAD_FORMAT),
+    ("get\r\n", BAD_FORMAT),
+    ("gat 5 a b\r\n", COMMAND),
+    ("gats x a\r\n", BAD_FORMAT),
+    ("delete a 0 noreply\r\n", QUIET_COMMAND),
+    ("delete a 1\r\n", BAD_FORMAT),
+    ("touch a 5 noreply\r\n", QUIET_COMMAND),
+    ("touch a\r\n", BAD_FORMAT),
+    ("incr a 1 noreply\r\n", QUIET_COMMAND),
+    ("decr a x\r\n", "Refused { fault: BadDelta, quiet: false }"),
+    ("cas a 0 0 1 7 noreply\r\nx\r\n", QUIET_COMMAND),
+    ("cas a 0 0 1\r\nx\r\n", BAD_FORMAT),
+    ("flush_all noreply\r\n", QUIET_COMMAND),
+    ("verbosity 1\r\n", COMMAND),
+    ("quit\r\n", "Quit"),
+    ("set a 0 0 2\r\nx\r\n", NOTHING),
+];
+
 /// Takes a piece, once more where memory was refused.
 fn push(feed: &mut Feed, piece: &[u8]) -> Result<(), NoMemory> {
     match feed.push(piece) {
@@ -177,6 +219,43 @@ fn a_stream_that_comes_byte_by_byte_holds_the_same_requests(rt: HostRuntime) -> 
         found = expect_piece(&rt, &mut feed, &[*byte], found)?;
     }
     expect_end(&rt, &feed, found);
+    Ok(())
+}
+
+/// Whether this is what is passed over next.
+fn expect_passed(
+    rt: &(impl AllocGlobal + Abort),
+    feed: &mut Feed,
+    want: &str,
+    at: &str,
+) -> Result<(), Fail> {
+    let shown = match feed.pass_over(rt.alloc(), LIMIT) {
+        Some(passed) => format!(in rt.alloc(); "{passed:?}")?,
+        None => String::from_str(rt.alloc(), NOTHING)?,
+    };
+    expect_text(rt, shown.as_str(), want, at);
+    Ok(())
+}
+
+#[test]
+fn what_is_passed_over_is_gone_with_its_block(rt: HostRuntime) -> Result<(), Fail> {
+    let mut feed = Feed::new(rt.alloc());
+    push(&mut feed, STREAM.as_bytes())?;
+    for passed in PASSED {
+        expect_passed(&rt, &mut feed, passed, "stream")?;
+    }
+    expect_passed(&rt, &mut feed, NOTHING, "end")?;
+    expect_number(&rt, feed.kept() as u64, 0, "kept");
+    Ok(())
+}
+
+#[test]
+fn each_line_is_passed_over_as_it_would_be_read(rt: HostRuntime) -> Result<(), Fail> {
+    for (line, passed) in LINES {
+        let mut feed = Feed::new(rt.alloc());
+        push(&mut feed, line.as_bytes())?;
+        expect_passed(&rt, &mut feed, passed, line)?;
+    }
     Ok(())
 }
 

@@ -105,7 +105,7 @@ const EXAMPLE_LOGINS: [Login; 3] = [
 #[test]
 fn the_example_file_is_read(rt: HostRuntime) -> Result<(), Fail> {
     let settings = Settings::from_toml(rt.alloc(), EXAMPLE)?;
-    expect_settings(&rt, &settings, 64, &ALICE_AND_BOB, &EXAMPLE_LOGINS)
+    expect_settings(&rt, &settings, 16, &ALICE_AND_BOB, &EXAMPLE_LOGINS)
 }
 
 /// Whether texts have faults of these numbers.

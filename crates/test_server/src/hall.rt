@@ -1,7 +1,7 @@
 //! Seats and books of one hall, with memory to spare, over both kinds of cache.
 
 pub mod busy;
-mod commands;
+pub mod commands;
 pub mod crowd;
 pub mod pages;
 pub mod refusals;

@@ -6,7 +6,7 @@ use crate::hall::{busy, crowd, pages, refusals, scenes};
 use crate::workers::crews::{self, Hold};
 use crate::workers::deals::{self, Guests};
 use crate::workers::wires::Plan;
-use crate::workers::{guesses, moves, pressure, sips, talks, tapes};
+use crate::workers::{backlogs, dues, guesses, moves, pressure, sips, talks, tapes};
 use std::alloc::Global;
 use std::hash::RandomState;
 use std::marker::Brand;
@@ -52,8 +52,12 @@ pub enum Scene {
     Beside(Plan, Plan),
     /// A client that never reads beside one that does.
     Floods,
+    /// Many connections of alice's that read late, with bob's.
+    HoldsBack,
     /// Many busy connections of alice's, with bob's or without.
     Deals(Guests),
+    /// Many items of alice's are due in one second.
+    FallsDue,
     /// A client that guesses tokens.
     Guesses,
     /// A client that reads a few bytes a call.
@@ -77,26 +81,34 @@ pub struct Beginning<C: Cache> {
     ghost fresh: { map C.settled caches.items ≡ map fresh_cache users },
 }
 
-fn row(alloc: Global, name: &[u8]) -> Result<UserSpec, Fail> {
+/// The budget of each user in a scene.
+fn budget_of(scene: &Scene) -> u64 {
+    match scene {
+        Scene::FallsDue => 1_048_576,
+        _ => 65_536,
+    }
+}
+
+fn row(alloc: Global, name: &[u8], budget: u64) -> Result<UserSpec, Fail> {
     Ok(UserSpec {
         name: Text::copy(alloc, name)?,
         token: Text::copy(alloc, b"one")?,
         second: None,
-        budget: 65_536,
+        budget,
         largest: 20_000,
     })
 }
 
-fn two_users(alloc: Global) -> Result<Users, Fail> {
+fn two_users(alloc: Global, budget: u64) -> Result<Users, Fail> {
     let mut users = Users::new(alloc);
-    users.push(row(alloc, b"alice")?)?;
-    users.push(row(alloc, b"bob")?)?;
+    users.push(row(alloc, b"alice", budget)?)?;
+    users.push(row(alloc, b"bob", budget)?)?;
     Ok(users)
 }
 
-/// Two users with empty caches of a kind.
-fn begin<C: Kind>(alloc: Global, hasher: RandomState) -> Result<Beginning<C>, Fail> {
-    let users = two_users(alloc)?;
+/// Two users with empty caches of a kind and this budget.
+fn begin<C: Kind>(alloc: Global, hasher: RandomState, budget: u64) -> Result<Beginning<C>, Fail> {
+    let users = two_users(alloc, budget)?;
     let caches = begin_all(alloc, &users, hasher)?;
     Ok(Beginning {
         opened: Opened::new(alloc)?,
@@ -137,7 +149,9 @@ fn perform<
             rt, alloc, &hall, users, &mut seats, one, other,
         ),
         Scene::Floods => pressure::serve_flood(rt, alloc, &hall, users, &mut seats),
+        Scene::HoldsBack => backlogs::hold(rt, alloc, &hall, users, &mut seats),
         Scene::Deals(guests) => deals::deal(rt, alloc, &hall, users, &mut seats, *guests),
+        Scene::FallsDue => dues::fall_due(rt, alloc, &hall, users, &mut seats),
         Scene::Guesses => guesses::guess(rt, alloc, &hall, users, &mut seats),
         Scene::Comes => moves::come(rt, alloc, &hall, users, &mut seats),
         Scene::Sips => sips::serve_sips(rt, alloc, &hall, users, &mut seats),
@@ -185,7 +199,7 @@ fn play_over<C: Kind + Send + Sync, R: Threads + Wait + Abort + Time + Copy + Se
 ) -> Result<(), Fail>
     requires { (0 < seats) × (0 < journal) }
 {
-    let beginning = begin::<C>(alloc, hasher)?;
+    let beginning = begin::<C>(alloc, hasher, budget_of(scene))?;
     perform_on::<C, Brand, R>(rt, alloc, beginning, seats, journal, scene)
 }
 
@@ -201,6 +215,20 @@ pub fn play<R: Threads + Wait + Abort + Time + RandomSource + Copy + Send + Sync
 {
     let hasher = RandomState::new(rt)?;
     play_over::<PagedPlain, R>(rt, alloc, hasher, seats, journal, &scene)?;
+    play_over::<Fast, R>(rt, alloc, hasher, seats, journal, &scene)
+}
+
+/// A scene over the fast cache alone.
+pub fn play_fast<R: Threads + Wait + Abort + Time + RandomSource + Copy + Send + Sync + Drop>(
+    rt: &R,
+    alloc: Global,
+    seats: usize,
+    journal: usize,
+    scene: Scene,
+) -> Result<(), Fail>
+    requires { (0 < seats) × (0 < journal) }
+{
+    let hasher = RandomState::new(rt)?;
     play_over::<Fast, R>(rt, alloc, hasher, seats, journal, &scene)
 }
 

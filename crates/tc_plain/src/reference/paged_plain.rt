@@ -5,7 +5,7 @@ ghost use Rattle.tc_plain.specs.UserCache.{fresh};
 ghost use Rattle.tc_plain.specs.Paging.{opens_with, next_of};
 
 use crate::shared::commands::{Commands, act};
-use crate::{Cache, LeftOver, Plain};
+use crate::{Cache, LeftOver, Plain, Progress};
 use std::alloc::Global;
 use std::marker::Model;
 use std::mem;
@@ -85,8 +85,9 @@ impl Cache for PagedPlain {
         act(&mut self.cache, alloc, now, command)
     }
 
-    fn maintain(&mut self, now: Moment, _limit: u32) {
+    fn maintain(&mut self, now: Moment, _limit: u32) -> Progress {
         self.cache.advance(now);
+        Progress::Done
     }
 
     fn freeze(&self, alloc: Global) -> Result<Plain, NoMemory> {

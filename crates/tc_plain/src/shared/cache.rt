@@ -3,7 +3,7 @@ ghost use Rattle.std.specs.Prelude.{◌≡◌, IfOk, OnOk, OnErr};
 ghost use Rattle.tc_plain.specs.UserCache.{UserCache, advance};
 ghost use Rattle.tc_plain.specs.Doing.{act};
 
-use crate::{LeftOver, Plain};
+use crate::{LeftOver, Plain, Progress};
 use std::alloc::Global;
 use tc_grammar::Command;
 use tc_item::{Moment, NoMemory};
@@ -38,8 +38,9 @@ pub trait Cache: Drop {
         ensures next { next self.new ≡ next self.old };
 
     /// Does deferred work, at most `limit` pieces of it as the cache counts them: it comes to the
-    /// moment, and nothing else of what it stands for changes.
-    fn maintain(&mut self, now: Moment, limit: u32)
+    /// moment, and nothing else of what it stands for changes. Whether it stopped at the limit shows
+    /// nowhere else: it is no part of what the cache stands for.
+    fn maintain(&mut self, now: Moment, limit: u32) -> Progress
         ensures advanced { settled self.new ≡ advance (settled self.old) now }
         ensures opening { opened self.new ≡ opened self.old }
         ensures next { next self.new ≡ next self.old };

@@ -387,6 +387,21 @@ pub const REFUSALS: [Reply; 3] = [
     ("set k 0 0 1 noreply\r\nx\r\n", ""),
 ];
 
+/// The same of a long key, of several keys, and of lines that have no key.
+pub const DECLINED: [Reply; 5] = [
+    (
+        "get a_key_of_more_bytes_than_are_kept_in_place\r\n",
+        NO_MEMORY,
+    ),
+    ("gets a b c\r\n", NO_MEMORY),
+    (
+        "touch a_key_of_more_bytes_than_are_kept_in_place 5 noreply\r\n",
+        "",
+    ),
+    ("stats\r\n", NO_MEMORY),
+    ("flush_all noreply\r\n", ""),
+];
+
 /// The counters after a too large `set`, a `set` of three bytes, a too large `append`, a `set` of
 /// one byte, an `incr` to five digits and a `get` of them, where an item may have three bytes.
 pub const COUNTERS: Counters = Counters {

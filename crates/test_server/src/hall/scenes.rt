@@ -39,7 +39,18 @@ pub fn read_back<C: Cache, N: Naming, R: Wait + Abort>(
     let get = get(alloc)?;
     let (one, other) = find_both(rt, alloc, hall, seat, &get)?;
     assert!(rt; one && !other);
+    assert!(rt; journals(rt, hall) == [406, 200, 0]);
     Ok(())
+}
+
+/// What the page of each user keeps, and that of nobody: 200 bytes an entry, and the three that were set
+/// and shown.
+fn journals<C: Cache, N: Naming, R: Wait>(rt: &R, hall: &Hall<C, N>) -> [u64; 3] {
+    [
+        hall.journal_bytes(rt, UserNo::new(1)),
+        hall.journal_bytes(rt, UserNo::new(2)),
+        hall.journal_bytes(rt, UserNo::new(3)),
+    ]
 }
 
 fn store_for_one<C: Cache, N: Naming, R: Wait + Abort>(

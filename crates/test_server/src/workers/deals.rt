@@ -14,27 +14,27 @@ use tc_plain::Cache;
 use tc_users::{UserNo, Users};
 use tc_workers::{Got, Open, Parts, Patience, Put, Remark, Wire, Worker};
 
-const ALICE: &[u8] = b"set a 0 0 9\r\nalice one\r\n";
+pub(super) const ALICE: &[u8] = b"set a 0 0 9\r\nalice one\r\n";
 
-const BOB: &[u8] = b"set a 0 0 7\r\nbob one\r\n";
+pub(super) const BOB: &[u8] = b"set a 0 0 7\r\nbob one\r\n";
 
 /// Ten of these are a user's share of a turn.
 const FLUSHES: &[u8] = b"flush_all\r\nflush_all\r\nflush_all\r\nflush_all\r\nflush_all\r\n\
     flush_all\r\nflush_all\r\nflush_all\r\nflush_all\r\nflush_all\r\n\
     flush_all\r\nflush_all\r\nflush_all\r\nflush_all\r\nflush_all\r\n";
 
-const GETS: &[u8] = b"get k\r\n";
+pub(super) const GETS: &[u8] = b"get k\r\n";
 
 /// What is heard of a login, and of one and ten flushes.
-const LOGGED_IN: u64 = 8;
+pub(super) const LOGGED_IN: u64 = 8;
 
 const FLUSHED: u64 = LOGGED_IN + 40;
 
 /// What is heard of a get of nothing.
-const MISSED: u64 = 5;
+pub(super) const MISSED: u64 = 5;
 
 /// How many connections alice has.
-const MANY: usize = 4;
+pub(super) const MANY: usize = 4;
 
 /// Who is served.
 #[derive(Clone, Copy, Debug, PartialEq, Eq)]
@@ -45,12 +45,12 @@ pub enum Guests {
 
 /// How many bytes each connection was sent; bob's is the last.
 #[derive(Drop)]
-struct Ledger {
+pub(super) struct Ledger {
     sent: Vec<AtomicU64>,
 }
 
 impl Ledger {
-    fn new(alloc: Global) -> Result<Ledger, Fail> {
+    pub(super) fn new(alloc: Global) -> Result<Ledger, Fail> {
         let mut sent = Vec::with_capacity(alloc, MANY + 1)?;
         for _ in 0..MANY + 1 {
             sent.push(AtomicU64::new(0))?;
@@ -64,7 +64,7 @@ impl Ledger {
         }
     }
 
-    fn sent(&self, at: usize) -> u64 {
+    pub(super) fn sent(&self, at: usize) -> u64 {
         match self.sent.get(at) {
             Some(word) => word.load(SeqCst),
             None => 0,
@@ -85,7 +85,7 @@ impl Ledger {
 
 /// A wire that logs in, and then asks the same at each read.
 #[derive(Drop)]
-struct Asking {
+pub(super) struct Asking {
     at: usize,
     /// What the next read gives.
     next: &'static [u8],
@@ -121,7 +121,7 @@ impl Wire for Asking {
 }
 
 /// Adds a connection that logs in and then asks.
-fn join<N: Naming, R: Abort>(
+pub(super) fn join<N: Naming, R: Abort>(
     rt: &R,
     worker: &mut Worker<Asking, N>,
     ledger: &Arc<Ledger, Global>,

@@ -59,39 +59,51 @@ impl Dealt {
     }
 }
 
-/// The third worker has the most time, and takes every second connection.
+/// Once the load was the same for five looks the third worker, which has the most time, takes every second
+/// connection.
 #[test]
 fn a_worker_with_no_time_left_gets_the_helper_with_most(rt: HostRuntime) -> Result<(), Fail> {
     let mut dealt = deal(rt.alloc())?;
-    dealt.look(1, FIRST, 100);
+    dealt.look(6, FIRST, 100);
     assert!(&rt; dealt.places() == [None, None]);
     dealt.look(1, FIRST, 100);
     assert!(&rt; dealt.places() == [Some(2), None]);
     Ok(())
 }
 
-/// A tenth more is not sent, so the helper goes after its trial, and is not tried again soon.
+/// A load that doubles with each look is not put down to a helper, for none comes.
+#[test]
+fn a_load_that_rises_gets_no_helper_yet(rt: HostRuntime) -> Result<(), Fail> {
+    let mut dealt = deal(rt.alloc())?;
+    for bytes in [100, 200, 400, 800, 1_600, 3_200, 6_400, 12_800] {
+        dealt.look(1, FIRST, bytes);
+    }
+    assert!(&rt; dealt.places() == [None, None]);
+    Ok(())
+}
+
+/// A twelfth more is not sent, so the helper goes after its trial, and is not tried again soon.
 #[test]
 fn a_helper_that_is_no_help_goes(rt: HostRuntime) -> Result<(), Fail> {
     let mut dealt = deal(rt.alloc())?;
-    dealt.look(2, FIRST, 100);
-    dealt.look(5, BOTH, 109);
+    dealt.look(7, FIRST, 100);
+    dealt.look(7, BOTH, 107);
     assert!(&rt; dealt.places() == [None, None]);
-    dealt.look(50, FIRST, 100);
+    dealt.look(49, FIRST, 100);
     assert!(&rt; dealt.places() == [None, None]);
     Ok(())
 }
 
-/// A tenth more is sent, so the helper stays; and it goes once one worker would do.
+/// A twelfth more is sent, so the helper stays; and it goes once one worker would do.
 #[test]
 fn a_helper_stays_until_one_worker_would_do(rt: HostRuntime) -> Result<(), Fail> {
     let mut dealt = deal(rt.alloc())?;
-    dealt.look(2, FIRST, 100);
-    dealt.look(5, BOTH, 110);
+    dealt.look(7, FIRST, 100);
+    dealt.look(7, BOTH, 108);
     assert!(&rt; dealt.places() == [Some(2), None]);
-    dealt.look(19, [300, 0, 300], 110);
+    dealt.look(19, [200, 0, 300], 108);
     assert!(&rt; dealt.places() == [Some(2), None]);
-    dealt.look(1, [300, 0, 300], 110);
+    dealt.look(1, [200, 0, 300], 108);
     assert!(&rt; dealt.places() == [None, None]);
     Ok(())
 }
@@ -100,14 +112,14 @@ fn a_helper_stays_until_one_worker_would_do(rt: HostRuntime) -> Result<(), Fail>
 #[test]
 fn a_helper_goes_where_as_much_is_sent_without_it(rt: HostRuntime) -> Result<(), Fail> {
     let mut dealt = deal(rt.alloc())?;
-    dealt.look(2, FIRST, 100);
-    dealt.look(5, BOTH, 110);
-    dealt.look(40, BOTH, 110);
+    dealt.look(7, FIRST, 100);
+    dealt.look(7, BOTH, 108);
+    dealt.look(40, BOTH, 108);
     assert!(&rt; dealt.places() == [Some(2), None]);
-    dealt.look(2, BOTH, 300);
+    dealt.look(7, BOTH, 300);
     assert!(&rt; dealt.places() == [None, None]);
-    dealt.look(5, FIRST, 285);
-    dealt.look(50, FIRST, 285);
+    dealt.look(7, FIRST, 288);
+    dealt.look(49, FIRST, 288);
     assert!(&rt; dealt.places() == [None, None]);
     Ok(())
 }
@@ -116,8 +128,8 @@ fn a_helper_goes_where_as_much_is_sent_without_it(rt: HostRuntime) -> Result<(),
 #[test]
 fn a_helper_goes_where_its_own_users_want_it(rt: HostRuntime) -> Result<(), Fail> {
     let mut dealt = deal(rt.alloc())?;
-    dealt.look(2, FIRST, 100);
-    dealt.look(5, BOTH, 110);
+    dealt.look(7, FIRST, 100);
+    dealt.look(7, BOTH, 108);
     dealt.did.set_traffic(
         2,
         2,
@@ -126,9 +138,9 @@ fn a_helper_goes_where_its_own_users_want_it(rt: HostRuntime) -> Result<(), Fail
             bytes: 50,
         },
     );
-    dealt.look(3, BOTH, 110);
+    dealt.look(3, BOTH, 108);
     assert!(&rt; dealt.places() == [Some(2), None]);
-    dealt.look(1, BOTH, 110);
+    dealt.look(1, BOTH, 108);
     assert!(&rt; dealt.places() == [None, None]);
     Ok(())
 }

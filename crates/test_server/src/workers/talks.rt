@@ -103,7 +103,8 @@ pub fn talk<C: Cache, N: Naming, R: Wait + Abort>(
     talk_once(rt, alloc, hall, users, &mut worker, other)
 }
 
-/// A connection's first turn: it is answered, it is looked at once more, and its worker may wait.
+/// A connection's first two turns: it logs in, and what it sent with that waits; then it is answered, it
+/// is looked at once more, and its worker may wait.
 fn rest_once<C: Cache, N: Naming, R: Wait + Abort>(
     rt: &R,
     alloc: Global,
@@ -114,6 +115,8 @@ fn rest_once<C: Cache, N: Naming, R: Wait + Abort>(
     let seen = Arc::new(alloc, Seen::new())?;
     let wire = Memory::new(RESTS, Arc::try_clone(&seen)?);
     assert!(rt; worker.add(1, wire).is_ok());
+    let patience = worker.turn(rt, hall, users, &Clock::new(), &Open);
+    assert!(rt; patience == Patience::Hurried && seen.reads.load(SeqCst) == 1);
     let patience = worker.turn(rt, hall, users, &Clock::new(), &Open);
     assert!(rt; patience == Patience::Long && !worker.is_idle());
     assert!(rt; seen.has_heard(&RESTS) && seen.reads.load(SeqCst) == 2);

@@ -7,7 +7,7 @@ returns-in-Wrote g c =
     rw (← c.self.view_is)
     (record {
       sends =
-          carries-wrote c.in-Wrote.n c.parts.result c.parts.ensures c.sent.ensures.out c.sent.ensures.endpoint refl
+          carries-wrote c.in-Wrote.n c.parts.result c.parts.ensures c.sent.ensures.out c.sent.ensures.endpoint refl refl
           c.write.ensures.gives_nothing c.in-Wrote.ensures.takes;
     })
 
@@ -17,7 +17,7 @@ returns-in-Later g c =
     (record {
       sends =
           let took = appends-kept _ _ c.in-Later.ensures.takes in
-          ([], carries-still refl refl refl (appends-same c.write.ensures.gives_nothing) took);
+          ([], carries-still refl refl refl refl (appends-same c.write.ensures.gives_nothing) took);
     })
 
 pub returns-in-Failed : goal.returns-in-Failed
@@ -26,5 +26,5 @@ returns-in-Failed g c =
     (record {
       sends =
           let took = appends-kept _ _ c.in-Failed.ensures.takes in
-          ([], carries-still refl refl refl (appends-same c.write.ensures.gives_nothing) took);
+          ([], carries-still refl refl refl refl (appends-same c.write.ensures.gives_nothing) took);
     })

@@ -10,7 +10,7 @@ returns-in-Bytes-eq0 g c =
     (record {
       moved = (
         [],
-        carries-still refl refl refl (appends-zero _ _ d.field-0 c.read.new.into d.field-0-test d.ensures.gives)
+        carries-still refl refl refl refl (appends-zero _ _ d.field-0 c.read.new.into d.field-0-test d.ensures.gives)
             (appends-same c.read.ensures.takes_nothing),
         λ yes. refl,
       );
@@ -22,7 +22,7 @@ returns-in-Bytes g c =
     rw (← c.self.view_is)
     (record {
       moved =
-          carries-came (take c.in-Bytes.n c.read.new.into) c.take.result d.came d.refused d.out d.conn
+          carries-came (take c.in-Bytes.n c.read.new.into) c.take.result d.came d.refused d.out d.conn d.last
           (appends-as _ _ _ _ d.gave c.in-Bytes.ensures.gives) (d.took ∙ c.read.ensures.takes_nothing);
     })
 
@@ -32,7 +32,7 @@ returns-in-Later g c =
     (record {
       moved = (
         [],
-        carries-still refl refl refl (appends-kept _ _ c.in-Later.ensures.gives) (appends-same c.read.ensures.takes_nothing),
+        carries-still refl refl refl refl (appends-kept _ _ c.in-Later.ensures.gives) (appends-same c.read.ensures.takes_nothing),
         λ yes. refl,
       );
     })
@@ -43,7 +43,7 @@ returns-in-Ended g c =
     (record {
       moved = (
         [],
-        carries-ended c.shut.ensures.endpoint c.shut.ensures.out refl c.in-Ended.ensures.gives c.read.ensures.takes_nothing,
+        carries-ended c.shut.ensures.endpoint c.shut.ensures.out refl refl c.in-Ended.ensures.gives c.read.ensures.takes_nothing,
         λ yes. refl,
       );
     })
@@ -54,7 +54,8 @@ returns-in-Failed g c =
     (record {
       moved = (
         [],
-        carries-still refl refl refl (appends-kept _ _ c.in-Failed.ensures.gives) (appends-same c.read.ensures.takes_nothing),
+        carries-still refl refl refl refl (appends-kept _ _ c.in-Failed.ensures.gives)
+            (appends-same c.read.ensures.takes_nothing),
         λ yes. refl,
       );
     })

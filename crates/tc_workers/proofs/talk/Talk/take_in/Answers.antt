@@ -1,7 +1,7 @@
 use Rattle.std.proofs.Common.{List, refl, sym, subst}
 use Rattle.tc_users.specs.declared.users.UserSpec.{UserSpec}
 use Rattle.tc_workers.specs.Lives.{AreAll, tables_in}
-use Rattle.tc_workers.proofs.Living.{tables-by, tables-more, has_talk-served}
+use Rattle.tc_workers.proofs.Living.{goes-rose, tables-by, tables-more, has_talk-served}
 use Rattle.tc_workers.proofs.talk.Talk.take_in.Goals as goal
 
 pub invariant_of-self : goal.invariant_of-self
@@ -10,8 +10,10 @@ invariant_of-self g c =
     (λ rows still.
     let By = λ (ts : List (List UserSpec × Unit {0})). AreAll rows (tables_in ts) in
     let more = tables-more rows c.args.service.now.users.now tt c.self.inside.tables.items
-    (subst By c.and-self-inside.ensures still.by) in
-    (record { by = more.0; on = still.on }, more.1))
+    (subst By c.and-self-inside.ensures still.by) in (
+      record { by = more.0; on = still.on; rose = goes-rose c.if-take_in.ensures.moved.2.goes still.rose },
+      more.1,
+    ))
 
 pub returns-then-take_in-clause-stays : goal.returns-then-take_in-clause-stays
 returns-then-take_in-clause-stays g c =
@@ -21,4 +23,5 @@ returns-then-take_in-clause-stays g c =
           subst (λ (ts : List (List UserSpec × Unit {0})). AreAll c.args.service.now.users.now (tables_in ts))
           (sym c.and-self-inside.ensures) (tables-by _ _ _ was.by);
       on = was.on;
+      rose = c.if-take_in.ensures.ordered on was.rose;
     })

@@ -1,5 +1,5 @@
 use Rattle.tc_workers.proofs.Visiting.{removed}
-use Rattle.tc_workers.proofs.worker.Worker.remove.Goals as goal
+use Rattle.tc_workers.proofs.worker.Worker.take_out.Goals as goal
 
 pub returns-clause-gone : goal.returns-clause-gone
 returns-clause-gone g c =

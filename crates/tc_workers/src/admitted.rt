@@ -1,0 +1,23 @@
+//! As whom and when a connection was admitted to a turn.
+use crate::dealing::LEAST_OUT;
+use tc_item::Moment;
+
+/// Whose it was for the deal, the moment to which that user's cache was maintained, and with how many
+/// bytes that wait to be sent it is not full yet. Its requests are done at that moment.
+#[derive(Clone, Copy, Debug, PartialEq, Eq)]
+pub(crate) struct Admitted {
+    pub(crate) user: usize,
+    pub(crate) now: Moment,
+    pub(crate) most_out: usize,
+}
+
+impl Admitted {
+    /// Before the first turn.
+    pub(crate) fn not_yet() -> Admitted {
+        Admitted {
+            user: 0,
+            now: Moment::FIRST,
+            most_out: LEAST_OUT,
+        }
+    }
+}

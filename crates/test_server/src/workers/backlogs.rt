@@ -1,0 +1,301 @@
+//! Many connections of one user that don't read. Texts are by hand from the protocol's text.
+ghost use Rattle.std.specs.Prelude.{None};
+
+use super::deals::{ALICE, BOB};
+use super::talks::worker_of;
+use crate::hall::commands::set_of;
+use crate::stage::{Scene, call, first, play_fast};
+use std::alloc::Global;
+use std::process::Abort;
+use std::sync::atomic::AtomicU64;
+use std::sync::atomic::Ordering::SeqCst;
+use std::sync::{Arc, Wait};
+use std::test::*;
+use tc_locked::{Clock, Hall, Naming, Seat};
+use tc_plain::Cache;
+use tc_users::{UserNo, Users};
+use tc_workers::{Got, Open, Parts, Put, Remark, Wire, Worker};
+
+/// How many connections alice has. Bob has one more.
+const HERS: usize = 10;
+
+/// How often each asks for `a`, and then for `b`.
+const ROUNDS: usize = 50;
+
+/// The bytes of each item.
+const DATA: usize = 10_000;
+
+const ASKS: &[u8] = b"get a\r\nget b\r\n";
+
+/// What is sent around an item's bytes, and where its key stands.
+const HEAD: &[u8] = b"VALUE a 7 10000\r\n";
+
+const TAIL: &[u8] = b"\r\nEND\r\n";
+
+const KEY_AT: usize = 6;
+
+const REPLY: usize = 10_024;
+
+/// What a login is answered.
+const STORED: &[u8] = b"STORED\r\n";
+
+/// All that each of alice's connections is sent.
+const ALL: u64 = 8 + 100 * 10_024;
+
+/// How much may wait for alice, and with one reply more for each of her connections.
+const ALLOWED: u64 = 8_388_608;
+
+const BOUND: u64 = ALLOWED + 10 * 10_024;
+
+/// After so many turns nothing more is done for her.
+const FILLING: u32 = 16;
+
+/// After so many more all is sent.
+const DRAINING: u32 = 16;
+
+/// What all see of one another.
+#[derive(Drop)]
+struct Sight {
+    /// Whether alice's wires take bytes.
+    is_open: AtomicU64,
+    /// How many writes were not the next expected bytes.
+    odd: AtomicU64,
+    /// By connections: what was sent, and what waited after the last write.
+    sent: Vec<AtomicU64>,
+    waits: Vec<AtomicU64>,
+}
+
+/// So many words.
+fn words(alloc: Global, count: usize) -> Result<Vec<AtomicU64>, Fail> {
+    let mut words = Vec::with_capacity(alloc, count)?;
+    for _ in 0..count {
+        words.push(AtomicU64::new(0))?;
+    }
+    Ok(words)
+}
+
+/// A word, 0 where there is none.
+fn load(words: &[AtomicU64], at: usize) -> u64 {
+    match words.get(at) {
+        Some(word) => word.load(SeqCst),
+        None => 0,
+    }
+}
+
+fn store(words: &[AtomicU64], at: usize, value: usize) {
+    if let Some(word) = words.get(at) {
+        word.store(value as u64, SeqCst);
+    }
+}
+
+impl Sight {
+    fn new(alloc: Global) -> Result<Sight, Fail> {
+        Ok(Sight {
+            is_open: AtomicU64::new(0),
+            odd: AtomicU64::new(0),
+            sent: words(alloc, HERS + 1)?,
+            waits: words(alloc, HERS + 1)?,
+        })
+    }
+
+    /// How much waits for alice.
+    fn backlog(&self) -> u64 {
+        let mut sum = 0u64;
+        for at in 0..HERS {
+            sum = sum.saturating_add(load(&self.waits, at));
+        }
+        sum
+    }
+
+    /// How many of alice's connections were sent all.
+    fn served(&self) -> usize {
+        let mut count = 0usize;
+        for at in 0..HERS {
+            if load(&self.sent, at) == ALL {
+                count = count.saturating_add(1);
+            }
+        }
+        count
+    }
+}
+
+/// The byte at a place of a reply that shows the item of this letter.
+fn byte_of(letter: u8, at: usize) -> u8 {
+    match at.checked_sub(HEAD.len()) {
+        None if at == KEY_AT => letter,
+        None => HEAD[at % HEAD.len()],
+        Some(data) if data < DATA => letter,
+        Some(data) => TAIL[(data - DATA) % TAIL.len()],
+    }
+}
+
+/// The byte at a place of all that a connection of alice's is sent.
+fn expected(at: usize) -> u8 {
+    match at.checked_sub(STORED.len()) {
+        None => STORED[at % STORED.len()],
+        Some(after) if after / REPLY % 2 == 0 => byte_of(b'a', after % REPLY),
+        Some(after) => byte_of(b'b', after % REPLY),
+    }
+}
+
+/// A wire that logs in and then asks.
+#[derive(Drop)]
+struct Asker {
+    at: usize,
+    login: &'static [u8],
+    /// How many bytes it gave, and how many it gives in all.
+    given: usize,
+    most: usize,
+    taken: usize,
+    sight: Arc<Sight, Global>,
+}
+
+impl Asker {
+    /// The byte at a place of all that it gives.
+    fn byte(&self, at: usize) -> u8 {
+        let asks = at.saturating_sub(self.login.len());
+        match self.login.get(at) {
+            Some(byte) => *byte,
+            None => ASKS[asks % ASKS.len()],
+        }
+    }
+
+    /// Takes bytes. Alice's are to be the next ones.
+    fn hear(&mut self, from: &[u8]) {
+        for byte in from {
+            if self.at < HERS && *byte != expected(self.taken) {
+                self.sight.odd.fetch_add(1, SeqCst);
+            }
+            self.taken = self.taken.saturating_add(1);
+        }
+        store(&self.sight.sent, self.at, self.taken);
+    }
+
+    /// Whether it takes bytes.
+    fn is_open(&self) -> bool {
+        self.at >= HERS || self.sight.is_open.load(SeqCst) == 1
+    }
+}
+
+impl Wire for Asker {
+    ghost gave = { λ _. None };
+
+    ghost took = { λ _. None };
+
+    fn read(&mut self, into: &mut [u8]) -> Got {
+        let n = into.len().min(self.most.saturating_sub(self.given));
+        if n == 0 {
+            return Got::Later;
+        }
+        for i in 0..n {
+            let at = self.given.saturating_add(i);
+            into[i] = self.byte(at);
+        }
+        self.given = self.given.saturating_add(n);
+        Got::Bytes(n)
+    }
+
+    fn write(&mut self, from: &Parts<'_>) -> Put {
+        if !self.is_open() {
+            store(&self.sight.waits, self.at, from.len());
+            return Put::Later;
+        }
+        let (part, _) = from.split_first();
+        self.hear(part);
+        let left = from.len().saturating_sub(part.len());
+        store(&self.sight.waits, self.at, left);
+        Put::Wrote(part.len())
+    }
+
+    fn set_key(&mut self, _key: usize) -> bool {
+        false
+    }
+
+    fn set_user(&mut self, _user: UserNo) {}
+
+    fn note<R: Wait>(&mut self, _rt: &R, _remark: Remark) {}
+}
+
+/// Stores alice's two items.
+fn store_both<C: Cache, N: Naming, R: Wait + Abort>(
+    rt: &R,
+    alloc: Global,
+    hall: &Hall<C, N>,
+    seat: &mut Seat<N>,
+) -> Result<(), Fail> {
+    for key in [b"a", b"b"] {
+        let data = Vec::from_elem(alloc, key[0], DATA)?;
+        let set = set_of(alloc, key, 0, &data)?;
+        call(rt, alloc, hall, seat, 1, 0, &set)?;
+    }
+    Ok(())
+}
+
+/// Adds a connection that logs in and then asks, so many bytes in all.
+fn join<N: Naming, R: Abort>(
+    rt: &R,
+    worker: &mut Worker<Asker, N>,
+    sight: &Arc<Sight, Global>,
+    at: usize,
+    login: &'static [u8],
+    most: usize,
+) -> Result<(), Fail> {
+    let wire = Asker {
+        at,
+        login,
+        given: 0,
+        most,
+        taken: 0,
+        sight: Arc::try_clone(sight)?,
+    };
+    let conn = u32::try_from(at).unwrap_or(u32::MAX);
+    assert!(rt; worker.add(conn, wire).is_ok());
+    Ok(())
+}
+
+/// So many turns, after each of which no more waits for alice than may, and bob was sent more.
+fn turn_often<C: Cache, N: Naming, R: Wait + Abort>(
+    rt: &R,
+    hall: &Hall<C, N>,
+    users: &Users,
+    worker: &mut Worker<Asker, N>,
+    sight: &Sight,
+    turns: u32,
+) {
+    let clock = Clock::new();
+    for _ in 0..turns {
+        let before = load(&sight.sent, HERS);
+        worker.turn(rt, hall, users, &clock, &Open);
+        assert!(rt; sight.backlog() <= BOUND);
+        assert!(rt; load(&sight.sent, HERS) > before);
+    }
+}
+
+/// Alice's connections, which read only once much waits, and bob's.
+pub fn hold<C: Cache, N: Naming, R: Wait + Abort>(
+    rt: &R,
+    alloc: Global,
+    hall: &Hall<C, N>,
+    users: &Users,
+    seats: &mut Vec<Seat<N>>,
+) -> Result<(), Fail> {
+    let mut worker = worker_of(rt, alloc, seats);
+    store_both(rt, alloc, hall, first(rt, seats))?;
+    let sight = Arc::new(alloc, Sight::new(alloc)?)?;
+    for at in 0..HERS {
+        let most = ALICE.len() + ROUNDS * ASKS.len();
+        join(rt, &mut worker, &sight, at, ALICE, most)?;
+    }
+    join(rt, &mut worker, &sight, HERS, BOB, usize::MAX)?;
+    turn_often(rt, hall, users, &mut worker, &sight, FILLING);
+    assert!(rt; sight.backlog() > ALLOWED && sight.served() == 0);
+    sight.is_open.store(1, SeqCst);
+    turn_often(rt, hall, users, &mut worker, &sight, DRAINING);
+    assert!(rt; sight.odd.load(SeqCst) == 0 && sight.served() == HERS);
+    Ok(())
+}
+
+#[test]
+fn what_waits_is_bounded_by_user_and_sent_in_the_end(rt: HostRuntime) -> Result<(), Fail> {
+    play_fast(&rt, rt.alloc(), 2, 16, Scene::HoldsBack)
+}
