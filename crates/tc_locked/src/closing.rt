@@ -101,7 +101,6 @@ fn take_seat<N: Naming>(table: &Shared, all: &mut TableSeat, seat: Seat<N>)
     let Seat {
         inner,
         number: _,
-        tries: _,
         of: _,
     } = seat;
     table.join_seat::<Together>(all, inner);

@@ -11,7 +11,8 @@ use crate::called::Called;
 use crate::closed::{Closed, Missing};
 use crate::closing::{Shut, compare, take_books, take_seats};
 use crate::kept::Kept;
-use crate::locking::{TRIES, lock_soon};
+use crate::lease::Lease;
+use crate::locking::lock_soon;
 use crate::naming::{HallTable, Naming};
 use crate::receipt::Receipt;
 use crate::refusals::{Refusals, Refused};
@@ -62,13 +63,15 @@ impl<C: Cache, N: Naming> Hall<C, N> {
         self.books.len() as u32
     }
 
-    /// `call`, which runs `held` once the lock is got, and notes a refusal among the others.
-    pub fn call_with<R: Wait, F: FnOnce()>(
-        &self,
+    /// `call`, which keeps the user's lock in `lease`, runs `held` once it has the lock, and notes a
+    /// refusal among the others.
+    pub fn call_with<'a, R: Wait, F: FnOnce()>(
+        &'a self,
         rt: &R,
         alloc: Global,
         seat: &mut Seat<N>,
         refusals: &mut Refusals<N>,
+        lease: &mut Lease<'a, C, N>,
         user: UserNo,
         now: Moment,
         conn: u32,
@@ -88,7 +91,7 @@ impl<C: Cache, N: Naming> Hall<C, N> {
             ≡ refusals.old ++ refusal user conn fault command.now ∷ []) }
         ensures none_refused { OnOk result (refusals.new ≡ refusals.old) }
     {
-        match self.try_call(rt, alloc, seat, user, now, conn, command, held) {
+        match self.try_call(rt, alloc, seat, lease, user, now, conn, command, held) {
             Ok(receipt) => Ok(receipt),
             Err(fault) => {
                 refusals.add(Refused { user, conn, fault }, command);
@@ -98,11 +101,12 @@ impl<C: Cache, N: Naming> Hall<C, N> {
     }
 
     /// The call itself.
-    fn try_call<R: Wait, F: FnOnce()>(
-        &self,
+    fn try_call<'a, R: Wait, F: FnOnce()>(
+        &'a self,
         rt: &R,
         alloc: Global,
         seat: &mut Seat<N>,
+        lease: &mut Lease<'a, C, N>,
         user: UserNo,
         now: Moment,
         conn: u32,
@@ -128,7 +132,7 @@ impl<C: Cache, N: Naming> Hall<C, N> {
             return Err(CallFault::NoMemory);
         };
         let at = (number - 1) as usize;
-        let mut guard = lock_soon(&self.books[at], rt, seat.tries);
+        let mut guard = lease.lock(rt, number, &self.books[at]);
         held();
         let kept = &mut *guard;
         if kept.user() != number {
@@ -147,8 +151,7 @@ impl<C: Cache, N: Naming> Hall<C, N> {
             copy,
         )?;
         // What is left over may be much, and others wait for the lock.
-        drop(guard);
-        drop(left);
+        lease.keep(alloc, number, guard, command, left);
         Ok(Receipt {
             user,
             slip,
@@ -176,7 +179,8 @@ impl<C: Cache, N: Naming> Hall<C, N> {
             × ((IsUser self.now user → ⊥) → fault ≡ NoUser)) }
         ensures unchanged_on_err { OnErr result (seat.new ≡ seat.old) }
     {
-        self.try_call(rt, alloc, seat, user, now, conn, command, || ())
+        let mut lease = Lease::none(alloc);
+        self.try_call(rt, alloc, seat, &mut lease, user, now, conn, command, || ())
     }
 
     /// Deferred work of a user's cache, at most `limit` pieces of it; nothing for an unknown user. No
@@ -186,7 +190,7 @@ impl<C: Cache, N: Naming> Hall<C, N> {
         if number == 0 || number > self.users() {
             return Progress::Done;
         }
-        lock_soon(&self.books[(number - 1) as usize], rt, TRIES).maintain(now, limit)
+        lock_soon(&self.books[(number - 1) as usize], rt).maintain(now, limit)
     }
 
     /// How many bytes the entries of a user's page keep, their data among them, whether the cache has it
@@ -196,7 +200,7 @@ impl<C: Cache, N: Naming> Hall<C, N> {
         if number == 0 || number > self.users() {
             return 0;
         }
-        lock_soon(&self.books[(number - 1) as usize], rt, TRIES).journal_bytes()
+        lock_soon(&self.books[(number - 1) as usize], rt).journal_bytes()
     }
 
     /// Ends the hall. It is refused exactly where fewer seats than all are given, and the hall and the

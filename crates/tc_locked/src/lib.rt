@@ -13,6 +13,8 @@
 //! - A **seat** is by what a thread calls. It shows the entries that it wrote, of whatever book. One of
 //!   another hall doesn't fit.
 //! - A **receipt** is what a call gives: whose book it was entered in, and as what.
+//! - A **lease** is a user's lock that a thread keeps from one call to the next. What lies under it is
+//!   known by its type alone, as under any lock.
 //! - **Refusals** are the calls that the hall refused a caller, in proofs alone (`Hall::call_with`).
 //!
 //! # What is always true
@@ -49,6 +51,7 @@ mod closing;
 mod entry;
 mod hall;
 mod kept;
+mod lease;
 mod locking;
 pub mod naming;
 mod noting;
@@ -68,6 +71,7 @@ pub use closed::{Closed, Missing};
 pub use entry::{Entry, Slip};
 pub use hall::Hall;
 pub use kept::Kept;
+pub use lease::Lease;
 pub use naming::Naming;
 pub use opening::Opened;
 pub use receipt::Receipt;

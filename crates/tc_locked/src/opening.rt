@@ -9,7 +9,6 @@ ghost use Rattle.tc_locked.specs.Books.{fresh_book};
 use crate::book::Book;
 use crate::hall::Hall;
 use crate::kept::Kept;
-use crate::locking::TRIES;
 use crate::naming::{HallTable, Naming, Shared, TableSeat};
 use crate::seat::Seat;
 use crate::view::{NewBook, NewSeat};
@@ -72,7 +71,6 @@ fn make_seats<N: Naming>(
         out.push_reserved(Seat {
             inner,
             number,
-            tries: TRIES,
             of: PhantomData,
         });
     }

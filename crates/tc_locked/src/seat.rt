@@ -2,7 +2,6 @@
 ghost use Rattle.std.specs.Prelude.{◌≡◌, ◌<◌, length, []};
 ghost use Rattle.tc_locked.specs.Views.{seat_view};
 
-use crate::locking::{FEW_TRIES, TRIES};
 use crate::naming::{Naming, TableSeat};
 use std::marker::{Model, PhantomData};
 
@@ -11,8 +10,6 @@ use std::marker::{Model, PhantomData};
 pub struct Seat<N: Naming> {
     pub(crate) inner: TableSeat,
     pub(crate) number: usize,
-    /// How often it tries a user's lock before its thread waits.
-    pub(crate) tries: u32,
     pub(crate) of: PhantomData<N>,
 }
 
@@ -39,14 +36,6 @@ impl<N: Naming> Seat<N> {
         self.number
     }
 
-    /// Notes whether its thread has more calls at hand, which are best made in a row. It decides
-    /// nothing but how long a call looks for its user's lock before its thread waits.
-    pub fn set_more(&mut self, has_more: bool)
-        ensures { self.new ≡ self.old }
-    {
-        self.tries = if has_more { FEW_TRIES } else { TRIES };
-    }
-
     pub(crate) fn into_inner(self) -> TableSeat
         ensures { (result.table_id ≡ N.table)
             × (result.me ≡ (seat_view self.number self.notes, [])) }
@@ -54,7 +43,6 @@ impl<N: Naming> Seat<N> {
         let Seat {
             inner,
             number: _,
-            tries: _,
             of: _,
         } = self;
         inner

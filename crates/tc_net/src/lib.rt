@@ -14,6 +14,25 @@
 //! second who is overdue, and answers between its turns who asks for the metrics (`Scraping`): each user's
 //! `stats` is one call of the hall by a seat of its own.
 //!
+//! # Who waits, who wakes, who writes
+//!
+//! ```text
+//! listener: poll ----- Arrival::New ----> channel of worker w, and its waker
+//! worker a: Worker::pass_on - Arrival::Passed -> channel of worker w, and its waker
+//! worker w: poll <- its sockets, its waker     keeper: nap of 10 ms
+//! ```
+//!
+//! 1. A thread waits in its poll, in a nap, or for a user's lock, and in nothing else.
+//! 2. Whoever puts a connection into a worker's channel wakes that worker behind it. A full channel takes
+//!    nothing: a new connection is closed, and one that was to be passed on stays.
+//! 3. A socket is registered with one poll, that of the worker which has its link, and has one place of that
+//!    worker's `Readiness`. The worker's thread alone writes there: its poll's events set what may be done,
+//!    and its wires clear it by what the system answers.
+//! 4. A place at the `Door` is written by the wire, and told to go by the listener, the keeper or a wire.
+//!    Who tells it wakes its worker.
+//! 5. `Counts` are written by one worker and read by the keeper; `Shares` are written by the keeper and
+//!    read by the workers.
+//!
 //! `serve` goes over any cache. A `Beginning` holds what `Hall::new` asks of its caller. An `Audience` is
 //! told where the server listens, and what is found where the hall is audited at the end.
 //!

@@ -1,9 +1,10 @@
 //! Connections in threads: workers that read, do and write in turns, a keeper, and the crew of both.
 //!
 //! A `Worker` has a seat of the hall and its connections, each a `Wire` and a `Session`. A turn goes
-//! over those that may have something to do, twice. First each reads once and asks for at most 16
-//! requests, each command of which is one `Hall::call_with`; one with more than 16,384 bytes to send
-//! writes at once. Then each writes until its wire takes no more, and where nothing is left to do it
+//! over those that may have something to do, three times. First each reads once. Then each asks for at
+//! most 16 requests, each command of which is one `Hall::call_with`; one with more than 16,384 bytes to
+//! send writes at once. From one call to the next the worker keeps the user's lock (`Lease`), but touches
+//! no socket with it. Last each writes until its wire takes no more, and where nothing is left to do it
 //! looks at the wire once more. A turn is dealt out by user (`dealing.rt`): where several users'
 //! connections have something to do, those of one who did more than its share are left out, and go first
 //! in the next. So are those of a user of whose items many are due in a new second: they are taken out in
@@ -14,11 +15,27 @@
 //! hall by a seat of its own. `run_crew` gives each worker a thread and the keeper one, and hands all seats
 //! and the source back.
 //!
+//! # A link's states
+//!
+//! | A link | Its turn | Leaves that state |
+//! |---|---|---|
+//! | rests: no whole request is unread | reads once | by bytes that came |
+//! | has unread bytes | asks for requests, and reads nothing | once no whole request is left |
+//! | is full: too much waits to be sent | writes alone | once its wire took enough |
+//! | waits: the reply to a refused login is held back | does nothing | by the clock |
+//! | was refused memory | asks once more, and declines a command | by that |
+//! | leaves: another worker is to serve it | none here | by `pass_on`, whole |
+//! | is done: closed and all sent, failed, or starved | is dropped | |
+//!
+//! 1. A link is on its worker's list, or its inlet names its key when its wire may be read or written.
+//! 2. A link belongs to one worker, with its wire; nobody else touches it.
+//! 3. A worker holds one lock at most, and none while it touches a wire.
+//!
 //! What a worker does on a connection is a list of moves (`specs/Talks.antt`): bytes came, a request was
 //! asked for, a command was called and answered, or declined where memory was refused to read it, its
 //! peer ended. Callers see a connection as a
-//! `LinkState`; `Link::take_in` and `Link::give_out` say which moves lead from one to the next, what is
-//! said at them, which calls the seat notes for them and which the hall refused. A turn is a list of
+//! `LinkState`; `Link::take_in`, `do_requests` and `give_out` say which moves lead from one to the next,
+//! what is said at them, which calls the seat notes for them and which the hall refused. A turn is a list of
 //! visits of connections (`specs/Turns.antt`; `Worker::turn` `serves`), each by such moves; one to whose
 //! bytes memory was refused is dropped at that visit. Between turns (`specs/Between.antt`) connections
 //! come under keys that had none, leave, or stay as they are; one that can't be passed on comes back as it

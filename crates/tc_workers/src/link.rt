@@ -1,49 +1,35 @@
 //! One connection of a worker.
 ghost use Rattle.std.specs.Prelude.{◌≡◌, ◌≢◌, ◌≤◌, ℕ, List, [], true, false, length};
 ghost use Rattle.std.specs.Prelude.{OnSome, IfNone, Some, IsSome};
-ghost use Rattle.tc_model.specs.Connection.{is_closed, new_endpoint, with_piece};
-ghost use Rattle.tc_grammar.specs.declared.command.Command.TheVariants.{Quit};
+ghost use Rattle.tc_model.specs.Connection.{new_endpoint, with_piece};
 ghost use Rattle.tc_session.specs.TextProtocol.{text_protocol};
-ghost use Rattle.tc_session.specs.SessionView.{reply_room};
-ghost use Rattle.tc_workers.specs.Talks.{Talks, Carries, Answers};
+ghost use Rattle.tc_workers.specs.Talks.{Carries};
 ghost use Rattle.tc_workers.specs.Turns.{longest_piece, most_kept};
 
+mod requests;
+
 use crate::admitted::Admitted;
-use crate::dealing::{Backlog, SHARE};
-use crate::desk::Desk;
-use crate::gate::{Gate, Place};
+use crate::dealing::Backlog;
 use crate::guesses::Guesses;
 use crate::homes::Homes;
-use crate::order::number_after;
 use crate::pace::{Onward, Pace};
-use crate::service::Service;
 use crate::wire::{Change, Got, Put, Remark, Wire};
 use crate::work::Work;
 use std::alloc::Global;
 use std::marker::Model;
 use std::sync::Wait;
-use tc_grammar::Command;
 use tc_item::Moment;
-use tc_locked::{Clock, Naming};
-use tc_plain::Cache;
-use tc_session::{News, Session, Want};
+use tc_session::Session;
 use tc_users::UserNo;
 
 /// The most bytes of a read.
 pub(crate) const LONGEST_PIECE: usize = 16_384;
 
-/// How many requests are done in a turn at most.
-const REQUESTS: u32 = 16;
-
 /// The first byte of a connection that speaks the binary protocol (doc/protocol-binary.txt).
 const BINARY: u8 = 0x80;
 
-/// Once a wire took so many bytes in half a turn, it takes no more before the other connections went on.
+/// Once a wire took so many bytes in a part of a turn, it takes no more before the other connections went on.
 const MOST_TAKEN: usize = 524_288;
-
-/// More bytes than these are sent as soon as a turn's requests are done; fewer wait until the other
-/// connections' are done too.
-const EARLY_OUT: usize = 16_384;
 
 /// A connection: its wire, and what came on it. Contracts see its number, its session, whether no whole
 /// request of it is unread, what bytes its wire gave and took, and the number of its latest entry.
@@ -72,7 +58,7 @@ pub(crate) struct Link<W: Wire + Drop> {
     is_binary: bool,
     /// Its refused logins.
     guesses: Guesses,
-    /// What was done in this half of its turn.
+    /// What was done in this part of its turn.
     work: Work,
     /// The number in its book of its latest call's entry, 0 before the first; none once one was not above
     /// the one before it. A book numbers its entries upwards, and a connection is one user's for good, so
@@ -209,6 +195,13 @@ impl<W: Wire + Drop> Link<W> {
         self.admitted = admitted;
     }
 
+    /// Learns with how many bytes that wait to be sent it is not full yet.
+    pub(crate) fn set_most_out(&mut self, most_out: usize)
+        ensures { self.new ≡ self.old }
+    {
+        self.admitted.most_out = most_out;
+    }
+
     /// How many bytes wait to be sent to it, and whose it is for the deal.
     pub(crate) fn backlog(&self) -> Backlog {
         Backlog {
@@ -217,7 +210,7 @@ impl<W: Wire + Drop> Link<W> {
         }
     }
 
-    /// What was done in the last half of a turn.
+    /// What was done in the last part of a turn.
     pub(crate) fn work(&self) -> u64 {
         self.work.units()
     }
@@ -229,65 +222,29 @@ impl<W: Wire + Drop> Link<W> {
         self.session.kept()
     }
 
-    /// The first half of a turn: reads, does requests, and writes where much waits. Each command is one
-    /// call of the hall, and there are 16 at most. Whether it goes on.
-    pub(crate) fn take_in<R: Wait, C: Cache, N: Naming, G: Gate>(
-        &mut self,
-        service: &Service<'_, R, C, N, G>,
-        desk: &mut Desk<N>,
-        buffer: &mut [u8],
-    ) -> bool
-        ensures moved { (sent lost : List ℕ)
-            × Talks 16 service.now.users.now sent lost self.old self.new desk.old desk.new
+    /// The first part of a turn: reads. Whether it goes on.
+    pub(crate) fn take_in<R: Wait>(&mut self, rt: &R, buffer: &mut [u8]) -> bool
+        ensures moved { (lost : List ℕ) × Carries [] lost self.old self.new
             × (result ≡ true → lost ≡ []) }
-        ensures ordered { result ≡ true → IsSome self.old.last → IsSome self.new.last }
     {
         self.work = Work::none();
+        self.pace = Pace::Tries;
         if self.guesses.waits() {
-            self.pace = Pace::Tries;
             return true;
         }
-        self.take_requests(service, desk, buffer)
-    }
-
-    /// The first half of a turn in which no reply is held back.
-    fn take_requests<R: Wait, C: Cache, N: Naming, G: Gate>(
-        &mut self,
-        service: &Service<'_, R, C, N, G>,
-        desk: &mut Desk<N>,
-        buffer: &mut [u8],
-    ) -> bool
-        ensures moved { (sent lost : List ℕ)
-            × Talks 16 service.now.users.now sent lost self.old self.new desk.old desk.new
-            × (result ≡ true → lost ≡ []) }
-        ensures ordered { result ≡ true → IsSome self.old.last → IsSome self.new.last }
-    {
-        let Some(came) = self.read(buffer) else {
-            self.tell_binary(service.rt);
-            return false;
-        };
-        let served = self.serve(service, desk);
-        self.tell(service);
-        self.pace = came.and(served);
-        if !self.is_ordered() {
-            return false;
+        match self.read(buffer) {
+            Some(came) => {
+                self.pace = came;
+                true
+            }
+            None => {
+                self.tell_binary(rt);
+                false
+            }
         }
-        self.keeps_out() || self.send()
     }
 
-    /// Whether its calls were entered in the order in which it made them.
-    fn is_ordered(&self) -> bool
-        ensures { result ≡ true → IsSome self.now.last }
-    {
-        self.last.is_some()
-    }
-
-    /// Whether what waits to be sent is kept for the second half of the turn.
-    fn keeps_out(&self) -> bool {
-        self.session.out_len() <= EARLY_OUT || self.guesses.waits()
-    }
-
-    /// The second half of a turn: writes, and looks once more whether there is something to read.
+    /// The last part of a turn: writes, and looks once more whether there is something to read.
     pub(crate) fn give_out(&mut self, now: Moment, buffer: &mut [u8]) -> Onward
         ensures moved { (sent lost : List ℕ) × Carries sent lost self.old self.new
             × (result ≢ Onward.Done → lost ≡ []) }
@@ -299,7 +256,7 @@ impl<W: Wire + Drop> Link<W> {
         self.give_replies(now, buffer)
     }
 
-    /// The second half of a turn in which no reply is held back.
+    /// The last part of a turn in which no reply is held back.
     fn give_replies(&mut self, now: Moment, buffer: &mut [u8]) -> Onward
         ensures moved { (sent lost : List ℕ) × Carries sent lost self.old self.new
             × (result ≢ Onward.Done → lost ≡ []) }
@@ -408,110 +365,6 @@ impl<W: Wire + Drop> Link<W> {
         Some(Pace::GetsOn)
     }
 
-    /// Does requests until none is whole, many were done, much was done, much waits to be sent, a reply
-    /// waits, or it is to be admitted anew. The first is done in any case, so that it gets on.
-    fn serve<R: Wait, C: Cache, N: Naming, G: Gate>(
-        &mut self,
-        service: &Service<'_, R, C, N, G>,
-        desk: &mut Desk<N>,
-    ) -> Pace
-        ensures moved { Talks 16 service.now.users.now [] [] self.old self.new desk.old desk.new }
-    {
-        let mut pace = Pace::Rests;
-        for _ in 0..REQUESTS {
-            if self.rests || self.session.is_closed() || self.is_full() || self.pauses() {
-                return pace;
-            }
-            if pace == Pace::GetsOn && self.is_to_be_admitted(service.clock) {
-                return pace;
-            }
-            if !self.ask(service, desk) {
-                return pace.and(Pace::Tries);
-            }
-            pace = Pace::GetsOn;
-        }
-        pace
-    }
-
-    /// Whether others are to go on first, or a reply waits.
-    fn pauses(&self) -> bool {
-        self.work.units() >= SHARE || self.guesses.waits()
-    }
-
-    /// Whether what is unread is for another turn: since it was admitted it has logged in, or the clock
-    /// went on.
-    fn is_to_be_admitted(&self, clock: &Clock) -> bool {
-        let Admitted { user, now, .. } = self.admitted;
-        self.session.kept() > 0 && (self.user() != user || clock.now() != now)
-    }
-
-    /// Asks for one request, and does it; a command to which memory is refused twice is declined. Whether
-    /// memory sufficed to ask, or to say so.
-    fn ask<R: Wait, C: Cache, N: Naming, G: Gate>(
-        &mut self,
-        service: &Service<'_, R, C, N, G>,
-        desk: &mut Desk<N>,
-    ) -> bool
-        requires { is_closed self.old.session.endpoint.phase ≡ false }
-        ensures moved { Talks 1 service.now.users.now [] [] self.old self.new desk.old desk.new }
-    {
-        let kept = self.session.kept();
-        // Memory may be there in the next turn; a client is not to wait for it any longer.
-        let is_retry = self.refused.is_some();
-        let Ok(asked) = self
-            .session
-            .ask(service.alloc, service.users, is_retry, &mut desk.declined)
-        else {
-            self.note_refusal(service.clock.now());
-            return false;
-        };
-        self.refused = None;
-        let Some(want) = asked else {
-            self.note_answer(service, kept);
-            return true;
-        };
-        match want {
-            Want::Nothing => self.rests = true,
-            Want::Said | Want::Close => self.note_answer(service, kept),
-            Want::Call(user, command) => self.call(service, desk, user, &command),
-        }
-        true
-    }
-
-    /// Notes since when memory is refused to its requests.
-    fn note_refusal(&mut self, now: Moment)
-        ensures { self.new ≡ self.old }
-    {
-        if self.refused.is_none() {
-            self.refused = Some(now);
-        }
-    }
-
-    /// Notes that a request was answered that calls no command, before which so many bytes were unread.
-    fn note_answer<R: Wait, C: Cache, N: Naming, G: Gate>(
-        &mut self,
-        service: &Service<'_, R, C, N, G>,
-        kept: usize,
-    )
-        ensures { self.new ≡ self.old }
-    {
-        self.work
-            .add_answer(kept.saturating_sub(self.session.kept()));
-        self.tell(service);
-    }
-
-    /// Tells the wire what an operator may want to know, and counts refused logins.
-    fn tell<R: Wait, C: Cache, N: Naming, G: Gate>(&mut self, service: &Service<'_, R, C, N, G>)
-        ensures { self.new ≡ self.old }
-    {
-        if let Some(news) = self.session.take_news() {
-            if let News::LoginRefused(_) = news {
-                self.guesses.add(service.clock.now());
-            }
-            self.wire.note(service.rt, Remark::News(news));
-        }
-    }
-
     /// Tells the wire of a client that speaks the binary protocol.
     fn tell_binary<R: Wait>(&mut self, rt: &R)
         ensures { self.new ≡ self.old }
@@ -529,49 +382,6 @@ impl<W: Wire + Drop> Link<W> {
             self.is_told = true;
             self.wire.set_user(user);
         }
-    }
-
-    /// Does one command, and answers it.
-    fn call<R: Wait, C: Cache, N: Naming, G: Gate>(
-        &mut self,
-        service: &Service<'_, R, C, N, G>,
-        desk: &mut Desk<N>,
-        user: UserNo,
-        command: &Command,
-    )
-        requires room { reply_room ≤ self.old.session.room }
-        requires runs { command.now ≢ Quit }
-        ensures answers { Answers user command.now self.old self.new desk.old desk.new }
-    {
-        self.meet(user);
-        self.work.add_command(command);
-        // A client with many requests in flight sent some of them together.
-        desk.seat.set_more(self.session.kept() > 0);
-        let gate = service.gate;
-        gate.pass(user, Place::Before);
-        let called = service.hall.call_with(
-            service.rt,
-            service.alloc,
-            &mut desk.seat,
-            &mut desk.refusals,
-            user,
-            self.admitted.now,
-            self.conn,
-            command,
-            || gate.pass(user, Place::Held),
-        );
-        gate.pass(user, Place::After);
-        let Ok(receipt) = called else {
-            // The protocol has one text for a command that was not done. Memory may be there for the next
-            // one; a worn book does none again. No server sees `NoUser` or `OtherBook`: its hall is made of
-            // the table by which its sessions log in, and nothing takes a book out of it.
-            self.session.refuse(command);
-            return;
-        };
-        // A reply that was refused says so itself.
-        let _ = self.session.answer(command, &receipt.slip.outcome);
-        self.last = number_after(self.last, receipt.slip.number);
-        drop(receipt);
     }
 
     /// Writes until all is out, the wire takes no more, or it took so much that others are to go on

@@ -8,11 +8,12 @@ pub(crate) enum Waits {
     No,
 }
 
-/// A connection that is to be served: its number, under which key it stands at its worker, and whether
-/// it was left out.
+/// A connection that is to be served: its number, under which key it stands at its worker, whether it is
+/// admitted to the turn, and whether it was left out.
 #[derive(Clone, Copy, Debug)]
 pub(crate) struct Listed {
     conn: u32,
+    is_admitted: bool,
     pub(crate) key: usize,
     waits: Waits,
 }
@@ -22,6 +23,7 @@ impl Listed {
     pub(crate) fn new(conn: u32, key: usize) -> Listed {
         Listed {
             conn,
+            is_admitted: false,
             key,
             waits: Waits::No,
         }
@@ -30,6 +32,19 @@ impl Listed {
     /// Its place in a turn: behind those that were left out, and they by how long.
     pub(crate) fn rank(&self) -> (Waits, u32) {
         (self.waits, self.conn)
+    }
+
+    /// Notes whether it is admitted to this turn: where it isn't, it is left out.
+    pub(crate) fn admit(&mut self, is_admitted: bool, turn: u64) {
+        self.is_admitted = is_admitted;
+        if !is_admitted {
+            self.note(false, turn);
+        }
+    }
+
+    /// Whether it is admitted to the turn.
+    pub(crate) fn is_admitted(&self) -> bool {
+        self.is_admitted
     }
 
     /// Notes that it is served in this turn, or left out.

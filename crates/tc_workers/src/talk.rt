@@ -19,7 +19,7 @@ use std::alloc::Global;
 use std::marker::Model;
 use std::sync::Wait;
 use tc_item::Moment;
-use tc_locked::Naming;
+use tc_locked::{Lease, Naming};
 use tc_plain::Cache;
 use tc_users::Users;
 
@@ -130,12 +130,19 @@ impl<W: Wire + Drop> Talk<W> {
         self.link.admit(admitted);
     }
 
+    /// Learns with how many bytes that wait to be sent it is not full yet.
+    pub(crate) fn set_most_out(&mut self, most_out: usize)
+        ensures { self.new ≡ self.old }
+    {
+        self.link.set_most_out(most_out);
+    }
+
     /// How many bytes wait to be sent to it, and whose it is for the deal.
     pub(crate) fn backlog(&self) -> Backlog {
         self.link.backlog()
     }
 
-    /// What was done in the last half of a turn.
+    /// What was done in the last part of a turn.
     pub(crate) fn work(&self) -> u64 {
         self.link.work()
     }
@@ -155,29 +162,42 @@ impl<W: Wire + Drop> Talk<W> {
         self.link.kept()
     }
 
-    /// The first half of a turn (`Link::take_in`). Whether it goes on.
-    pub(crate) fn take_in<R: Wait, C: Cache, N: Naming, G: Gate>(
-        &mut self,
-        service: &Service<'_, R, C, N, G>,
-        desk: &mut Desk<N>,
-        buffer: &mut [u8],
-    ) -> bool
-        ensures moved { (sent lost : List ℕ)
-            × Talks 16 service.now.users.now sent lost
-            self.old.link self.new.link desk.old desk.new
+    /// The first part of a turn (`Link::take_in`). Whether it goes on.
+    pub(crate) fn take_in<R: Wait>(&mut self, rt: &R, buffer: &mut [u8]) -> bool
+        ensures moved { (lost : List ℕ) × Carries [] lost self.old.link self.new.link
             × (result ≡ true → lost ≡ []) }
         ensures stays { result ≡ true
-            → IsOpen service.now.users.now self.old → IsOpen service.now.users.now self.new }
+            → (rows : List UserSpec) → IsOpen rows self.old → IsOpen rows self.new }
     {
-        self.tables = self.tables.and(service.users, &());
-        if self.link.take_in(service, desk, buffer) {
+        if self.link.take_in(rt, buffer) {
             return true;
         }
         self.ends = self.ends.and(&(), &());
         false
     }
 
-    /// The second half of a turn (`Link::give_out`).
+    /// The second part of a turn (`Link::do_requests`). Whether it goes on.
+    pub(crate) fn do_requests<'a, R: Wait, C: Cache, N: Naming, G: Gate>(
+        &mut self,
+        service: &Service<'a, R, C, N, G>,
+        desk: &mut Desk<N>,
+        lease: &mut Lease<'a, C, N>,
+    ) -> bool
+        ensures moved { (sent : List ℕ)
+            × Talks 16 service.now.users.now sent []
+            self.old.link self.new.link desk.old desk.new }
+        ensures stays { result ≡ true
+            → IsOpen service.now.users.now self.old → IsOpen service.now.users.now self.new }
+    {
+        self.tables = self.tables.and(service.users, &());
+        if self.link.do_requests(service, desk, lease) {
+            return true;
+        }
+        self.ends = self.ends.and(&(), &());
+        false
+    }
+
+    /// The last part of a turn (`Link::give_out`).
     pub(crate) fn give_out(&mut self, now: Moment, buffer: &mut [u8]) -> Onward
         ensures moved { (sent lost : List ℕ) × Carries sent lost self.old.link self.new.link
             × (result ≢ Onward.Done → lost ≡ []) }

@@ -1,27 +1,22 @@
-use Rattle.std.proofs.Common.{List, refl, sym, subst}
-use Rattle.tc_users.specs.declared.users.UserSpec.{UserSpec}
-use Rattle.tc_workers.specs.Lives.{AreAll, tables_in}
-use Rattle.tc_workers.proofs.Living.{goes-rose, tables-by, tables-more, has_talk-served}
+use Rattle.std.proofs.Common.{refl, sym}
+use Rattle.tc_workers.proofs.Latest.{rose-same}
+use Rattle.tc_workers.proofs.Living.{carries-last, has_talk-carried}
 use Rattle.tc_workers.proofs.talk.Talk.take_in.Goals as goal
 
 pub invariant_of-self : goal.invariant_of-self
 invariant_of-self g c =
-    has_talk-served c.self.invariant c.if-take_in.ensures.moved.2 (c.if-take_in.ensures.moved.3 refl)
-    (λ rows still.
-    let By = λ (ts : List (List UserSpec × Unit {0})). AreAll rows (tables_in ts) in
-    let more = tables-more rows c.args.service.now.users.now tt c.self.inside.tables.items
-    (subst By c.and-self-inside.ensures still.by) in (
-      record { by = more.0; on = still.on; rose = goes-rose c.if-take_in.ensures.moved.2.goes still.rose },
-      more.1,
-    ))
+    has_talk-carried c.self.invariant c.if-take_in.ensures.moved.1 (c.if-take_in.ensures.moved.2 refl)
+    (λ rows still. record {
+      by = still.by;
+      on = still.on;
+      rose = rose-same (sym (carries-last c.if-take_in.ensures.moved.1)) still.rose;
+    })
 
 pub returns-then-take_in-clause-stays : goal.returns-then-take_in-clause-stays
 returns-then-take_in-clause-stays g c =
     rw (← c.self.view_is)
-    (λ on was. record {
-      by =
-          subst (λ (ts : List (List UserSpec × Unit {0})). AreAll c.args.service.now.users.now (tables_in ts))
-          (sym c.and-self-inside.ensures) (tables-by _ _ _ was.by);
+    (λ on rows was. record {
+      by = was.by;
       on = was.on;
-      rose = c.if-take_in.ensures.ordered on was.rose;
+      rose = rose-same (carries-last c.if-take_in.ensures.moved.1) was.rose;
     })

@@ -4,9 +4,9 @@ use Rattle.tc_workers.proofs.Visiting.{serves-same}
 use Rattle.tc_workers.proofs.worker.Worker.visit.Goals as goal
 
 pub returns-in_default-clause-serves : goal.returns-in_default-clause-serves
-returns-in_default-clause-serves g c = serves-same c.admit.ensures
+returns-in_default-clause-serves g c = serves-same c.admit_again.ensures
 
 pub returns-clause-serves : goal.returns-clause-serves
 returns-clause-serves g c =
-    subst (λ (w : WorkerState). Serves 16 c.args.service.now.users.now w c.take_in.new.self) c.admit.ensures
-    c.take_in.ensures.serves
+    subst (λ (w : WorkerState). Serves 16 c.args.service.now.users.now w c.do_requests.new.self) c.admit_again.ensures
+    c.do_requests.ensures.serves

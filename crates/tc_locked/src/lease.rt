@@ -1,0 +1,92 @@
+//! A user's lock that a thread keeps from one call to the next.
+use crate::kept::Kept;
+use crate::locking::lock_soon;
+use crate::naming::Naming;
+use std::alloc::Global;
+use std::sync::{Mutex, MutexGuard, Wait};
+use tc_grammar::Command;
+use tc_plain::{Cache, LeftOver};
+
+/// Once commands of this cost were done under a lock that is kept, it is given back: a tenth of a
+/// millisecond at most, after which others who wait for it have their turn.
+const MOST: usize = 128;
+
+/// What a command costs, by its keys.
+fn cost_of(command: &Command) -> usize {
+    match command {
+        Command::Get { form: _, keys } => keys.len(),
+        Command::Gat { keys, .. } => keys.len(),
+        _ => 1,
+    }
+}
+
+/// A user's lock, kept from one call to the next, or none. Where a thread makes several calls for a user
+/// one after the other, what the lock guards goes from one processor to the other once, and not with each
+/// call. What lies under the lock is known by its type alone, as by any lock.
+#[derive(Drop)]
+pub struct Lease<'a, C: Cache, N: Naming> {
+    guard: Option<MutexGuard<'a, Kept<C, N>>>,
+    /// Whose lock it is.
+    user: u32,
+    /// What was done since the lock was got.
+    done: usize,
+    /// What turns of pages left over, which is let go of once no lock is held.
+    left: Vec<LeftOver>,
+}
+
+impl<'a, C: Cache, N: Naming> Lease<'a, C, N> {
+    /// No lock.
+    pub fn none(alloc: Global) -> Lease<'a, C, N> {
+        Lease {
+            guard: None,
+            user: 0,
+            done: 0,
+            left: Vec::new(alloc),
+        }
+    }
+
+    /// Gives the lock back, if there is one, and lets go of what calls under it left over.
+    pub fn release(&mut self, alloc: Global) {
+        drop(self.guard.take());
+        self.done = 0;
+        self.left = Vec::new(alloc);
+    }
+
+    /// The lock of this user: the one that is kept, or the user's once it is got.
+    pub(crate) fn lock<R: Wait>(
+        &mut self,
+        rt: &R,
+        user: u32,
+        lock: &'a Mutex<Kept<C, N>>,
+    ) -> MutexGuard<'a, Kept<C, N>> {
+        match self.guard.take() {
+            Some(guard) if self.user == user => guard,
+            other => {
+                drop(other);
+                self.done = 0;
+                lock_soon(lock, rt)
+            }
+        }
+    }
+
+    /// Keeps the lock of this user after a command that left this over, or gives it back where enough
+    /// was done under it.
+    pub(crate) fn keep(
+        &mut self,
+        alloc: Global,
+        user: u32,
+        guard: MutexGuard<'a, Kept<C, N>>,
+        command: &Command,
+        left: Vec<LeftOver>,
+    ) {
+        self.user = user;
+        self.done = self.done.saturating_add(cost_of(command));
+        self.guard = Some(guard);
+        if !left.is_empty() {
+            self.left = left;
+        }
+        if self.done >= MOST {
+            self.release(alloc);
+        }
+    }
+}

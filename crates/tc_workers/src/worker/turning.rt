@@ -1,0 +1,426 @@
+//! A turn of a worker over those of its connections that may have something to do.
+ghost use Rattle.std.specs.Prelude.{◌≡◌, ◌*◌, List, IfSome, IfNone};
+ghost use Rattle.std.specs.Prelude.{Some, None};
+ghost use Rattle.tc_users.specs.declared.users.UserSpec.{UserSpec};
+ghost use Rattle.tc_workers.specs.Turns.{Serves, GoesOnOrEnds, goes_on};
+
+use crate::admitted::Admitted;
+use crate::dealing::{Backlog, PIECES};
+use crate::gate::Gate;
+use crate::listed::{Leaving, Listed};
+use crate::pace::{Onward, Pace};
+use crate::service::Service;
+use crate::wire::{Patience, Wire};
+use crate::worker::Worker;
+use std::sync::Wait;
+use tc_item::Moment;
+use tc_locked::{Clock, Hall, Lease, Naming};
+use tc_plain::{Cache, Progress};
+use tc_users::{UserNo, Users};
+
+impl<W: Wire + Drop, N: Naming> Worker<W, N> {
+    /// Goes over the listed connections, in the order in which they came to the server: each reads, once
+    /// all did each does requests, and once all did each writes. Those that are done are dropped; those
+    /// that another worker is to serve wait for `pass_on`; those whose user had its share, or has much
+    /// deferred work in a new second, go first in the next turn. How long the inlet may then wait: not at
+    /// all where one gets on or was left out, and a moment where one is to be tried again. Each command of a
+    /// connection is one call of the hall, and a connection has 16 at most.
+    pub fn turn<R: Wait, C: Cache, G: Gate>(
+        &mut self,
+        rt: &R,
+        hall: &Hall<C, N>,
+        users: &Users,
+        clock: &Clock,
+        gate: &G,
+    ) -> Patience
+        ensures serves { Serves (16 * self.old.due) users.now self.old self.new }
+    {
+        let service = Service {
+            rt,
+            alloc: self.alloc,
+            hall,
+            users,
+            clock,
+            gate,
+        };
+        self.begin_turn(users.rows().len());
+        self.order();
+        self.take_all_in(&service);
+        self.do_all(&service);
+        self.give_all_out(clock.now())
+    }
+
+    /// Begins to deal the turn out among so many users.
+    fn begin_turn(&mut self, users: usize)
+        ensures { self.new ≡ self.old }
+    {
+        let sole = self.sole_user();
+        self.dealing.begin(users, sole);
+    }
+
+    /// The user whose connections alone are listed.
+    fn sole_user(&self) -> Option<usize> {
+        let first = self.user_of(self.listed.first()?.key);
+        for listed in &self.listed {
+            if self.user_of(listed.key) != first {
+                return None;
+            }
+        }
+        Some(first)
+    }
+
+    /// The user of a key's connection for the deal, 0 where it has not logged in.
+    fn user_of(&self, key: usize) -> usize {
+        match self.links.get(key) {
+            Some(link) => link.user(),
+            None => 0,
+        }
+    }
+
+    /// Orders the listed connections by their numbers, behind those that were left out. A client's
+    /// connections mostly came one after the other, so that replies to it follow one another, and a thread
+    /// of it that sleeps is woken once for several.
+    fn order(&mut self)
+        ensures { self.new ≡ self.old }
+    {
+        self.listed.sort_unstable_by_key(|listed| listed.rank());
+    }
+
+    /// The first part of the turn of each listed connection.
+    fn take_all_in<R: Wait, C: Cache, G: Gate>(&mut self, service: &Service<'_, R, C, N, G>)
+        ensures listed { self.new.due ≡ self.old.due }
+        ensures serves { (rows : List UserSpec) → Serves 0 rows self.old self.new }
+    {
+        for at in 0..self.listed.len() {
+            self.begin_visit(service, at);
+        }
+    }
+
+    /// The first part of the turn of the connection at a place of the list, unless its user is to wait.
+    fn begin_visit<R: Wait, C: Cache, G: Gate>(
+        &mut self,
+        service: &Service<'_, R, C, N, G>,
+        at: usize,
+    )
+        ensures listed { self.new.due ≡ self.old.due }
+        ensures serves { (rows : List UserSpec) → Serves 0 rows self.old self.new }
+    {
+        let Some(key) = self.admit(service, at) else {
+            return;
+        };
+        self.take_in(service.rt, key);
+    }
+
+    /// The second part of the turn of each listed connection.
+    fn do_all<'a, R: Wait, C: Cache, G: Gate>(&mut self, service: &Service<'a, R, C, N, G>)
+        ensures serves { Serves (16 * self.old.due) service.now.users.now self.old self.new }
+    {
+        let mut lease = Lease::none(service.alloc);
+        for at in 0..self.listed.len() {
+            self.visit(service, &mut lease, at);
+        }
+        lease.release(service.alloc);
+    }
+
+    /// The second part of the turn of the connection at a place of the list, unless its user is to wait.
+    fn visit<'a, R: Wait, C: Cache, G: Gate>(
+        &mut self,
+        service: &Service<'a, R, C, N, G>,
+        lease: &mut Lease<'a, C, N>,
+        at: usize,
+    )
+        ensures listed { self.new.due ≡ self.old.due }
+        ensures serves { Serves 16 service.now.users.now self.old self.new }
+    {
+        let Some(key) = self.admit_again(at) else {
+            return;
+        };
+        self.do_requests(service, lease, key);
+    }
+
+    /// The key of the connection at a place of the list, where it was admitted to this turn and its user
+    /// still has a share of it; else it is left out.
+    fn admit_again(&mut self, at: usize) -> Option<usize>
+        ensures { self.new ≡ self.old }
+    {
+        let listed = *self.listed.get(at)?;
+        if !listed.is_admitted() {
+            return None;
+        }
+        let user = self.user_of(listed.key);
+        let is_served = self.dealing.serves(user);
+        self.note_served(at, is_served);
+        if !is_served {
+            return None;
+        }
+        let most_out = self.dealing.most_out(self.backlog_of(listed.key));
+        self.tell_most_out(listed.key, most_out);
+        Some(listed.key)
+    }
+
+    /// The key of the connection at a place of the list, where it is admitted to this turn; else it is
+    /// left out.
+    fn admit<R: Wait, C: Cache, G: Gate>(
+        &mut self,
+        service: &Service<'_, R, C, N, G>,
+        at: usize,
+    ) -> Option<usize>
+        ensures { self.new ≡ self.old }
+    {
+        let key = self.listed.get(at)?.key;
+        let user = self.user_of(key);
+        let now = service.clock.now();
+        let is_served = self.is_served(service, user, now);
+        self.note_admitted(at, is_served);
+        if !is_served {
+            return None;
+        }
+        let most_out = self.dealing.most_out(self.backlog_of(key));
+        let admitted = Admitted {
+            user,
+            now,
+            most_out,
+        };
+        self.tell_admitted(key, admitted);
+        Some(key)
+    }
+
+    /// How many bytes wait to be sent to a key's connection.
+    fn backlog_of(&self, key: usize) -> Backlog {
+        match self.links.get(key) {
+            Some(link) => link.backlog(),
+            None => Backlog { user: 0, bytes: 0 },
+        }
+    }
+
+    /// Tells a connection that it is admitted.
+    fn tell_admitted(&mut self, key: usize, admitted: Admitted)
+        ensures { self.new ≡ self.old }
+    {
+        if let Some(link) = self.links.get_mut(key) {
+            link.admit(admitted);
+        }
+    }
+
+    /// Tells a connection with how many bytes that wait to be sent it is not full yet.
+    fn tell_most_out(&mut self, key: usize, most_out: usize)
+        ensures { self.new ≡ self.old }
+    {
+        if let Some(link) = self.links.get_mut(key) {
+            link.set_most_out(most_out);
+        }
+    }
+
+    /// Whether a user is served in this turn.
+    fn is_served<R: Wait, C: Cache, G: Gate>(
+        &mut self,
+        service: &Service<'_, R, C, N, G>,
+        user: usize,
+        now: Moment,
+    ) -> bool
+        ensures { self.new ≡ self.old }
+    {
+        if !self.dealing.serves(user) {
+            return false;
+        }
+        self.catch_up(service, user, now)
+    }
+
+    /// Notes whether the connection at a place of the list is admitted to this turn.
+    fn note_admitted(&mut self, at: usize, is_admitted: bool)
+        ensures { self.new ≡ self.old }
+    {
+        let turn = self.dealing.turn();
+        if let Some(listed) = self.listed.get_mut(at) {
+            listed.admit(is_admitted, turn);
+        }
+    }
+
+    /// Notes whether the connection at a place of the list is served in this turn.
+    fn note_served(&mut self, at: usize, is_served: bool)
+        ensures { self.new ≡ self.old }
+    {
+        let turn = self.dealing.turn();
+        if let Some(listed) = self.listed.get_mut(at) {
+            listed.note(is_served, turn);
+        }
+    }
+
+    /// Has a user's cache maintained where nothing says that none of its deferred work is left at this
+    /// moment: all items that are due in one second are much work, which the first command that meets that
+    /// second would do at once, while others wait. Whether the user may be served.
+    fn catch_up<R: Wait, C: Cache, G: Gate>(
+        &mut self,
+        service: &Service<'_, R, C, N, G>,
+        user: usize,
+        now: Moment,
+    ) -> bool
+        ensures { self.new ≡ self.old }
+    {
+        let Ok(number) = u32::try_from(user) else {
+            return true;
+        };
+        if !self.dealing.is_behind(user, now) {
+            return true;
+        }
+        let progress = service
+            .hall
+            .maintain(service.rt, UserNo::new(number), now, PIECES);
+        self.dealing.note_progress(user, now, progress);
+        progress == Progress::Done
+    }
+
+    /// The last part of the turn of each listed connection, and how long the inlet may wait.
+    fn give_all_out(&mut self, now: Moment) -> Patience
+        ensures serves { (rows : List UserSpec) → Serves 0 rows self.old self.new }
+    {
+        let mut one_got_on = false;
+        let mut at = 0;
+        for _ in 0..self.listed.len() {
+            if at >= self.listed.len() {
+                break;
+            }
+            let listed = self.listed[at];
+            match self.end_visit(now, listed) {
+                Onward::GoesOn(Pace::GetsOn) => {
+                    one_got_on = true;
+                    at += 1;
+                }
+                Onward::GoesOn(Pace::Tries) => at += 1,
+                Onward::GoesOn(Pace::Rests) | Onward::Done => {
+                    let _ = self.listed.swap_remove(at);
+                }
+            }
+        }
+        match (one_got_on, self.listed.is_empty()) {
+            (true, _) => Patience::Hurried,
+            (false, false) => Patience::Brief,
+            (false, true) => Patience::Long,
+        }
+    }
+
+    /// The first part of one connection's turn. Where it is done it is dropped.
+    fn take_in<R: Wait>(&mut self, rt: &R, key: usize)
+        ensures listed { self.new.due ≡ self.old.due }
+        ensures serves { (rows : List UserSpec) → Serves 0 rows self.old self.new }
+    {
+        if !self.read(rt, key) {
+            drop(self.remove(key));
+        }
+    }
+
+    /// Reads on one connection. Whether it goes on.
+    fn read<R: Wait>(&mut self, rt: &R, key: usize) -> bool
+        ensures listed { self.new.due ≡ self.old.due }
+        ensures serves { (rows : List UserSpec) → GoesOnOrEnds 0 rows key result self.old self.new }
+    {
+        match self.links.get_mut(key) {
+            Some(link) => {
+                let goes_on = link.take_in(rt, self.buffer.as_mut_slice());
+                self.dealing.charge(link.user(), link.work());
+                goes_on
+            }
+            None => true,
+        }
+    }
+
+    /// The second part of one connection's turn. Where it is done it is dropped.
+    fn do_requests<'a, R: Wait, C: Cache, G: Gate>(
+        &mut self,
+        service: &Service<'a, R, C, N, G>,
+        lease: &mut Lease<'a, C, N>,
+        key: usize,
+    )
+        ensures listed { self.new.due ≡ self.old.due }
+        ensures serves { Serves 16 service.now.users.now self.old self.new }
+    {
+        if !self.serve(service, lease, key) {
+            drop(self.remove(key));
+        }
+    }
+
+    /// Does requests, and writes where much waits, on one connection. Whether it goes on.
+    fn serve<'a, R: Wait, C: Cache, G: Gate>(
+        &mut self,
+        service: &Service<'a, R, C, N, G>,
+        lease: &mut Lease<'a, C, N>,
+        key: usize,
+    ) -> bool
+        ensures listed { self.new.due ≡ self.old.due }
+        ensures serves { GoesOnOrEnds 16 service.now.users.now key result self.old self.new }
+    {
+        match self.links.get_mut(key) {
+            Some(link) => {
+                let before = link.backlog();
+                let goes_on = link.do_requests(service, &mut self.desk, lease);
+                self.dealing.charge(before.user, link.work());
+                self.dealing.note_backlog(before, link.backlog());
+                goes_on
+            }
+            None => true,
+        }
+    }
+
+    /// The last part of the turn of a listed connection. One that was left out gets on in the next.
+    fn end_visit(&mut self, now: Moment, listed: Listed) -> Onward
+        ensures listed { self.new.due ≡ self.old.due }
+        ensures serves { (rows : List UserSpec) → Serves 0 rows self.old self.new }
+    {
+        if listed.waits() {
+            return Onward::GoesOn(Pace::GetsOn);
+        }
+        self.give_out(now, listed.key)
+    }
+
+    /// The last part of one connection's turn. Where it is done it is dropped, where it rests it is
+    /// told so, and where another worker is to serve it, it is done with here.
+    fn give_out(&mut self, now: Moment, key: usize) -> Onward
+        ensures listed { self.new.due ≡ self.old.due }
+        ensures serves { (rows : List UserSpec) → Serves 0 rows self.old self.new }
+    {
+        let Some(onward) = self.write(now, key) else {
+            return Onward::Done;
+        };
+        match onward {
+            Onward::GoesOn(pace) => self.leave_or_stay(key, pace),
+            Onward::Done => {
+                drop(self.remove(key));
+                Onward::Done
+            }
+        }
+    }
+
+    /// Writes on one connection, and looks at it once more; `None` where there is none.
+    fn write(&mut self, now: Moment, key: usize) -> Option<Onward>
+        ensures listed { self.new.due ≡ self.old.due }
+        ensures serves { IfSome result (λ onward. (rows : List UserSpec)
+            → GoesOnOrEnds 0 rows key (goes_on onward) self.old self.new) }
+        ensures none { IfNone result (self.new ≡ self.old) }
+    {
+        let Some(link) = self.links.get_mut(key) else {
+            return None;
+        };
+        let before = link.backlog();
+        let onward = link.give_out(now, self.buffer.as_mut_slice());
+        self.dealing.charge(before.user, link.work());
+        self.dealing.note_backlog(before, link.backlog());
+        Some(onward)
+    }
+
+    /// What a turn of this pace leaves of a connection that goes on.
+    fn leave_or_stay(&mut self, key: usize, pace: Pace) -> Onward
+        ensures listed { self.new.due ≡ self.old.due }
+        ensures serves { (rows : List UserSpec) → Serves 0 rows self.old self.new }
+    {
+        let Some(link) = self.links.get_mut(key) else {
+            return Onward::Done;
+        };
+        if let Some(to) = link.leaves_for(&self.homes)
+            && self.leaving.push(Leaving { key, to }).is_ok()
+        {
+            return Onward::Done;
+        }
+        link.note_pace(pace);
+        Onward::GoesOn(pace)
+    }
+}
