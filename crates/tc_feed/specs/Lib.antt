@@ -3,3 +3,4 @@ pub mod CutStream
 pub mod Scanned
 pub mod Looking
 pub mod Passing
+pub mod Refusing

@@ -1,6 +1,7 @@
 //! The unread bytes of a stream.
 ghost use Rattle.std.specs.Prelude.{◌≡◌, ◌++◌, ◌+◌, ◌≤◌, [], drop, None, OnOk, OnErr, IfOk, IsTrue, option_map, length as list_length};
 ghost use Rattle.tc_feed.specs.Passing.{passed_of};
+ghost use Rattle.tc_feed.specs.Refusing.{HasLine};
 ghost use Rattle.tc_feed.specs.Stream.{Reader, more, empty, longest_line, first, found, after_first};
 
 use crate::Request;
@@ -96,13 +97,14 @@ impl Feed {
 
     /// The next whole request, where blocks of at most `limit` bytes are taken: `None` only where no
     /// whole request begins the unread bytes, which are then at most 65,538 and the limit. A refusal
-    /// leaves the request unread.
+    /// leaves the request unread, and comes only where those bytes begin with a whole line.
     pub fn next(&mut self, alloc: Global, limit: u32) -> Result<Option<Request>, NoMemory>
         ensures found { IfOk result (λ request. request ≡ found limit self.old) }
         ensures after { OnOk result (self.new ≡ after_first limit self.old) }
         ensures bounded { IfOk result (λ request. request ≡ None
             → list_length self.new.unread ≤ limit + (longest_line + 2)) }
         ensures no_longer { list_length self.new.unread ≤ list_length self.old.unread }
+        ensures refused { OnErr result (HasLine self.old.unread) }
         ensures unchanged_on_err { OnErr result (self.new ≡ self.old) }
     {
         if self.is_lacking(limit) {

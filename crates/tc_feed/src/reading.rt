@@ -1,8 +1,9 @@
 //! The first request of unread bytes: small functions, one a case.
-ghost use Rattle.std.specs.Prelude.{◌≡◌, ℕ, ◌+◌, ◌<◌, ◌≤◌, ◌^◌, length, take, drop, None, IfOk, IfSome};
+ghost use Rattle.std.specs.Prelude.{◌≡◌, ℕ, ◌+◌, ◌<◌, ◌≤◌, ◌^◌, length, take, drop, None, IfOk, IfSome, OnErr};
 ghost use Rattle.tc_grammar.specs.Lines.{IsBounded};
 ghost use Rattle.tc_feed.specs.Stream.{line_length, longest_line, line_room, trimmed, block_request, block_of, line_request};
 ghost use Rattle.tc_feed.specs.Stream.{first_by, first};
+ghost use Rattle.tc_feed.specs.Refusing.{HasLine};
 ghost use Rattle.tc_feed.specs.Scanned.{IsScanned, IsAwaited, IsRemembered};
 ghost use Rattle.tc_grammar.specs.Reading.{reading};
 ghost use Rattle.tc_feed.specs.Looking.{needed_of};
@@ -180,6 +181,7 @@ pub(crate) fn look(
     ensures awaited { IfOk result (λ r. IsAwaited limit r.needed unread.now) }
     ensures short { IfOk result (λ r. r.taken ≡ None
         → length unread.now ≤ limit + (longest_line + 2)) }
+    ensures refused { OnErr result (HasLine unread.now) }
 {
     match find_end(unread, scanned) {
         None => Ok(look_for_line(unread)),

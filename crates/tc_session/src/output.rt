@@ -78,10 +78,11 @@ impl Output {
         }
     }
 
-    /// Makes room for so many bytes.
+    /// Makes room for so many bytes. It is refused only where there was less.
     pub fn reserve(&mut self, n: usize) -> Result<(), NoMemory>
         ensures bytes { self.new.bytes ≡ self.old.bytes }
         ensures room { OnOk result (n ≤ self.new.room) }
+        ensures refused { OnErr result (self.old.room < n) }
     {
         self.own.reserve(n)?;
         Ok(())

@@ -12,6 +12,7 @@ ghost use Rattle.tc_feed.specs.Stream.{found, after_first};
 ghost use Rattle.tc_feed.specs.declared.request.Request.{Request as AnyRequest};
 ghost use Rattle.tc_item.specs.Bounds.{largest_item};
 ghost use Rattle.tc_session.specs.Declines.{IsPassed, IsAsked};
+ghost use Rattle.tc_session.specs.Refusing.{WantsMemory};
 ghost use Rattle.tc_session.specs.Replies.{can_end, render, is_long};
 ghost use Rattle.tc_session.specs.TextProtocol.{text_protocol, fault_said, unbound_asks, unbound_command, unbound_store};
 ghost use Rattle.tc_session.specs.TextProtocol.{bound_wants, bound_command};
@@ -111,7 +112,8 @@ impl Session {
 
     /// The connection's next request. What needs no cache is answered at once. Where there is nothing
     /// to do, at most 65,538 bytes and the limit of blocks are unread, unless it is closed. A refusal leaves
-    /// the request unread.
+    /// the request unread. It comes only where room is lacking for what may be said, or a whole line is
+    /// unread: never where nothing came, or the connection is closed, once there is room.
     pub fn next(&mut self, alloc: Global, users: &Users) -> Result<Want, NoMemory>
         ensures want { IfOk result (λ want. want_of want
             ≡ (turn text_protocol users.now self.old.endpoint).want) }
@@ -127,6 +129,7 @@ impl Session {
             → length self.new.endpoint.reader.unread ≤ most_resting) }
         ensures no_longer { length self.new.endpoint.reader.unread
             ≤ length self.old.endpoint.reader.unread }
+        ensures refused { OnErr result (WantsMemory self.old) }
         ensures endpoint_on_err { OnErr result (self.new.endpoint ≡ self.old.endpoint) }
         ensures out_on_err { OnErr result (self.new.out ≡ self.old.out) }
     {

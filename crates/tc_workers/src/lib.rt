@@ -68,6 +68,7 @@ mod link;
 mod listed;
 mod order;
 mod pace;
+mod seat_of;
 mod service;
 mod shares;
 mod start;

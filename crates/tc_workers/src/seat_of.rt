@@ -1,0 +1,18 @@
+//! What a worker's thread gives back.
+ghost use Rattle.std.specs.Prelude.{◌≡◌};
+
+use crate::wire::Wire;
+use crate::worker::Worker;
+use std::snapshot::Snapshot;
+use std::thread::Promise;
+use tc_locked::{Naming, Seat};
+
+/// The promise that a thread gives back the seat of this worker, which it began with: one of that number.
+#[derive(Drop)]
+pub(crate) struct SeatOf<W: Wire + Drop, N: Naming> {
+    pub(crate) worker: Snapshot<Worker<W, N>>,
+}
+
+impl<W: Wire + Drop, N: Naming> Promise<Seat<N>> for SeatOf<W, N> {
+    ghost kept_by = { λ promise seat. seat.number ≡ promise.worker.value.desk.seat.number };
+}
