@@ -88,6 +88,9 @@ impl Printing<'_> {
             Notice::Binary { peer } => println!(self.rt;
                 "{peer} speaks the binary protocol, which this server does not: closed"
             ),
+            Notice::HoldsUp { peer } => println!(self.rt;
+                "{peer} sent half a block and no more, and held up others of its user: closed"
+            ),
             Notice::NoMemory { peer } => println!(self.rt; "out of memory for a command of {peer}"),
         }
     }

@@ -202,7 +202,7 @@ impl Door {
     }
 
     /// Has the connection go that has a place. Whether it was to stay.
-    fn oust(&self, at: usize) -> bool {
+    pub(crate) fn oust(&self, at: usize) -> bool {
         let Some(place) = self.places.get(at) else {
             return false;
         };
@@ -378,5 +378,6 @@ fn notice_of(peer: SocketAddr, remark: Remark) -> Notice {
         Remark::News(News::LongBlock) => Notice::LongBlock { peer },
         Remark::News(News::NoMemory) => Notice::NoMemory { peer },
         Remark::IsBinary => Notice::Binary { peer },
+        Remark::HoldsUp => Notice::HoldsUp { peer },
     }
 }

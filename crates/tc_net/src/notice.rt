@@ -26,6 +26,10 @@ pub enum Notice {
     Binary {
         peer: SocketAddr,
     },
+    /// A connection from there sent half a block and no more, while others of its user waited, and goes.
+    HoldsUp {
+        peer: SocketAddr,
+    },
     /// Memory was refused to a command from there, or to its reply.
     NoMemory {
         peer: SocketAddr,

@@ -228,6 +228,9 @@ impl Wire for Socket {
     }
 
     fn note<R: Wait>(&mut self, rt: &R, remark: Remark) {
+        if remark == Remark::HoldsUp {
+            self.door.oust(self.place);
+        }
         self.door
             .note_remark(rt, self.stream.peer_addr().ok(), remark);
     }

@@ -1,14 +1,17 @@
 //! As whom and when a connection was admitted to a turn.
 use crate::dealing::LEAST_OUT;
+use crate::pace::Pace;
 use tc_item::Moment;
 
 /// Whose it was for the deal, the moment to which that user's cache was maintained, and with how many
-/// bytes that wait to be sent it is not full yet. Its requests are done at that moment.
+/// bytes that wait to be sent it is not full yet, and whether it is read. Its requests are done at that
+/// moment.
 #[derive(Clone, Copy, Debug, PartialEq, Eq)]
 pub(crate) struct Admitted {
     pub(crate) user: usize,
     pub(crate) now: Moment,
     pub(crate) most_out: usize,
+    pub(crate) is_read: bool,
 }
 
 impl Admitted {
@@ -18,6 +21,16 @@ impl Admitted {
             user: 0,
             now: Moment::FIRST,
             most_out: LEAST_OUT,
+            is_read: true,
+        }
+    }
+
+    /// How far a connection comes that reads nothing: one that waits for others of its user is tried again.
+    pub(crate) fn pace_unread(&self) -> Pace {
+        if self.is_read {
+            Pace::Rests
+        } else {
+            Pace::Tries
         }
     }
 }

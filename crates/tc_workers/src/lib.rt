@@ -61,6 +61,7 @@ mod desk;
 mod did;
 mod gate;
 mod guesses;
+mod half_blocks;
 mod homes;
 mod keeper;
 mod laws;

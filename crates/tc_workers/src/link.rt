@@ -11,6 +11,7 @@ mod requests;
 use crate::admitted::Admitted;
 use crate::dealing::Backlog;
 use crate::guesses::Guesses;
+use crate::half_blocks::Part;
 use crate::homes::Homes;
 use crate::pace::{Onward, Pace};
 use crate::wire::{Change, Got, Put, Remark, Wire};
@@ -210,6 +211,22 @@ impl<W: Wire + Drop> Link<W> {
         }
     }
 
+    /// How many of its bytes are unread, whose it is for the deal, and its key.
+    pub(crate) fn part(&self, key: usize) -> Part {
+        Part {
+            user: self.user(),
+            key,
+            bytes: self.session.kept(),
+        }
+    }
+
+    /// Has its wire end, since it holds up others of its user.
+    pub(crate) fn give_up<R: Wait>(&mut self, rt: &R)
+        ensures { self.new ≡ self.old }
+    {
+        self.wire.note(rt, Remark::HoldsUp);
+    }
+
     /// What was done in the last part of a turn.
     pub(crate) fn work(&self) -> u64 {
         self.work.units()
@@ -316,13 +333,18 @@ impl<W: Wire + Drop> Link<W> {
         self.session.out_len() > self.admitted.most_out
     }
 
+    /// Whether it reads nothing now.
+    fn is_unread(&self) -> bool {
+        self.is_full() || !self.admitted.is_read
+    }
+
     /// Reads once, where all that came is read and little waits to be sent; `None` where it is over.
     fn read(&mut self, buffer: &mut [u8]) -> Option<Pace>
         ensures moved { (lost : List ℕ) × Carries [] lost self.old self.new
             × (IsSome result → lost ≡ []) }
     {
-        if !self.rests || self.session.is_closed() || self.is_full() {
-            return Some(Pace::Rests);
+        if !self.rests || self.session.is_closed() || self.is_unread() {
+            return Some(self.admitted.pace_unread());
         }
         let room = buffer.len().min(LONGEST_PIECE);
         let into = &mut buffer[..room];

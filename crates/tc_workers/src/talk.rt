@@ -9,6 +9,7 @@ use crate::admitted::Admitted;
 use crate::dealing::Backlog;
 use crate::desk::Desk;
 use crate::gate::Gate;
+use crate::half_blocks::Part;
 use crate::homes::Homes;
 use crate::link::Link;
 use crate::pace::{Onward, Pace};
@@ -140,6 +141,18 @@ impl<W: Wire + Drop> Talk<W> {
     /// How many bytes wait to be sent to it, and whose it is for the deal.
     pub(crate) fn backlog(&self) -> Backlog {
         self.link.backlog()
+    }
+
+    /// How many of its bytes are unread, whose it is for the deal, and its key.
+    pub(crate) fn part(&self, key: usize) -> Part {
+        self.link.part(key)
+    }
+
+    /// Has its wire end, since it holds up others of its user.
+    pub(crate) fn give_up<R: Wait>(&mut self, rt: &R)
+        ensures { self.new ≡ self.old }
+    {
+        self.link.give_up(rt);
     }
 
     /// What was done in the last part of a turn.

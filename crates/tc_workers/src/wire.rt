@@ -35,6 +35,8 @@ pub enum Remark {
     News(News),
     /// Its client speaks the binary protocol, so it is closed.
     IsBinary,
+    /// It sent half a block and no more, while others of its user waited, so it is to be closed.
+    HoldsUp,
 }
 
 /// The two ways of a connection. No call of it waits.
@@ -68,7 +70,7 @@ pub trait Wire {
         ensures gives_nothing { gave self.new ≡ gave self.old }
         ensures takes_nothing { took self.new ≡ took self.old };
 
-    /// Learns what an operator may want to know of its connection.
+    /// Learns what an operator may want to know of its connection. One that holds others up ends soon.
     fn note<R: Wait>(&mut self, rt: &R, remark: Remark)
         ensures gives_nothing { gave self.new ≡ gave self.old }
         ensures takes_nothing { took self.new ≡ took self.old };

@@ -67,6 +67,19 @@ fn add_next(
     Ok(())
 }
 
+/// How many of so many keys, where there are several, were found to hold something.
+fn count_found<F: FoundEntries>(found: &F, keys: usize) -> usize
+    requires { length (F.entries found.now) ≡ keys }
+{
+    let mut count = 0usize;
+    if keys > 1 {
+        for i in 0..keys {
+            count = count.saturating_add(usize::from(found.entry(i).is_some()));
+        }
+    }
+    count
+}
+
 /// The hits of keys at the moment, of what they were found to hold then, in the order asked. What is
 /// held has this due after its hit, if one is given; where that due has come it is gone, so that a
 /// key asked again shows nothing.
@@ -83,7 +96,7 @@ pub fn show_all<F: FoundEntries>(
         → hits ≡ (all_looked_up (change_of due) keys.now (at_moment moment l)).0) }
 {
     let gone = is_due(due, moment);
-    let mut hits = Hits::with_capacity(alloc, keys.len())?;
+    let mut hits = Hits::with_capacity(alloc, count_found(found, keys.len()))?;
     for (i, key) in keys.iter().enumerate() {
         add_next(alloc, &keys[..i], key, found.entry(i), gone, &mut hits)?;
     }

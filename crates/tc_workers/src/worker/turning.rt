@@ -7,6 +7,7 @@ ghost use Rattle.tc_workers.specs.Turns.{Serves, GoesOnOrEnds, goes_on};
 use crate::admitted::Admitted;
 use crate::dealing::{Backlog, PIECES};
 use crate::gate::Gate;
+use crate::half_blocks::Reads;
 use crate::listed::{Leaving, Listed};
 use crate::pace::{Onward, Pace};
 use crate::service::Service;
@@ -56,6 +57,7 @@ impl<W: Wire + Drop, N: Naming> Worker<W, N> {
     {
         let sole = self.sole_user();
         self.dealing.begin(users, sole);
+        self.half_blocks.open(users);
     }
 
     /// The user whose connections alone are listed.
@@ -108,7 +110,7 @@ impl<W: Wire + Drop, N: Naming> Worker<W, N> {
         let Some(key) = self.admit(service, at) else {
             return;
         };
-        self.take_in(service.rt, key);
+        self.take_in(service.rt, service.clock.now(), key);
     }
 
     /// The second part of the turn of each listed connection.
@@ -176,10 +178,12 @@ impl<W: Wire + Drop, N: Naming> Worker<W, N> {
             return None;
         }
         let most_out = self.dealing.most_out(self.backlog_of(key));
+        let is_read = self.is_read(service, key, now);
         let admitted = Admitted {
             user,
             now,
             most_out,
+            is_read,
         };
         self.tell_admitted(key, admitted);
         Some(key)
@@ -190,6 +194,37 @@ impl<W: Wire + Drop, N: Naming> Worker<W, N> {
         match self.links.get(key) {
             Some(link) => link.backlog(),
             None => Backlog { user: 0, bytes: 0 },
+        }
+    }
+
+    /// Whether a key's connection is read now. One that held it up is to end.
+    fn is_read<R: Wait, C: Cache, G: Gate>(
+        &mut self,
+        service: &Service<'_, R, C, N, G>,
+        key: usize,
+        now: Moment,
+    ) -> bool
+        ensures { self.new ≡ self.old }
+    {
+        let Some(link) = self.links.get(key) else {
+            return true;
+        };
+        match self.half_blocks.reads(link.part(key), now) {
+            Reads::Yes => true,
+            Reads::For(other) => {
+                self.give_up(service, other);
+                true
+            }
+            Reads::No => false,
+        }
+    }
+
+    /// Has a key's connection end, since it holds up others of its user.
+    fn give_up<R: Wait, C: Cache, G: Gate>(&mut self, service: &Service<'_, R, C, N, G>, key: usize)
+        ensures { self.new ≡ self.old }
+    {
+        if let Some(link) = self.links.get_mut(key) {
+            link.give_up(service.rt);
         }
     }
 
@@ -300,24 +335,26 @@ impl<W: Wire + Drop, N: Naming> Worker<W, N> {
     }
 
     /// The first part of one connection's turn. Where it is done it is dropped.
-    fn take_in<R: Wait>(&mut self, rt: &R, key: usize)
+    fn take_in<R: Wait>(&mut self, rt: &R, now: Moment, key: usize)
         ensures listed { self.new.due ≡ self.old.due }
         ensures serves { (rows : List UserSpec) → Serves 0 rows self.old self.new }
     {
-        if !self.read(rt, key) {
+        if !self.read(rt, now, key) {
             drop(self.remove(key));
         }
     }
 
     /// Reads on one connection. Whether it goes on.
-    fn read<R: Wait>(&mut self, rt: &R, key: usize) -> bool
+    fn read<R: Wait>(&mut self, rt: &R, now: Moment, key: usize) -> bool
         ensures listed { self.new.due ≡ self.old.due }
         ensures serves { (rows : List UserSpec) → GoesOnOrEnds 0 rows key result self.old self.new }
     {
         match self.links.get_mut(key) {
             Some(link) => {
+                let unread = link.part(key);
                 let goes_on = link.take_in(rt, self.buffer.as_mut_slice());
-                self.dealing.charge(link.user(), link.work());
+                self.dealing.charge(unread.user, link.work());
+                self.half_blocks.note(unread, link.part(key), now);
                 goes_on
             }
             None => true,
@@ -351,10 +388,12 @@ impl<W: Wire + Drop, N: Naming> Worker<W, N> {
     {
         match self.links.get_mut(key) {
             Some(link) => {
-                let before = link.backlog();
+                let (before, unread) = (link.backlog(), link.part(key));
                 let goes_on = link.do_requests(service, &mut self.desk, lease);
                 self.dealing.charge(before.user, link.work());
                 self.dealing.note_backlog(before, link.backlog());
+                self.half_blocks
+                    .note(unread, link.part(key), service.clock.now());
                 goes_on
             }
             None => true,
@@ -400,10 +439,11 @@ impl<W: Wire + Drop, N: Naming> Worker<W, N> {
         let Some(link) = self.links.get_mut(key) else {
             return None;
         };
-        let before = link.backlog();
+        let (before, unread) = (link.backlog(), link.part(key));
         let onward = link.give_out(now, self.buffer.as_mut_slice());
         self.dealing.charge(before.user, link.work());
         self.dealing.note_backlog(before, link.backlog());
+        self.half_blocks.note(unread, link.part(key), now);
         Some(onward)
     }
 
