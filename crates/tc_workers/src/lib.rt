@@ -8,7 +8,8 @@
 //! looks at the wire once more. A turn is dealt out by user (`dealing.rt`): where several users'
 //! connections have something to do, those of one who did more than its share are left out, and go first
 //! in the next. So are those of a user of whose items many are due in a new second: they are taken out in
-//! pieces, one a turn, before that user is served. A connection whose wire answered that nothing can be
+//! pieces, one a turn, before that user is served. What is unread of half blocks is bounded by user, too
+//! (`half_blocks.rt`): beyond that one connection is read, and the others wait. A connection whose wire answered that nothing can be
 //! done is left out of the turns until the worker's `Inlet` names it. Where each user has a worker
 //! (`Homes`), a connection is passed on to it after the turn of its login. A `Keeper` does the deferred
 //! work of one user after another; its thread also asks a `Source` for the moment, which may look at the
