@@ -7,6 +7,10 @@ use Rattle.tc_locked.specs.declared.view.Note.{Note}
 use Rattle.tc_locked.specs.declared.view.Face.{Face}
 use Rattle.tc_locked.specs.declared.view.View.{View}
 
+-- how many words a hall's table has: 64 lines of memory, of 8 words each
+abbrev pub table_words : ℕ
+table_words = 512
+
 -- an entry in a user's book, on a page
 abbrev pub note : ℕ → ℕ → Entry → Note
 note u p e = record { user = u; page = p; entry = e }

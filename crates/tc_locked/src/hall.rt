@@ -38,13 +38,14 @@ pub struct Hall<C: Cache, N: Naming> {
 
 impl<C: Cache, N: Naming> Model for Hall<C, N> {
     ghost use Rattle.std.specs.Prelude.{◌≡◌, ◌<◌, ◌≤◌, ◌^◌, ℕ, length, [], vec_len, vec_capacity};
+    ghost use Rattle.tc_locked.specs.Views.{table_words};
 
     ghost Value = { ℕ };
 
     ghost view = { λ h. vec_len h.books };
 
     ghost invariant = { λ h. (h.table.shared.table_id ≡ N.table)
-        × (0 < h.table.shared.table_id.words)
+        × (table_words ≤ h.table.shared.table_id.words)
         × (h.journal ≡ N.terms.journal)
         × (0 < h.journal)
         × (h.seats ≡ N.terms.seats)

@@ -1,6 +1,6 @@
 //! What lies under a user's lock: the user's book, beside its own seat of the hall's table.
-ghost use Rattle.std.specs.Prelude.{◌≡◌, ◌≢◌, ◌-◌, ◌^◌, ◌<◌, IfOk, OnOk, IfErr, OnErr, length};
-ghost use Rattle.tc_locked.specs.Views.{of_user};
+ghost use Rattle.std.specs.Prelude.{◌≡◌, ◌≢◌, ◌-◌, ◌^◌, ◌<◌, ◌≤◌, IfOk, OnOk, IfErr, OnErr, length};
+ghost use Rattle.tc_locked.specs.Views.{table_words, of_user};
 ghost use Rattle.tc_locked.specs.Books.{entry_of, slip_of, paged, after_maintain};
 ghost use Rattle.tc_locked.specs.KeptBooks.{kept_after, seat_after};
 ghost use Rattle.tc_locked.specs.declared.call_fault.CallFault.TheVariants.{Worn, NoUser, OtherBook};
@@ -58,7 +58,8 @@ impl<C: Cache, N: Naming> Kept<C, N> {
         command: &Command,
         kept: Command,
     ) -> Result<Called, CallFault>
-        requires table { (table.now.table_id ≡ N.table) × (0 < table.now.table_id.words) }
+        requires table { (table.now.table_id ≡ N.table)
+            × (table_words ≤ table.now.table_id.words) }
         requires journal { (journal ≡ N.terms.journal) × (0 < journal) }
         requires copy { kept ≡ command.now }
         ensures slip { IfOk result (λ called. called.slip ≡ slip_of (paged journal self.old.book)

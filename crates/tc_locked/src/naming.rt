@@ -22,6 +22,15 @@ impl Naming for Brand {
     ghost terms = { no_terms };
 }
 
+/// How many lines of memory the words of a hall's table have.
+pub(crate) const LINES: usize = 64;
+
+/// How many words a line of memory has.
+pub(crate) const WORDS_A_LINE: usize = 8;
+
+/// How many words a hall's table has.
+pub(crate) const WORDS: usize = LINES * WORDS_A_LINE;
+
 /// The part of a hall's table that threads share.
 pub type Shared = atomic_table::Shared<Entry, View, (), OneHistory>;
 

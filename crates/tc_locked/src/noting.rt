@@ -1,13 +1,21 @@
 //! The steps of a hall's table that note an entry with both of its seats.
-ghost use Rattle.std.specs.Prelude.{◌≡◌, ◌<◌, ◌++◌, ◌∷◌, []};
-ghost use Rattle.tc_locked.specs.Views.{note, book_view, seat_view, by_seat, of_user};
+ghost use Rattle.std.specs.Prelude.{◌≡◌, ◌<◌, ◌≤◌, ◌++◌, ◌∷◌, []};
+ghost use Rattle.tc_locked.specs.Views.{table_words, note, book_view, seat_view, by_seat, of_user};
 ghost use Rattle.tc_locked.specs.KeptBooks.{notes_of, log_of};
 
 use crate::entry::Entry;
-use crate::naming::{Shared, TableSeat};
+use crate::naming::{LINES, Shared, TableSeat, WORDS_A_LINE};
 use crate::view::{Apart, Noted, Together, View};
 use atomic_table::Badge;
 use tc_users::UserNo;
+
+/// The table's word by which a user's entries are noted. Each user has a line of memory of its own, so that
+/// processors that serve different users do not take it from each other.
+fn word_of(user: UserNo) -> usize
+    ensures { result < table_words }
+{
+    user.number() as usize % LINES * WORDS_A_LINE
+}
 
 /// Adds a note of the entry to the list of a caller's seat and to that of a book's seat, at once.
 pub fn note_both(
@@ -19,7 +27,7 @@ pub fn note_both(
     page: u64,
     entry: &Entry,
 ) -> Badge<View>
-    requires word { 0 < table.now.table_id.words }
+    requires words { table_words ≤ table.now.table_id.words }
     requires seat { (seat.old.table_id ≡ table.now.table_id)
         × (seat.old.me ≡ (seat_view number (notes_of seat.old.me.0.seats), [])) }
     requires badge { (badge.table_id ≡ table.now.table_id)
@@ -39,7 +47,8 @@ pub fn note_both(
 {
     let own = badge.into_seat::<Entry>();
     table.join_seat::<Together>(seat, own);
-    table.compare_exchange_with::<Noted>(seat, 0, page, page, entry);
+    let word = word_of(user);
+    table.compare_exchange_with::<Noted>(seat, word, page, page, entry);
     let own = table.split_seat::<Apart>(seat);
     own.into_badge()
 }

@@ -9,7 +9,7 @@ ghost use Rattle.tc_locked.specs.Books.{fresh_book};
 use crate::book::Book;
 use crate::hall::Hall;
 use crate::kept::Kept;
-use crate::naming::{HallTable, Naming, Shared, TableSeat};
+use crate::naming::{HallTable, Naming, Shared, TableSeat, WORDS};
 use crate::seat::Seat;
 use crate::view::{NewBook, NewSeat};
 use std::alloc::Global;
@@ -27,9 +27,9 @@ pub struct Opened {
 }
 
 impl Model for Opened {
-    ghost use Rattle.std.specs.Prelude.{◌≡◌, ◌<◌, []};
+    ghost use Rattle.std.specs.Prelude.{◌≡◌, ◌≤◌, []};
     ghost use Rattle.atomic_table.specs.Seated.{TableId, table_id_coded};
-    ghost use Rattle.tc_locked.specs.Views.{first_view};
+    ghost use Rattle.tc_locked.specs.Views.{first_view, table_words};
 
     ghost Value = { TableId };
 
@@ -38,14 +38,14 @@ impl Model for Opened {
     ghost view = { λ o. o.table.shared.table_id };
 
     ghost invariant = { λ o. (o.first.table_id ≡ o.table.shared.table_id)
-        × (0 < o.table.shared.table_id.words)
+        × (table_words ≤ o.table.shared.table_id.words)
         × (o.first.me ≡ (first_view 1 0, [])) };
 }
 
 impl Opened {
     /// A table for a hall to come.
     pub fn new(alloc: Global) -> Result<Opened, NoMemory> {
-        let (table, first) = HallTable::of_words(alloc, &[0], &())?;
+        let (table, first) = HallTable::of_words(alloc, &[0; WORDS], &())?;
         Ok(Opened { table, first })
     }
 }

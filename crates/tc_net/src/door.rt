@@ -276,10 +276,15 @@ impl Door {
         true
     }
 
-    /// Bytes came of the connection that has a place.
+    /// Bytes came of the connection that has a place. A word is written where it changes alone: places of
+    /// several workers' connections lie in one line of memory, which goes to the processor that writes it.
     pub(crate) fn note_heard(&self, at: usize) {
-        if let Some(place) = self.places.get(at) {
-            place.heard.store(self.second.load(SeqCst), SeqCst);
+        let Some(place) = self.places.get(at) else {
+            return;
+        };
+        let second = self.second.load(SeqCst);
+        if place.heard.load(SeqCst) != second {
+            place.heard.store(second, SeqCst);
         }
     }
 
@@ -288,9 +293,10 @@ impl Door {
         let Some(place) = self.places.get(at) else {
             return;
         };
-        if is_taken {
+        let is_stuck = place.stuck.load(SeqCst) != 0;
+        if is_taken && is_stuck {
             place.stuck.store(0, SeqCst);
-        } else if place.stuck.load(SeqCst) == 0 {
+        } else if !is_taken && !is_stuck {
             place.stuck.store(self.second.load(SeqCst), SeqCst);
         }
     }
