@@ -40,7 +40,7 @@ P99, LONGEST = 25, 150           # the bar of a quiet tenant's gets, ms
 NEW_P99 = 250                    # the same of a new connection with its login and a get
 GROWTH = 64                      # MiB that a tenant may take beside its budget
 # what is no matter of time
-QUICK = ("reply_memory", "reply_unlimited", "reply_refused_room", "all_connections_of_a_stranger", "endings")
+QUICK = ("tables_mostly_empty", "reply_memory", "reply_unlimited", "reply_refused_room", "all_connections_of_a_stranger", "endings")
 FIELD = re.compile(r"^(?!listen)(\w+ = .*)$", re.M)
 
 
@@ -725,6 +725,23 @@ def flush_cost():
                 b.append(time.perf_counter() - t)
             turn.append(pct(b, 1))
         return pct(a, .5) <= 1, "%.2f ms; the longest get of the first page behind the flush %.0f ms, of the next %.0f [<= 1]" % (pct(a, .5), turn[0], turn[1])
+
+
+@check
+def tables_mostly_empty():
+    """400,000 items without data, of which all but 10,000 are deleted"""
+    with Server() as s:
+        c = Conn(s.port, timeout=50)
+        fill(c, 400000)
+        full = s.rss()
+        for b in range(10000, 400000, 20000):
+            c.send(b"".join(b"delete %s noreply\r\n" % key(i) for i in range(b, min(b + 20000, 400000))))
+            c.get(b"nothere")
+        for _ in range(200):
+            c.get(b"nothere")
+        left = s.rss()
+        held = sum(c.get(key(i)) is not None for i in range(0, 10000, 100))
+        return left <= full / 2 and held == 100, "%.0f MiB with all, %.0f with the rest, which is held: %d of 100 [half]" % (full, left, held)
 
 
 @check

@@ -10,8 +10,11 @@ use Rattle.tc_item.specs.declared.slot.Slot.{Slot}
 use Rattle.tc_model.specs.Areas.{Areas, without, total}
 use Rattle.tc_plain.specs.declared.shared.entry.Entry.{Entry}
 use Rattle.tc_plain.specs.Entries.{weight, has_key}
-use Rattle.tc_plain.specs.Placing.{without_key, at_front}
+use Rattle.tc_plain.specs.Placing.{without_key}
 use Rattle.tc_slru.specs.Slots.{Placed, placed, is_slot, without_slot}
+use Rattle.tc_slru.specs.InAreas.{fronted_in}
+use Rattle.tc_slru.specs.declared.area.Area.{Area}
+use Rattle.tc_slru.specs.declared.area.Area.TheVariants.{Window, Probation, Protected}
 use Rattle.tc_partition.specs.Agreement.{set_at, set_key, key_of, count_of, at_slot}
 use Rattle.tc_plain.specs.BySlot.{stray, stray_by, entry_at, entry_or}
 use Rattle.tc_partition.specs.Agreement.{due_by, wheel_due, Agree}
@@ -33,12 +36,11 @@ turned m n h = go (n == m) refl
     go true k = absurd (cc (h, eq-eqb m n (sym (eqb-true n m k))))
     go false k = refl
 
--- a place at the front of the window
-abbrev pub fronted : Placed → Areas Placed → Areas Placed
-fronted p a = record a { window = p ∷ a.window }
-
-total-fronted : (f : Placed → ℕ) (p : Placed) (a : Areas Placed) → total f (fronted p a) ≡ f p + total f a
-total-fronted f p a = omega (arith, sum_by-cons f p a.window)
+-- a place at the front of a list
+pub total-fronted_in : {A : Type 0} (area : Area) (f : A → ℕ) (p : A) (a : Areas A) → total f (fronted_in area p a) ≡ f p + total f a
+total-fronted_in Window f p a = omega (arith, sum_by-cons f p a.window)
+total-fronted_in Probation f p a = omega (arith, sum_by-cons f p a.probation)
+total-fronted_in Protected f p a = omega (arith, sum_by-cons f p a.protected)
 
 module _ (I : List ℕ → Option Slot) (S : ℕ → Option Entry) (D : ℕ → Option ℕ) (a : Areas Placed) (h : Agree I S D a) (e : Entry)
     (v : Slot) where
@@ -78,9 +80,9 @@ module _ (I : List ℕ → Option Slot) (S : ℕ → Option Entry) (D : ℕ → 
             ap (λ b. cond b (Some v) (I key)) ((bytes_eq-Decides e.key key).1 (some_same e.key key g)) ∙ ap Some same
         go false t g = other (bytes_eq e.key key) refl (h.found key slot g)
 
-    fill_listed : (w n : ℕ) → total (at_slot n) (fronted (placed v.0 w) a) ≡ count_of (set_at v.0 (Some e) S n)
-    fill_listed w n =
-        total-fronted (at_slot n) (placed v.0 w) a ∙ ap (λ t. at_slot n (placed v.0 w) + t) (h.listed n) ∙ go (n == v.0) refl
+    fill_listed : (area : Area) (w n : ℕ) → total (at_slot n) (fronted_in area (placed v.0 w) a) ≡ count_of (set_at v.0 (Some e) S n)
+    fill_listed area w n =
+        total-fronted_in area (at_slot n) (placed v.0 w) a ∙ ap (λ t. at_slot n (placed v.0 w) + t) (h.listed n) ∙ go (n == v.0) refl
       where
         go : (b : Bool) → (n == v.0) ≡ b → cond (v.0 == n) 1 0 + count_of (S n) ≡ count_of (cond b (Some e) (S n))
         go true t =
@@ -90,12 +92,13 @@ module _ (I : List ℕ → Option Slot) (S : ℕ → Option Entry) (D : ℕ → 
             let none : 0 + count_of (S n) ≡ count_of (S n) = omega arith in
             ap (λ b. cond b 1 0 + count_of (S n)) (turned n v.0 t) ∙ none
 
-    fill_weighed : (w : ℕ) → w ≡ weight e → total (stray (set_at v.0 (Some e) S)) (fronted (placed v.0 w) a) ≡ 0
-    fill_weighed w k =
+    fill_weighed : (area : Area) (w : ℕ) → w ≡ weight e
+        → total (stray (set_at v.0 (Some e) S)) (fronted_in area (placed v.0 w) a) ≡ 0
+    fill_weighed area w k =
         let own : stray (set_at v.0 (Some e) S) (placed v.0 w) ≡ 0 =
         ap (λ b. stray_by w (cond b (Some e) (S v.0))) (eq-eqb v.0 v.0 refl)
         ∙ ap (λ b. cond b 0 1) (eq-eqb (weight e) w (sym k)) in
-        total-fronted (stray (set_at v.0 (Some e) S)) (placed v.0 w) a
+        total-fronted_in area (stray (set_at v.0 (Some e) S)) (placed v.0 w) a
         ∙ ap (λ t. t + total (stray (set_at v.0 (Some e) S)) a) own
         ∙ ap (λ t. 0 + t) (total-stray_away S v.0 (Some e) a none_at ∙ h.weighed)
 
@@ -106,23 +109,32 @@ module _ (I : List ℕ → Option Slot) (S : ℕ → Option Entry) (D : ℕ → 
         go true = refl
         go false = h.timed n
 
-    pub agree_filled : (w : ℕ) → w ≡ weight e
-        → Agree (set_key e.key (Some v) I) (set_at v.0 (Some e) S) (set_at v.0 (due_by e.item.due) D) (fronted (placed v.0 w) a)
-    agree_filled w k = record {
+    pub agree_filled : (area : Area) (w : ℕ) → w ≡ weight e
+        → Agree (set_key e.key (Some v) I) (set_at v.0 (Some e) S) (set_at v.0 (due_by e.item.due) D)
+        (fronted_in area (placed v.0 w) a)
+    agree_filled area w k = record {
       indexed = fill_indexed;
       found = fill_found;
-      listed = fill_listed w;
-      weighed = fill_weighed w k;
+      listed = fill_listed area w;
+      weighed = fill_weighed area w k;
       timed = fill_timed;
     }
 
-    pub filled_areas : (w : ℕ) → areas_by (set_at v.0 (Some e) S) (fronted (placed v.0 w) a) ≡ at_front e (areas_by S a)
-    filled_areas w =
-        ap
-        (λ b. three (entry_or (cond b (Some e) (S v.0)) ∷ map (entry_at (set_at v.0 (Some e) S)) a.window)
-        (map (entry_at (set_at v.0 (Some e) S)) a.probation) (map (entry_at (set_at v.0 (Some e) S)) a.protected))
-        (eq-eqb v.0 v.0 refl)
-        ∙ ap (λ (z : Areas Entry). at_front e z) (areas_away S v.0 (Some e) a none_at)
+    own_entry : (w : ℕ) → entry_at (set_at v.0 (Some e) S) (placed v.0 w) ≡ e
+    own_entry w = ap (λ b. entry_or (cond b (Some e) (S v.0))) (eq-eqb v.0 v.0 refl)
+
+    map_fronted : (area : Area) (w : ℕ) → areas_by (set_at v.0 (Some e) S) (fronted_in area (placed v.0 w) a)
+        ≡ fronted_in area (entry_at (set_at v.0 (Some e) S) (placed v.0 w)) (areas_by (set_at v.0 (Some e) S) a)
+    map_fronted Window w = refl
+    map_fronted Probation w = refl
+    map_fronted Protected w = refl
+
+    pub filled_areas : (area : Area) (w : ℕ)
+        → areas_by (set_at v.0 (Some e) S) (fronted_in area (placed v.0 w) a) ≡ fronted_in area e (areas_by S a)
+    filled_areas area w =
+        map_fronted area w
+        ∙ ap (λ d. fronted_in area d (areas_by (set_at v.0 (Some e) S) a)) (own_entry w)
+        ∙ ap (λ (z : Areas Entry). fronted_in area e z) (areas_away S v.0 (Some e) a none_at)
 
     -- nothing is noted for a slot that holds nothing
     pub untimed : D v.0 ≡ None

@@ -1,11 +1,13 @@
 //! Tables that were set aside, for what the page began with.
 //!
-//! Where nothing is held any more and the tables are large, they are set aside whole, and small ones take
-//! their place. What was held then is still told by those set aside, until the next page is prepared; from
-//! then on they tell what the page began with alone, and its turn is done with them.
+//! Where large tables have become mostly empty, they are set aside whole, and smaller ones with the same
+//! entries take their place. What was held then is still told by those set aside, until the next page is
+//! prepared; from then on they tell what the page began with alone, and its turn is done with them.
 ghost use Rattle.std.specs.Prelude.{◌≡◌, ◌<◌, ◌^◌, true, IfOk};
-ghost use Rattle.tc_model.specs.Areas.{Areas as AreasOf};
+ghost use Rattle.tc_model.specs.Areas.{Areas as AreasOf, total};
 ghost use Rattle.tc_plain.specs.AreaLists.{areas_of};
+ghost use Rattle.tc_plain.specs.Entries.{weight};
+ghost use Rattle.tc_plain.specs.Soundness.{AreSound};
 ghost use Rattle.tc_plain.specs.Then.{Then};
 ghost use Rattle.tc_plain.specs.declared.shared.entry.Entry.{Entry};
 ghost use Rattle.tc_partition.specs.Aside.{then_of};
@@ -62,22 +64,25 @@ impl Aside {
     }
 }
 
-/// Sets large tables aside where they hold nothing and none are set aside, and says whether it did: small
-/// ones are in use from then on. Where memory for those is refused, all stays as it was.
+/// Sets large tables aside where they are mostly empty and none are set aside, and says whether it did:
+/// smaller ones with the same entries are in use from then on. Where memory for those is refused, all stays
+/// as it was.
 pub fn set_aside(alloc: Global, held: &mut Slots, aside: &mut Aside, limits: Limits) -> bool
     requires same { limits ≡ held.old.limits }
     requires small { limits.main < 2 ^ 32 }
+    requires sound { AreSound held.old.limits held.old.areas }
+    requires sum { total weight held.old.areas < 2 ^ 64 }
     ensures areas { held.new.areas ≡ held.old.areas }
     ensures limits { held.new.limits ≡ held.old.limits }
     ensures then { then_of aside.new held.new.then ≡ then_of aside.old held.old.then }
 {
-    if held.count() > 0 || !held.are_large() || !aside.is_nothing() {
+    if !held.are_sparse() || !aside.is_nothing() {
         return false;
     }
-    let Ok(fresh) = held.fresh(alloc, limits) else {
+    let Ok(rebuilt) = held.rebuilt(alloc, limits) else {
         return false;
     };
-    *aside = Aside::Both(mem::replace(held, fresh));
+    *aside = Aside::Both(mem::replace(held, rebuilt));
     true
 }
 

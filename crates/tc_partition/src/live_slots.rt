@@ -28,6 +28,7 @@ use tc_item::{Due, Key, Moment, NoMemory, Slot, alive};
 use tc_plain::{Areas, Change, End, Entry, EvictionState, Limits};
 use tc_readbuf::Noted;
 use tc_sketch::{PastSketch, hash};
+use tc_slru::Area;
 use tc_stats::Counters;
 
 /// What look-ups touch: the entries, how often each key was seen, and when the entries go.
@@ -299,7 +300,7 @@ impl LiveSlots {
             }
             None => {
                 if alive {
-                    let slot = self.held.fill(key, entry);
+                    let slot = self.held.fill(Area::Window, key, entry);
                     self.hints.note(hash, slot);
                 }
             }
@@ -404,15 +405,18 @@ impl LiveSlots {
         turn(&mut self.held, &mut self.aside, &mut self.gone)
     }
 
-    /// Sets large tables aside where nothing is held. The limits are those that it has.
+    /// Has smaller tables in use where large ones are mostly empty. The limits are those that it has.
     pub(crate) fn renew(&mut self, alloc: Global, limits: Limits)
         requires same { limits ≡ self.old.held.limits }
         requires small { limits.main < 2 ^ 32 }
+        requires sound { AreSound self.old.held.limits self.old.held.areas }
+        requires sum { total weight self.old.held.areas < 2 ^ 64 }
         ensures live { live_of self.new ≡ live_of self.old }
         ensures then { then_live self.new ≡ then_live self.old }
     {
         if set_aside(alloc, &mut self.held, &mut self.aside, limits) {
             self.hints = Hints::new(alloc);
+            self.hints.fit(self.held.count());
         }
     }
 

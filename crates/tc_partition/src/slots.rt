@@ -24,7 +24,8 @@ ghost use Rattle.tc_plain.specs.AreaLists.{frequency_in, areas_of};
 ghost use Rattle.tc_plain.specs.Soundness.{AreSound};
 ghost use Rattle.tc_plain.specs.Entries.{weight, has_key, lives, with_item, with_due};
 ghost use Rattle.tc_plain.specs.EvictionState.{held, kept, no_entries, entries_of};
-ghost use Rattle.tc_plain.specs.Placing.{without_key, at_front};
+ghost use Rattle.tc_plain.specs.Placing.{without_key};
+ghost use Rattle.tc_slru.specs.InAreas.{fronted_in};
 ghost use Rattle.tc_plain.specs.declared.shared.entry.Entry.{Entry};
 ghost use Rattle.tc_sketch.specs.Sketch.{hash};
 ghost use Rattle.tc_plain.specs.BySlot.{entry_or};
@@ -57,6 +58,12 @@ const FEW_OF: usize = 32;
 
 /// Tables with places for so many slots are large: some 900 KiB.
 const LARGE: usize = 4096;
+
+/// Tables are mostly empty where less than one in so many of their places holds an entry.
+const SPARSE_OF: usize = 4;
+
+/// So many entries at most are put into smaller tables, which is some milliseconds' work.
+const MOST_MOVED: usize = 16_384;
 
 /// The entries of one partition.
 #[derive(Drop)]
@@ -112,12 +119,14 @@ impl Slots {
         Slots::new(alloc, *self.index.hasher(), limits)
     }
 
-    /// Whether the tables have places for many slots.
-    pub fn are_large(&self) -> bool {
-        self.wheel.slots() >= LARGE
+    /// Whether the tables have places for many slots, few of these hold an entry, and the entries can be put
+    /// into smaller tables while others wait.
+    pub fn are_sparse(&self) -> bool {
+        let (places, count) = (self.wheel.slots(), self.count());
+        places >= LARGE && count < places / SPARSE_OF && count <= MOST_MOVED
     }
 
-    /// The tables alone, which hold nothing; the changes that were noted go with those of `held`.
+    /// The tables alone, which are in use no more; the changes that were noted go with those of `held`.
     pub fn retire(self, held: &mut Slots) -> Tables
         ensures { held.new ≡ held.old }
     {
@@ -300,9 +309,9 @@ impl Slots {
         self.lists.heaviest()
     }
 
-    /// Puts an entry at the front of the window, whose key holds nothing, and says in which slot; `key`
-    /// is a copy of that key.
-    pub fn fill(&mut self, key: Key, entry: Entry) -> Slot
+    /// Puts an entry at the front of a list, whose key holds nothing, and says in which slot; `key` is a
+    /// copy of that key.
+    pub fn fill(&mut self, area: Area, key: Key, entry: Entry) -> Slot
         requires room { self.old.has_room ≡ true }
         requires spare { 2 ≤ self.old.spare }
         requires key { key ≡ entry.key }
@@ -310,7 +319,7 @@ impl Slots {
         requires light { weight entry ≤ self.old.limits.main }
         requires fits { total weight self.old.areas + weight entry < 2 ^ 64 }
         ensures limits { self.new.limits ≡ self.old.limits }
-        ensures areas { self.new.areas ≡ at_front entry self.old.areas }
+        ensures areas { self.new.areas ≡ fronted_in area entry self.old.areas }
         ensures then { self.new.then ≡ self.old.then }
     {
         let weight = entry.weight();
@@ -322,7 +331,7 @@ impl Slots {
             key,
             entry,
         );
-        self.lists.push_window(slot, weight);
+        self.lists.push(area, slot, weight);
         time(&mut self.wheel, slot, due);
         slot
     }

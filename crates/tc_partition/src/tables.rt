@@ -7,7 +7,7 @@ use tc_plain::Entry;
 use tc_slru::Lists;
 use tc_wheel::Wheel;
 
-/// Tables that hold nothing and tell nothing any more, each of which may be some 60 MiB.
+/// Tables that are in use no more and tell nothing any more, each of which may be some 60 MiB.
 #[derive(Drop)]
 pub struct Tables {
     index: Option<IndexMap<Key, Slot, RandomState>>,

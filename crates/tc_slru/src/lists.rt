@@ -140,15 +140,15 @@ impl Lists {
         self.areas.slots_in(alloc, area)
     }
 
-    /// Puts a slot that is not held at the front of the window.
-    pub fn push_window(&mut self, slot: Slot, weight: u64)
+    /// Puts a slot that is not held at the front of a list.
+    pub fn push(&mut self, area: Area, slot: Slot, weight: u64)
         requires reserved { slot.0 < self.old.live.slots }
         requires free { holds slot.0 self.old.live.areas ≡ false }
         requires light { weight ≤ self.old.live.limits.main }
         requires fits { total weigh self.old.live.areas + weight < 2 ^ 64 }
-        ensures { self.new ≡ live_with (pushed slot.0 weight self.old.live) self.old }
+        ensures { self.new ≡ live_with (pushed area slot.0 weight self.old.live) self.old }
     {
-        self.areas.put(Area::Window, slot, weight as u32);
+        self.areas.put(area, slot, weight as u32);
     }
 
     /// Takes a held slot out of its list.

@@ -28,7 +28,7 @@ fn push(rt: &impl Abort, lists: &mut Lists, slot: usize, weight: u64) {
         is_free && weight <= lists.heaviest() && has_room(lists, weight),
         "slot {slot}"
     );
-    lists.push_window(Slot(slot), weight);
+    lists.push(Area::Window, Slot(slot), weight);
 }
 
 /// An access, where the caller's conditions hold.
