@@ -11,7 +11,7 @@ use tc_item::NoMemory;
 pub(crate) const KEYS: u64 = 512;
 
 /// What stands before a command's key, and behind it.
-type Form = (&'static str, &'static str);
+pub(crate) type Form = (&'static str, &'static str);
 
 static FORMS: [Form; 32] = [
     ("set ", " 0 0 1"),
@@ -91,7 +91,7 @@ pub(crate) fn push_key(text: &mut Vec<u8>, key: u64) -> Result<(), NoMemory> {
 }
 
 /// Appends the line of a command on a key.
-fn push_line(text: &mut Vec<u8>, form: &Form, key: u64) -> Result<(), NoMemory> {
+pub(crate) fn push_line(text: &mut Vec<u8>, form: &Form, key: u64) -> Result<(), NoMemory> {
     text.extend_from_slice(form.0.as_bytes())?;
     push_key(text, key)?;
     text.extend_from_slice(form.1.as_bytes())?;
