@@ -26,7 +26,6 @@ ghost use Rattle.tc_plain.specs.Entries.{weight, has_key, lives, with_item, with
 ghost use Rattle.tc_plain.specs.EvictionState.{held, kept, no_entries, entries_of};
 ghost use Rattle.tc_plain.specs.Placing.{without_key, at_front};
 ghost use Rattle.tc_plain.specs.declared.shared.entry.Entry.{Entry};
-ghost use Rattle.tc_sketch.specs.Sketch.{hash};
 ghost use Rattle.tc_plain.specs.BySlot.{entry_or};
 ghost use Rattle.tc_partition.specs.Held.{filled, IsFound, FindsSlot, DropsEntry};
 
@@ -44,7 +43,7 @@ use std::hash::RandomState;
 use std::marker::Model;
 use tc_item::{Due, Key, Moment, NoMemory, Slot};
 use tc_plain::{Areas, Change, Entry, Limits};
-use tc_sketch::{PastSketch, hash};
+use tc_sketch::PastSketch;
 use tc_slru::{Area, Lists};
 use tc_wheel::Wheel;
 
@@ -253,17 +252,6 @@ impl Slots {
         match self.entries.get(slot.0) {
             Some(entry) => entry.key.as_bytes(),
             None => &[],
-        }
-    }
-
-    /// The hash of the key of what a slot holds.
-    pub fn hash_at(&self, slot: Slot) -> u64
-        ensures { (e : Entry) → slice_index_or self.now.slots slot.0 None ≡ Some e
-            → result ≡ hash e.key }
-    {
-        match self.entries.get(slot.0) {
-            Some(entry) => hash(entry.key.as_bytes()),
-            None => 0,
         }
     }
 
