@@ -14,7 +14,6 @@ use crate::entry::{Entry, Slip};
 use crate::old_entries::prefetch;
 use std::alloc::Global;
 use std::marker::Model;
-use std::mem;
 use tc_grammar::Command;
 use tc_item::{Moment, NoMemory};
 use tc_plain::{Cache, LeftOver, Plain, Progress};
@@ -85,7 +84,7 @@ fn put(entries: &mut Vec<Entry>, used: usize, entry: Entry)
 {
     if used < entries.len() {
         prefetch(entries.as_slice(), used);
-        drop(mem::replace(&mut entries[used], entry));
+        entries[used] = entry;
     } else {
         entries.push_reserved(entry);
     }
