@@ -14,7 +14,6 @@ use crate::entry::{Entry, Slip};
 use crate::old_entries::prefetch;
 use std::alloc::Global;
 use std::marker::Model;
-use std::mem;
 use tc_grammar::Command;
 use tc_item::{Moment, NoMemory};
 use tc_plain::{Cache, LeftOver, Plain, Progress};
@@ -85,7 +84,7 @@ fn put(entries: &mut Vec<Entry>, used: usize, entry: Entry)
 {
     if used < entries.len() {
         prefetch(entries.as_slice(), used);
-        drop(mem::replace(&mut entries[used], entry));
+        entries[used] = entry;
     } else {
         entries.push_reserved(entry);
     }
@@ -119,7 +118,8 @@ fn enter(
     moment: Moment,
     conn: u32,
     kept: Command,
-    outcomes: (Outcome, Outcome),
+    answer: Outcome,
+    outcome: Outcome,
 ) -> Slip
     requires within { used ≤ length entries.old.items }
     requires room { length entries.old.items ≤ used
@@ -134,7 +134,7 @@ fn enter(
       moment = moment;
       conn = conn;
       command = kept;
-      outcome = outcomes.1;
+      outcome = outcome;
     } ∷ [] }
     ensures within { used + 1 ≤ length entries.new.items }
     ensures number { number.new ≡ number.old + 1 }
@@ -145,11 +145,10 @@ fn enter(
       number = number.old + 1;
       tally = slice_index counts.old.items seat_no + 1;
       moment = moment;
-      outcome = outcomes.0;
+      outcome = answer;
     } }
 {
     let (number, tally) = count_entry(number, counts, seat_no);
-    let (answer, outcome) = outcomes;
     let entry = Entry {
         seat: seat_no,
         tally,
@@ -169,22 +168,9 @@ fn enter(
     }
 }
 
-/// What can fail of a call: room for its entry behind the first `used`, and what the cache does. Its
-/// outcome is given twice, one to answer and one to keep.
-fn act_on_page<C: Cache>(
-    alloc: Global,
-    cache: &mut C,
-    entries: &mut Vec<Entry>,
-    used: usize,
-    number: u64,
-    moment: Moment,
-    command: &Command,
-) -> Result<(Outcome, Outcome), CallFault>
-    ensures answer { IfOk result (λ r. r.0 ≡ (act (C.settled cache.old) moment command.now).0) }
-    ensures kept { IfOk result (λ r. r.1 ≡ (act (C.settled cache.old) moment command.now).0) }
-    ensures state { OnOk result (C.settled cache.new
-        ≡ (act (C.settled cache.old) moment command.now).1) }
-    ensures opening { C.opened cache.new ≡ C.opened cache.old }
+/// What can fail before the cache is called: a number for the entry, and room for it behind the first
+/// `used`.
+fn make_ready(entries: &mut Vec<Entry>, used: usize, number: u64) -> Result<(), CallFault>
     ensures entries { entries.new.items ≡ entries.old.items }
     ensures room { OnOk result (length entries.new.items ≤ used
         → vec_len entries.new < vec_capacity entries.new) }
@@ -192,17 +178,16 @@ fn act_on_page<C: Cache>(
     ensures worn { IfErr result (λ fault. (fault ≡ Worn → number ≡ 2 ^ 64 - 1)
         × (fault ≢ NoUser)) }
     ensures own { IfErr result (λ fault. fault ≢ OtherBook) }
-    ensures unchanged_on_err { OnErr result (C.settled cache.new ≡ C.settled cache.old) }
 {
     if number == u64::MAX {
         return Err(CallFault::Worn);
     }
     make_room(entries, used)?;
-    Ok(cache.act(alloc, moment, command)?)
+    Ok(())
 }
 
-/// The same of a call on a new page: the next opening is prepared, and there is room for what the turn
-/// leaves over.
+/// What can fail of a call on a new page: the next opening is prepared, there is room for what the turn
+/// leaves over, and the cache does the command. Its outcome is given twice, one to answer and one to keep.
 fn act_on_next<C: Cache>(
     alloc: Global,
     cache: &mut C,
@@ -277,15 +262,8 @@ impl<C: Cache> Book<C> {
         ensures unchanged_on_err { OnErr result (self.new ≡ self.old) }
     {
         let moment = self.moment.later(now);
-        let outcomes = act_on_page(
-            alloc,
-            &mut self.cache,
-            &mut self.entries,
-            self.used,
-            self.number,
-            moment,
-            command,
-        )?;
+        make_ready(&mut self.entries, self.used, self.number)?;
+        let (answer, outcome) = self.cache.act(alloc, moment, command)?;
         let slip = enter(
             &mut self.entries,
             self.used,
@@ -296,7 +274,8 @@ impl<C: Cache> Book<C> {
             moment,
             conn,
             kept,
-            outcomes,
+            answer,
+            outcome,
         );
         self.moment = moment;
         self.used += 1;
@@ -353,7 +332,7 @@ impl<C: Cache> Book<C> {
     {
         let moment = self.moment.later(now);
         let mut left = Vec::new(alloc);
-        let outcomes = act_on_next(
+        let (answer, outcome) = act_on_next(
             alloc,
             &mut self.cache,
             &mut left,
@@ -373,7 +352,8 @@ impl<C: Cache> Book<C> {
             moment,
             conn,
             kept,
-            outcomes,
+            answer,
+            outcome,
         );
         self.moment = moment;
         self.used = 1;

@@ -15,16 +15,17 @@ use Rattle.tc_partition.specs.Deferred.{Lazy, IsLazy, hit, settled, peeked}
 use Rattle.tc_plain.specs.AreaLists.{found_in}
 use Rattle.tc_readbuf.specs.Places.{places}
 use Rattle.tc_partition.specs.WaitingSlots.{lazy_by, ArePlaced, SeeksSlot, placed_in}
-use Rattle.tc_partition.specs.Seeking.{noted_of, all_noted, SeekSlots}
+use Rattle.tc_partition.specs.Seeking.{noted_at, all_noted, AreHashed, SeekSlots}
+use Rattle.tc_partition.specs.declared.wanted.Wanted.{Wanted}
 use Rattle.tc_partition.specs.Delayed.{waits_next, waits_after}
 use Rattle.tc_partition.proofs.Deferral.{look_state, noted_lazy, raised_lazy, raised_settled}
 use Rattle.tc_partition.proofs.Draining.{IsPut, put_hit, put_miss}
 use Rattle.tc_partition.proofs.Sought.{held_then, placed_sought}
 
-put_found : (s : LiveSlots) (rs : List (Noted × ℕ)) (m : ℕ) (key : List ℕ) (place : Option Slot) → SeeksSlot place m key s
-    → ArePlaced s.held.slots rs → IsPut s rs m key (rs ++ (noted_of key place, m) ∷ [])
-put_found s rs m key None h p = put_miss s rs m key (hash key) refl h p
-put_found s rs m key (Some slot) h p = put_hit s rs m key slot h.0 h.1 h.2 h.3 p
+pub put_found : (s : LiveSlots) (rs : List (Noted × ℕ)) (m : ℕ) (key : List ℕ) (h : ℕ) (place : Option Slot) → h ≡ hash key
+    → SeeksSlot place m key s → ArePlaced s.held.slots rs → IsPut s rs m key (rs ++ (noted_at h place, m) ∷ [])
+put_found s rs m key h None eh at p = put_miss s rs m key h eh at p
+put_found s rs m key h (Some slot) eh at p = put_hit s rs m key slot h at.0 eh at.1 at.2 at.3 p
 
 -- what is true once it waits, at the moment that the cache then comes to
 pub record IsLookedUp (s : LiveSlots) (rs : List (Noted × ℕ)) (before now : ℕ) (key : List ℕ) (rs' : List (Noted × ℕ)) (m : ℕ)
@@ -33,13 +34,13 @@ pub record IsLookedUp (s : LiveSlots) (rs : List (Noted × ℕ)) (before now : �
   pub placed : ArePlaced s.held.slots rs'
   pub settled : settled (lazy_by s rs' m) ≡ hit key (advanced (settled (lazy_by s rs before)) now)
 
-pub look_now : (s : LiveSlots) (rs : List (Noted × ℕ)) (before now : ℕ) (key : List ℕ) (place : Option Slot) (m : ℕ)
-    → m ≡ max before now → IsLazy (lazy_by s rs before) → ArePlaced s.held.slots rs → SeeksSlot place m key s
-    → IsLookedUp s rs before now key (rs ++ (noted_of key place, m) ∷ []) m
-look_now s rs before now key place m e h p at =
+pub look_now : (s : LiveSlots) (rs : List (Noted × ℕ)) (before now : ℕ) (key : List ℕ) (k : ℕ) (place : Option Slot) (m : ℕ)
+    → k ≡ hash key → m ≡ max before now → IsLazy (lazy_by s rs before) → ArePlaced s.held.slots rs → SeeksSlot place m key s
+    → IsLookedUp s rs before now key (rs ++ (noted_at k place, m) ∷ []) m
+look_now s rs before now key k place m ek e h p at =
     let up : IsLazy (lazy_by s rs m) =
     subst (λ t. IsLazy (lazy_by s rs t)) (sym e) (raised_lazy (lazy_by s rs before) now h) in
-    let put = put_found s rs m key place at p in
+    let put = put_found s rs m key k place ek at p in
     record {
       lazy = subst IsLazy (sym put.state) (noted_lazy (lazy_by s rs m) key up);
       placed = put.placed;
@@ -69,33 +70,37 @@ module _ (s : LiveSlots) (m : ℕ) where
     pub placed : ArePlaced s.held.slots rs'
     pub settled : settled (lazy_by s rs' m) ≡ (all_looked_up (λ i. i) keys (settled (lazy_by s rs m))).1
 
-  look_each : (rs : List (Noted × ℕ)) (keys : List (List ℕ)) (found : List (Option Slot)) → IsLazy (lazy_by s rs m)
-      → ArePlaced s.held.slots rs → SeekSlots m keys found s → AreLookedUp rs keys (rs ++ all_noted m keys found)
-  look_each rs [] found h p at =
+  look_each : (rs : List (Noted × ℕ)) (keys : List (List ℕ)) (wanted : List Wanted) (found : List (Option Slot))
+      → AreHashed keys wanted → IsLazy (lazy_by s rs m) → ArePlaced s.held.slots rs → SeekSlots m keys found s
+      → AreLookedUp rs keys (rs ++ all_noted m wanted found)
+  look_each rs [] [] found hs h p at =
       subst (AreLookedUp rs []) (sym (append-nil rs)) (record { lazy = h; placed = p; settled = refl })
-  look_each rs (key ∷ keys) [] h p at = absurd at
-  look_each rs (key ∷ keys) (place ∷ found) h p at =
-      let r : Noted × ℕ = (noted_of key place, m) in
-      let put = put_found s rs m key place at.0 p in
+  look_each rs [] (w ∷ wanted) found hs h p at = absurd hs
+  look_each rs (key ∷ keys) [] found hs h p at = absurd hs
+  look_each rs (key ∷ keys) (w ∷ wanted) [] hs h p at = absurd at
+  look_each rs (key ∷ keys) (w ∷ wanted) (place ∷ found) hs h p at =
+      let r : Noted × ℕ = (noted_at w.hash place, m) in
+      let put = put_found s rs m key w.hash place hs.0 at.0 p in
       let up : IsLazy (lazy_by s (rs ++ r ∷ []) m) = subst IsLazy (sym put.state) (noted_lazy (lazy_by s rs m) key h) in
       let one : settled (lazy_by s (rs ++ r ∷ []) m) ≡ hit key (settled (lazy_by s rs m)) =
       ap settled put.state ∙ look_state (lazy_by s rs m) key h in
-      let rest = look_each (rs ++ r ∷ []) keys found up put.placed at.1 in
-      subst (AreLookedUp rs (key ∷ keys)) (append_assoc rs (r ∷ []) (all_noted m keys found)) (record {
+      let rest = look_each (rs ++ r ∷ []) keys wanted found hs.1 up put.placed at.1 in
+      subst (AreLookedUp rs (key ∷ keys)) (append_assoc rs (r ∷ []) (all_noted m wanted found)) (record {
         lazy = rest.lazy;
         placed = rest.placed;
         settled = rest.settled ∙ ap (λ l. (all_looked_up (λ i. i) keys l).1) one;
       })
 
-pub look_all_now : (s : LiveSlots) (rs : List (Noted × ℕ)) (before now : ℕ) (keys : List (List ℕ)) (found : List (Option Slot))
-    (m : ℕ) → m ≡ max before now → IsLazy (lazy_by s rs before) → ArePlaced s.held.slots rs → SeekSlots m keys found s
-    → (let rs' = rs ++ all_noted m keys found in
+pub look_all_now : (s : LiveSlots) (rs : List (Noted × ℕ)) (before now : ℕ) (keys : List (List ℕ)) (wanted : List Wanted)
+    (found : List (Option Slot)) (m : ℕ) → AreHashed keys wanted → m ≡ max before now → IsLazy (lazy_by s rs before)
+    → ArePlaced s.held.slots rs → SeekSlots m keys found s
+    → (let rs' = rs ++ all_noted m wanted found in
     IsLazy (lazy_by s rs' m) × ArePlaced s.held.slots rs'
     × (settled (lazy_by s rs' m) ≡ (all_looked_up (λ i. i) keys (advanced (settled (lazy_by s rs before)) now)).1))
-look_all_now s rs before now keys found m e h p at =
+look_all_now s rs before now keys wanted found m hs e h p at =
     let up : IsLazy (lazy_by s rs m) =
     subst (λ t. IsLazy (lazy_by s rs t)) (sym e) (raised_lazy (lazy_by s rs before) now h) in
-    let all = look_each s m rs keys found up p at in (
+    let all = look_each s m rs keys wanted found hs up p at in (
       all.lazy,
       all.placed,
       all.settled
@@ -127,20 +132,34 @@ found_push m [] (p ∷ found) s key place h at = absurd h
 found_push m (k ∷ keys) [] s key place h at = absurd h
 found_push m (k ∷ keys) (p ∷ found) s key place h at = (h.0, found_push m keys found s key place h.1 at)
 
-pub noted_push : (m : ℕ) (keys : List (List ℕ)) (found : List (Option Slot)) (key : List ℕ) (place : Option Slot)
-    → length found ≡ length keys
-    → all_noted m (keys ++ key ∷ []) (found ++ place ∷ []) ≡ all_noted m keys found ++ (noted_of key place, m) ∷ []
-noted_push m [] [] key place e = refl
-noted_push m [] (p ∷ found) key place e = absurd (omega (arith, e))
-noted_push m (k ∷ keys) [] key place e = absurd (omega (arith, e))
-noted_push m (k ∷ keys) (p ∷ found) key place e =
-    ap (λ rs. (noted_of k p, m) ∷ rs) (noted_push m keys found key place (omega (arith, e)))
+pub noted_push : (m : ℕ) (wanted : List Wanted) (found : List (Option Slot)) (w : Wanted) (place : Option Slot)
+    → length found ≡ length wanted
+    → all_noted m (wanted ++ w ∷ []) (found ++ place ∷ []) ≡ all_noted m wanted found ++ (noted_at w.hash place, m) ∷ []
+noted_push m [] [] w place e = refl
+noted_push m [] (p ∷ found) w place e = absurd (omega (arith, e))
+noted_push m (v ∷ wanted) [] w place e = absurd (omega (arith, e))
+noted_push m (v ∷ wanted) (p ∷ found) w place e =
+    ap (λ rs. (noted_at v.hash p, m) ∷ rs) (noted_push m wanted found w place (omega (arith, e)))
 
-pub noted_long : (m : ℕ) (keys : List (List ℕ)) (found : List (Option Slot)) → length found ≡ length keys
-    → length (all_noted m keys found) ≡ length keys
+pub noted_long : (m : ℕ) (wanted : List Wanted) (found : List (Option Slot)) → length found ≡ length wanted
+    → length (all_noted m wanted found) ≡ length wanted
 noted_long m [] found e = refl
-noted_long m (k ∷ keys) [] e = absurd (omega (arith, e))
-noted_long m (k ∷ keys) (p ∷ found) e = let rest = noted_long m keys found (omega (arith, e)) in omega (arith, rest)
+noted_long m (w ∷ wanted) [] e = absurd (omega (arith, e))
+noted_long m (w ∷ wanted) (p ∷ found) e = let rest = noted_long m wanted found (omega (arith, e)) in omega (arith, rest)
+
+-- a hash for each key
+pub hashed_long : (keys : List (List ℕ)) (wanted : List Wanted) → AreHashed keys wanted → length wanted ≡ length keys
+hashed_long [] [] h = refl
+hashed_long [] (w ∷ wanted) h = absurd h
+hashed_long (k ∷ keys) [] h = absurd h
+hashed_long (k ∷ keys) (w ∷ wanted) h = let rest = hashed_long keys wanted h.1 in omega (arith, rest)
+
+pub hashed_push : (keys : List (List ℕ)) (wanted : List Wanted) (key : List ℕ) (w : Wanted) → AreHashed keys wanted
+    → w.hash ≡ hash key → AreHashed (keys ++ key ∷ []) (wanted ++ w ∷ [])
+hashed_push [] [] key w h at = (at, tt)
+hashed_push [] (v ∷ wanted) key w h at = absurd h
+hashed_push (k ∷ keys) [] key w h at = absurd h
+hashed_push (k ∷ keys) (v ∷ wanted) key w h at = (h.0, hashed_push keys wanted key w h.1 at)
 
 -- how many wait where there is room for all
 pub waits_room : (k n : ℕ) → n + k ≤ places → waits_after k n ≡ n + k

@@ -1,6 +1,6 @@
 -- What slots held before changes that were noted. Source: this project's own.
 use Rattle.std.specs.Prelude.{Bool, true, false, ◌==◌, ◌||◌}
-use Rattle.std.specs.Prelude.{◌≡◌, ◌+◌, ◌≤◌, length, ℕ, List, [], ◌∷◌, Option, Some, None, option_map, slice_index_or, ◌<◌, ◌++◌, ◌⊎◌, ◌^◌}
+use Rattle.std.specs.Prelude.{◌≡◌, ◌+◌, ◌≤◌, length, ℕ, List, [], ◌∷◌, Option, None, option_map, slice_index_or, ◌<◌, ◌++◌, ◌⊎◌, ◌^◌}
 use Rattle.slab.specs.Slab.{Slab, get as slab_get, slab_len}
 use Rattle.tc_plain.specs.declared.shared.entry.Entry.{Entry}
 use Rattle.tc_plain.specs.declared.shared.change.Was.{Was}

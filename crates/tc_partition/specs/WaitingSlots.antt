@@ -1,8 +1,9 @@
 -- What waits, as the code keeps it: by slot. Source: this project's own.
-use Rattle.std.specs.Prelude.{◌≡◌, ℕ, List, [], ◌∷◌, Option, Some, None, IsSome, map, slice_index_or}
+use Rattle.std.specs.Prelude.{◌≡◌, ℕ, List, [], ◌∷◌, Option, Some, None, map, slice_index_or}
 use Rattle.tc_item.specs.declared.slot.Slot.{Slot}
 use Rattle.tc_readbuf.specs.declared.noted.Noted.{Noted}
 use Rattle.tc_readbuf.specs.declared.noted.Noted.TheVariants.{Hit as HitNoted, Miss as MissNoted}
+use Rattle.tc_sketch.specs.Sketch.{hash}
 use Rattle.tc_plain.specs.declared.shared.entry.Entry.{Entry}
 use Rattle.tc_plain.specs.EvictionState.{EvictionState, held}
 use Rattle.tc_plain.specs.BySlot.{entry_or}
@@ -12,7 +13,7 @@ use Rattle.tc_partition.specs.declared.live_slots.LiveSlots.{LiveSlots}
 
 -- a noted hit by the key of what its slot holds
 abbrev pub note_at : List (Option Entry) → Noted → Note
-note_at slots (HitNoted slot) = Hit (entry_or (slice_index_or slots slot.0 None)).key
+note_at slots (HitNoted slot h) = Hit (entry_or (slice_index_or slots slot.0 None)).key
 note_at slots (MissNoted h) = Miss h
 
 -- what waits, by key
@@ -27,9 +28,9 @@ lazy_over l slots rs moment = record { base = l; waiting = map (waiting_of slots
 abbrev pub lazy_by : LiveSlots → List (Noted × ℕ) → ℕ → Lazy
 lazy_by s rs moment = lazy_over (live_of s) s.held.slots rs moment
 
--- a noted hit's slot holds something
+-- a noted hit's slot holds something, whose key has the noted hash
 abbrev pub IsPlaced : List (Option Entry) → Noted → Type 0
-IsPlaced slots (HitNoted slot) = IsSome (slice_index_or slots slot.0 None)
+IsPlaced slots (HitNoted slot h) = (e : Entry) × (slice_index_or slots slot.0 None ≡ Some e) × (h ≡ hash e.key)
 IsPlaced slots (MissNoted h) = Unit {0}
 
 -- and so does that of each

@@ -20,7 +20,7 @@ fn do_noted(live: &mut EvictionState, slots: &Slots, noted: Noted)
     ensures room { HasRoom 0 live.new.areas }
 {
     match noted {
-        Noted::Hit(slot) => {
+        Noted::Hit(slot, _) => {
             let _held = live.look(slots.key_at(slot), None);
         }
         Noted::Miss(hash) => live.sketch.record(hash),

@@ -2,6 +2,7 @@
 ghost use Rattle.std.specs.Prelude.{◌≡◌, ℕ, max, false, None, IsSome, slice_index_or, ◌<◌, ◌≤◌, ◌+◌, ◌^◌, true, is_some, length};
 ghost use Rattle.std.specs.Prelude.{Some, IfOk, OnOk, OnErr, MatchOption, List};
 ghost use Rattle.std.specs.Option.{option_copied};
+ghost use Rattle.tc_sketch.specs.Sketch.{hash};
 ghost use Rattle.tc_model.specs.Areas.{total, settle};
 ghost use Rattle.tc_stats.specs.UserCounters.{more};
 ghost use Rattle.tc_plain.specs.declared.shared.entry.Entry.{Entry};
@@ -15,13 +16,15 @@ ghost use Rattle.tc_plain.specs.UserCache.{UserCache};
 ghost use Rattle.tc_plain.specs.Plans.{outcome_of, planned, IsLightPlan};
 ghost use Rattle.tc_partition.specs.Held.{IsFound};
 ghost use Rattle.tc_partition.specs.Deferred.{Miss, hit, do_note, peeked};
-ghost use Rattle.tc_partition.specs.WaitingSlots.{SeeksSlot, placed_in};
+ghost use Rattle.tc_partition.specs.WaitingSlots.{SeeksSlot, placed_in, IsPlaced};
+ghost use Rattle.tc_readbuf.specs.declared.noted.Noted.{Noted};
 ghost use Rattle.tc_partition.specs.LiveSlots.{live_of, then_live, seen_of, plan_of, IsKeyed, IsFree};
 
 use crate::aside::{Aside, set_aside, shed, turn};
 use crate::hints::Hints;
 use crate::slots::Slots;
 use crate::tables::Tables;
+use crate::wanted::Wanted;
 use crate::work::Work;
 use std::alloc::Global;
 use tc_item::{Due, Key, Moment, NoMemory, Slot, alive};
@@ -113,41 +116,22 @@ impl LiveSlots {
         requires { AreSound self.now.held.limits self.now.held.areas }
         ensures { SeeksSlot result moment key.now self.now }
     {
-        self.seek_from(self.hint(key), key, moment)
+        self.seek_from(self.wanted(key).hint, key, moment)
     }
 
-    /// Where a key may be.
-    fn hint(&self, key: &Key) -> Option<Slot> {
-        self.hints.slot(hash(key.as_bytes()))
-    }
-
-    /// The same, and how often such a key was seen of late, so that memory is read which a look-up of
-    /// it will change.
-    pub(crate) fn hint_ahead(&self, key: &Key) -> (Option<Slot>, u8) {
-        let hash = hash(key.as_bytes());
-        (self.hints.slot(hash), self.sketch.freq(hash))
-    }
-
-    /// Where what a key will hold at the moment is, which may be where the hint at the key's place in the
-    /// order asked says, if there are hints.
-    pub(crate) fn seek_by(
-        &self,
-        hints: &[Option<Slot>],
-        i: usize,
-        key: &Key,
-        moment: Moment,
-    ) -> Option<Slot>
-        requires { AreSound self.now.held.limits self.now.held.areas }
-        ensures { SeeksSlot result moment key.now self.now }
+    /// What is known of a key before it is sought.
+    pub(crate) fn wanted(&self, key: &Key) -> Wanted
+        ensures { result.hash ≡ hash key.now }
     {
-        match hints.get(i) {
-            Some(hint) => self.seek_from(*hint, key, moment),
-            None => self.seek(key, moment),
+        let hash = hash(key.as_bytes());
+        Wanted {
+            hash,
+            hint: self.hints.slot(hash),
         }
     }
 
-    /// The same, of a key that was found at this place: where it is still there, the index is not
-    /// asked.
+    /// Where what a key will hold at the moment is, which may be this place: where it is there, the index
+    /// is not asked.
     pub(crate) fn seek_from(&self, place: Option<Slot>, key: &Key, moment: Moment) -> Option<Slot>
         requires { AreSound self.now.held.limits self.now.held.areas }
         ensures { SeeksSlot result moment key.now self.now }
@@ -234,9 +218,9 @@ impl LiveSlots {
         true
     }
 
-    /// One look-up of the key of what a slot holds.
-    pub(crate) fn hit_at(&mut self, slot: Slot)
-        requires held { IsSome (slice_index_or self.old.held.slots slot.0 None) }
+    /// One look-up of the key of what a slot holds, which has this hash.
+    pub(crate) fn hit_at(&mut self, slot: Slot, key_hash: u64)
+        requires held { IsPlaced self.old.held.slots (Noted.Hit slot key_hash) }
         requires sound { AreSound self.old.held.limits self.old.held.areas }
         requires weight { total weight self.old.held.areas < 2 ^ 32 }
         requires alive { (e : Entry) → slice_index_or self.old.held.slots slot.0 None ≡ Some e
@@ -247,9 +231,8 @@ impl LiveSlots {
         ensures then { then_live self.new ≡ then_live self.old }
     {
         self.held.owning();
-        let hash = self.held.hash_at(slot);
-        self.sketch.record(hash);
-        self.hints.note(hash, slot);
+        self.sketch.record(key_hash);
+        self.hints.note(key_hash, slot);
         self.held.access_at(slot);
     }
 
@@ -257,9 +240,9 @@ impl LiveSlots {
     /// comes to says nothing.
     pub(crate) fn read_noted(&self, noted: Noted) -> u64 {
         match noted {
-            Noted::Hit(slot) => {
+            Noted::Hit(slot, hash) => {
                 let node = u64::from(self.held.has_node(slot));
-                node.wrapping_add(u64::from(self.sketch.freq(self.held.hash_at(slot))))
+                node.wrapping_add(u64::from(self.sketch.freq(hash)))
             }
             Noted::Miss(hash) => u64::from(self.sketch.freq(hash)),
         }

@@ -27,7 +27,6 @@ ghost use Rattle.tc_plain.specs.EvictionState.{held, kept, no_entries, entries_o
 ghost use Rattle.tc_plain.specs.Placing.{without_key};
 ghost use Rattle.tc_slru.specs.InAreas.{fronted_in};
 ghost use Rattle.tc_plain.specs.declared.shared.entry.Entry.{Entry};
-ghost use Rattle.tc_sketch.specs.Sketch.{hash};
 ghost use Rattle.tc_plain.specs.BySlot.{entry_or};
 ghost use Rattle.tc_partition.specs.Held.{filled, IsFound, FindsSlot, DropsEntry};
 
@@ -45,7 +44,7 @@ use std::hash::RandomState;
 use std::marker::Model;
 use tc_item::{Due, Key, Moment, NoMemory, Slot};
 use tc_plain::{Areas, Change, Entry, Limits};
-use tc_sketch::{PastSketch, hash};
+use tc_sketch::PastSketch;
 use tc_slru::{Area, Lists};
 use tc_wheel::Wheel;
 
@@ -262,17 +261,6 @@ impl Slots {
         match self.entries.get(slot.0) {
             Some(entry) => entry.key.as_bytes(),
             None => &[],
-        }
-    }
-
-    /// The hash of the key of what a slot holds.
-    pub fn hash_at(&self, slot: Slot) -> u64
-        ensures { (e : Entry) → slice_index_or self.now.slots slot.0 None ≡ Some e
-            → result ≡ hash e.key }
-    {
-        match self.entries.get(slot.0) {
-            Some(entry) => hash(entry.key.as_bytes()),
-            None => 0,
         }
     }
 

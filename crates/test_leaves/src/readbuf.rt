@@ -8,7 +8,7 @@ use tc_readbuf::{Full, Noted, ReadBuf};
 /// A hit for an even number, a miss for an odd one.
 fn noted(number: usize) -> Noted {
     if number % 2 == 0 {
-        Noted::Hit(Slot(number))
+        Noted::Hit(Slot(number), 7)
     } else {
         Noted::Miss(number as u64)
     }

@@ -25,6 +25,13 @@ pub trait FoundEntries {
     fn entry(&self, i: usize) -> Option<&Entry>
         requires { i < length (entries self.now) }
         ensures { option_copied result ≡ slice_index_or (entries self.now) i None };
+
+    /// Whether it was found to hold something.
+    fn is_found(&self, i: usize) -> bool
+        requires { i < length (entries self.now) }
+    {
+        self.entry(i).is_some()
+    }
 }
 
 /// Whether a due is given that has come at the moment.
@@ -74,7 +81,7 @@ fn count_found<F: FoundEntries>(found: &F, keys: usize) -> usize
     let mut count = 0usize;
     if keys > 1 {
         for i in 0..keys {
-            count = count.saturating_add(usize::from(found.entry(i).is_some()));
+            count = count.saturating_add(usize::from(found.is_found(i)));
         }
     }
     count

@@ -18,7 +18,7 @@ show_all-requires c =
 pub returns-clause-hits : goal.returns-clause-hits
 returns-clause-hits c =
     let live = c.args.live.now in
-    c.in_ok-hits.ensures (live_of live) c.requires
+    c.in_ok-hits.ensures (live_of live) c.requires.sound
     (ap (map (placed_in live.held.slots)) c.as_slice.ensures
     ∙ found_sought c.args.moment c.args.keys.now c.in_ok-places.places.items live c.in_ok-places.ensures)
 

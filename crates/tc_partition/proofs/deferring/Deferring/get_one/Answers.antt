@@ -12,8 +12,8 @@ use Rattle.tc_partition.proofs.Sought.{placed_sought}
 use Rattle.tc_partition.proofs.Tally.{length_map}
 use Rattle.tc_partition.proofs.deferring.Deferring.get_one.Goals as goal
 
-pub seek-place-requires : goal.seek-place-requires
-seek-place-requires c = c.self.invariant.lazy.sound
+pub seek_from-place-requires : goal.seek_from-place-requires
+seek_from-place-requires c = c.self.invariant.lazy.sound
 
 pub note_found-requires : goal.note_found-requires
 note_found-requires c =
@@ -31,8 +31,9 @@ invariant_of-self c =
     let key = c.args.key.now in
     let m = c.later-moment.result in
     let p = subst (λ rs. IsLookedUp i.cache.live i.waiting i.moment c.args.now key rs m) (sym c.note_found.ensures)
-    (look_now i.cache.live i.waiting i.moment c.args.now key c.seek-place.result m c.later-moment.ensures
-    c.self.invariant.lazy c.self.invariant.placed c.seek-place.ensures) in
+    (look_now i.cache.live i.waiting i.moment c.args.now key c.wanted-wanted.result.hash c.seek_from-place.result m
+    c.wanted-wanted.ensures c.later-moment.ensures
+    c.self.invariant.lazy c.self.invariant.placed c.seek_from-place.ensures) in
     record { sound = c.self.invariant.sound; lazy = p.lazy; placed = p.placed }
 
 pub returns-clause-first : goal.returns-clause-first
@@ -42,7 +43,7 @@ returns-clause-first c =
     let m = c.later-moment.result in
     c.in_ok-both.ensures.first
     ∙ shown_now (lazy_by i.cache.live i.waiting i.moment) c.args.now m key _ c.self.invariant.lazy c.later-moment.ensures
-    (c.held_at.ensures.placed ∙ placed_sought c.seek-place.result m key i.cache.live c.seek-place.ensures)
+    (c.held_at.ensures.placed ∙ placed_sought c.seek_from-place.result m key i.cache.live c.seek_from-place.ensures)
     ∙ ap (λ (z : Delayed). (all_looked_up (λ i. i) (key ∷ []) (advanced (settled (lazy_in z)) c.args.now)).0) c.self.view_is
 
 pub returns-clause-second : goal.returns-clause-second
@@ -52,7 +53,7 @@ returns-clause-second c =
     let m = c.later-moment.result in
     c.in_ok-both.ensures.second
     ∙ shown_now (lazy_by i.cache.live i.waiting i.moment) c.args.now m key _ c.self.invariant.lazy c.later-moment.ensures
-    (c.held_at.ensures.placed ∙ placed_sought c.seek-place.result m key i.cache.live c.seek-place.ensures)
+    (c.held_at.ensures.placed ∙ placed_sought c.seek_from-place.result m key i.cache.live c.seek_from-place.ensures)
     ∙ ap (λ (z : Delayed). (all_looked_up (λ i. i) (key ∷ []) (advanced (settled (lazy_in z)) c.args.now)).0) c.self.view_is
 
 pub returns-clause-state : goal.returns-clause-state
@@ -61,8 +62,9 @@ returns-clause-state c =
     let key = c.args.key.now in
     let m = c.later-moment.result in
     let p = subst (λ rs. IsLookedUp i.cache.live i.waiting i.moment c.args.now key rs m) (sym c.note_found.ensures)
-    (look_now i.cache.live i.waiting i.moment c.args.now key c.seek-place.result m c.later-moment.ensures
-    c.self.invariant.lazy c.self.invariant.placed c.seek-place.ensures) in
+    (look_now i.cache.live i.waiting i.moment c.args.now key c.wanted-wanted.result.hash c.seek_from-place.result m
+    c.wanted-wanted.ensures c.later-moment.ensures
+    c.self.invariant.lazy c.self.invariant.placed c.seek_from-place.ensures) in
     ap (with_live (cache_of i.cache)) p.settled
     ∙ ap (λ (z : Delayed). with_live (advance (settled_in z) c.args.now) (hit key (advance (settled_in z) c.args.now).live))
     c.self.view_is

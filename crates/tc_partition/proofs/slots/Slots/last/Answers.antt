@@ -1,7 +1,5 @@
 use Rattle.std.specs.Prelude.{is_some, slice_index_or}
 use Rattle.std.proofs.Common.{◌≡◌, Some, None, sym, ◌∙◌, ap}
-use Rattle.std.specs.Str.{bytes_eq}
-use Rattle.indexmap.specs.IndexMap.{get as index_get}
 use Rattle.slab.specs.Slab.{get as slab_get}
 use Rattle.tc_item.specs.declared.slot.Slot.{Slot}
 use Rattle.tc_partition.specs.Held.{Held, then_areas}
