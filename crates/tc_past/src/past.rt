@@ -105,6 +105,7 @@ impl<T: Copy> Past<T> {
     }
 
     /// Has a place hold this.
+    #[inline(always)]
     pub fn set(&mut self, at: usize, to: T)
         requires { at < length self.old.live }
         ensures { self.new ≡ live_with (slice_set self.old.live at to) self.old }
