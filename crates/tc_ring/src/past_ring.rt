@@ -133,6 +133,7 @@ impl<N: Copy, const MARKS: usize> PastRing<N, MARKS> {
     }
 
     /// Takes a node out of the ring.
+    #[inline(always)]
     pub fn unlink(&mut self, at: usize)
         requires { HasPlace self.old.live.next self.old.live.prev at }
         ensures { self.new ≡ live_with (unlinked at self.old.live) self.old }
@@ -145,6 +146,7 @@ impl<N: Copy, const MARKS: usize> PastRing<N, MARKS> {
 
     /// Puts a node into the ring, behind another, and notes something of its slot. One that was linked is
     /// unlinked first: a move writes five nodes in all.
+    #[inline(always)]
     pub fn link_behind(&mut self, before: usize, at: usize, note: N)
         requires before { before < length self.old.live.next }
         requires within { at < length self.old.live.next }
