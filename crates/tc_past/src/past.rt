@@ -105,12 +105,27 @@ impl<T: Copy> Past<T> {
     }
 
     /// Has a place hold this.
+    #[inline(always)]
     pub fn set(&mut self, at: usize, to: T)
         requires { at < length self.old.live }
         ensures { self.new ≡ live_with (slice_set self.old.live at to) self.old }
     {
         note_held(&mut self.since, &self.live, at);
         self.live[at] = to;
+    }
+
+    /// Has a place hold what f makes of what it holds.
+    pub fn change<F: FnOnce(T) -> T>(&mut self, at: usize, f: F)
+        requires within { at < length self.old.live }
+        requires callable { F.IsAlwaysCallable f }
+        ensures long { length self.new.live ≡ length self.old.live }
+        ensures changed { (g : T → T) → ((x y : T) → F.post f x y → y ≡ g x) → (was : T)
+            × ((was ≡ slice_index_or self.old.live at was)
+            × (self.new ≡ live_with (slice_set self.old.live at (g was)) self.old)) }
+    {
+        note_held(&mut self.since, &self.live, at);
+        let held = self.live[at];
+        self.live[at] = f(held);
     }
 
     /// Places up to this number, which hold `blank`, now and in the past. A refusal changes nothing.

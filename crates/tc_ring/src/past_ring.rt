@@ -133,6 +133,7 @@ impl<N: Copy, const MARKS: usize> PastRing<N, MARKS> {
     }
 
     /// Takes a node out of the ring.
+    #[inline(always)]
     pub fn unlink(&mut self, at: usize)
         requires { HasPlace self.old.live.next self.old.live.prev at }
         ensures { self.new ≡ live_with (unlinked at self.old.live) self.old }
@@ -145,6 +146,7 @@ impl<N: Copy, const MARKS: usize> PastRing<N, MARKS> {
 
     /// Puts a node into the ring, behind another, and notes something of its slot. One that was linked is
     /// unlinked first: a move writes five nodes in all.
+    #[inline(always)]
     pub fn link_behind(&mut self, before: usize, at: usize, note: N)
         requires before { before < length self.old.live.next }
         requires within { at < length self.old.live.next }
@@ -162,13 +164,14 @@ impl<N: Copy, const MARKS: usize> PastRing<N, MARKS> {
         requires { at < length self.old.live.next }
         ensures { self.new ≡ live_with (noted at note self.old.live) self.old }
     {
-        let node = self.nodes.get(at);
-        let noted = Node {
-            next: node.next,
-            prev: node.prev,
-            note,
-        };
-        self.nodes.set(at, noted);
+        self.nodes.change(
+            at,
+            |node| Node {
+                next: node.next,
+                prev: node.prev,
+                note,
+            },
+        );
     }
 
     /// A node's number, as links have it.
@@ -188,14 +191,15 @@ impl<N: Copy, const MARKS: usize> PastRing<N, MARKS> {
           next = slice_set self.old.live.next at to;
         }) self.old }
     {
-        let link = self.link_to(to);
-        let node = self.nodes.get(at);
-        let linked = Node {
-            next: link,
-            prev: node.prev,
-            note: node.note,
-        };
-        self.nodes.set(at, linked);
+        let next = self.link_to(to);
+        self.nodes.change(
+            at,
+            |node| Node {
+                next,
+                prev: node.prev,
+                note: node.note,
+            },
+        );
     }
 
     /// Links a node to the one before it.
@@ -206,14 +210,15 @@ impl<N: Copy, const MARKS: usize> PastRing<N, MARKS> {
           prev = slice_set self.old.live.prev at to;
         }) self.old }
     {
-        let link = self.link_to(to);
-        let node = self.nodes.get(at);
-        let linked = Node {
-            next: node.next,
-            prev: link,
-            note: node.note,
-        };
-        self.nodes.set(at, linked);
+        let prev = self.link_to(to);
+        self.nodes.change(
+            at,
+            |node| Node {
+                next: node.next,
+                prev,
+                note: node.note,
+            },
+        );
     }
 
     /// Links a node to the one behind it and the one before it, and notes something of its slot.

@@ -61,12 +61,13 @@ impl PastSketch {
         ensures recorded { self.new ≡ live_with (recorded self.old.live hash) self.old }
         ensures counting { CountsRecords self.new.live }
     {
-        self.row0.raise(place(self.width, MULTIPLIER_0, hash));
-        self.row1.raise(place(self.width, MULTIPLIER_1, hash));
-        self.row2.raise(place(self.width, MULTIPLIER_2, hash));
-        self.row3.raise(place(self.width, MULTIPLIER_3, hash));
+        let width = self.width;
+        self.row0.raise(place(width, MULTIPLIER_0, hash));
+        self.row1.raise(place(width, MULTIPLIER_1, hash));
+        self.row2.raise(place(width, MULTIPLIER_2, hash));
+        self.row3.raise(place(width, MULTIPLIER_3, hash));
         let count = self.count.get() + 1;
-        let limit = records_before_halving(self.width);
+        let limit = records_before_halving(width);
         if count == limit {
             self.row0.halve();
             self.row1.halve();

@@ -1,6 +1,6 @@
 -- A slot moves to the front of a list, maybe its own.
 use Rattle.std.specs.Prelude.{Some, None}
-use Rattle.std.proofs.Common.{◌≡◌, ℕ, ◌+◌, ◌-◌, ◌<◌, ◌≤◌, true, refl, sym, ◌∙◌, ap, subst, arith}
+use Rattle.std.proofs.Common.{◌≡◌, ℕ, ◌+◌, ◌<◌, ◌≤◌, true, refl, sym, ◌∙◌, ap, subst, arith}
 use Rattle.std.proofs.lemmas.List.{set-set}
 use Rattle.tc_model.specs.Areas.{Areas, total}
 use Rattle.tc_ring.specs.Links as ring

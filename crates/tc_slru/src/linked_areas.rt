@@ -19,6 +19,7 @@ ghost use Rattle.tc_slru.specs.Slots.{placed, weigh, holds, without_slot, taken_
 ghost use Rattle.tc_slru.specs.Slots.{slot_of};
 ghost use Rattle.tc_slru.specs.InAreas.{list_in, put_in, area_of, IsLast, IsSize, no_areas, mark_of, end_of};
 ghost use Rattle.tc_slru.specs.Victims.{Counts, left_over};
+ghost use Rattle.tc_slru.specs.Sizes.{size_in, sizes_with, sizes_without};
 
 use crate::area::{Area, Sizes};
 use crate::nodes::{MARKS, Nodes, SlotNote};
@@ -56,6 +57,25 @@ fn end_of(area: Area) -> usize
         Area::Probation => 2,
         Area::Protected => 0,
     }
+}
+
+/// Counts one that moved from a list to another, maybe its own, and may weigh something else since.
+fn count_moved(sizes: &mut PastValue<Sizes>, from: Area, was: u32, to: Area, weight: u32)
+    requires count { 0 < (size_in from sizes.old.live).count }
+    requires weight { was ≤ (size_in from sizes.old.live).weight }
+    requires more { (size_in to (sizes_without from was sizes.old.live)).count + 1 < 2 ^ 64 }
+    requires heavier { (size_in to (sizes_without from was sizes.old.live)).weight + weight
+        < 2 ^ 64 }
+    ensures { sizes.new
+        ≡ live_with (sizes_with to weight (sizes_without from was sizes.old.live)) sizes.old }
+{
+    if from == to && was == weight {
+        return;
+    }
+    let mut counted = sizes.get();
+    counted.leave(from, was as u64);
+    counted.enter(to, weight as u64);
+    sizes.set(counted);
 }
 
 /// Window, probation and protected. What each holds and weighs is kept, not added up.
@@ -225,10 +245,7 @@ impl LinkedAreas {
         };
         self.nodes.unlink(at);
         self.nodes.link_behind(mark, at, note);
-        let mut sizes = self.sizes.get();
-        sizes.leave(from, node.note.weight as u64);
-        sizes.enter(area, held.weight as u64);
-        self.sizes.set(sizes);
+        count_moved(&mut self.sizes, from, node.note.weight, area, held.weight);
     }
 
     /// The last of a list.

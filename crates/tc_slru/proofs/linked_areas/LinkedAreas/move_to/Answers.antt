@@ -5,7 +5,6 @@ use Rattle.tc_ring.specs.Links as ring
 use Rattle.tc_slru.specs.Links.{links_of}
 use Rattle.tc_slru.specs.Slots.{placed, taken_out, without_slot, weigh}
 use Rattle.tc_slru.specs.InAreas.{put_in}
-use Rattle.tc_slru.specs.Sizes.{size_in, sizes_with, sizes_without}
 use Rattle.tc_slru.proofs.Moved.{note_in, taken_on, moved_by, size_least}
 use Rattle.tc_slru.proofs.Notes.{weight_noted, area_noted}
 use Rattle.tc_slru.proofs.Pages.{page_stays, page_goes_on, each_live, shown_live}
@@ -62,22 +61,21 @@ link_behind-requires c =
       ),
     )
 
-pub leave-requires-clause-count : goal.leave-requires-clause-count
-leave-requires-clause-count c =
-    rw c.get-sizes.ensures
-    ((held_by c.self.inside.nodes.live c.self.inside.sizes.live c.args.held.slot.0 c.args.self.now.live c.place-at.result c.node-node.result.note
+pub count_moved-requires-clause-count : goal.count_moved-requires-clause-count
+count_moved-requires-clause-count c =
+    (held_by c.self.inside.nodes.live c.self.inside.sizes.live c.args.held.slot.0 c.args.self.now.live c.place-at.result c.node-node.result.note
     c.unwrap-from.result c.place-at.ensures.node c.node-node.ensures.note (sym c.unwrap-from.ensures) (ap (λ t. t.live) c.self.view_is)
-    c.requires.held c.self.invariant.live).count)
+    c.requires.held c.self.invariant.live).count
 
-pub leave-requires-clause-weight : goal.leave-requires-clause-weight
-leave-requires-clause-weight c =
-    rw (c.get-sizes.ensures, weight_noted c.node-node.result.note c.place-at.result c.self.inside.nodes.live c.node-node.ensures.note, c.place-at.ensures.node)
+pub count_moved-requires-clause-weight : goal.count_moved-requires-clause-weight
+count_moved-requires-clause-weight c =
+    rw (weight_noted c.node-node.result.note c.place-at.result c.self.inside.nodes.live c.node-node.ensures.note, c.place-at.ensures.node)
     ((held_by c.self.inside.nodes.live c.self.inside.sizes.live c.args.held.slot.0 c.args.self.now.live c.place-at.result c.node-node.result.note
     c.unwrap-from.result c.place-at.ensures.node c.node-node.ensures.note (sym c.unwrap-from.ensures) (ap (λ t. t.live) c.self.view_is)
     c.requires.held c.self.invariant.live).weight)
 
-pub enter-requires-clause-count : goal.enter-requires-clause-count
-enter-requires-clause-count c =
+pub count_moved-requires-clause-more : goal.count_moved-requires-clause-more
+count_moved-requires-clause-more c =
     let on = taken_on c.unwrap-from.result c.self.inside.nodes.live c.self.inside.sizes.live c.args.held.slot.0 c.place-at.result
     c.node-node.result.note c.place-at.ensures.node c.node-node.ensures.note (sym c.unwrap-from.ensures)
     (rw (← c.self.view_is) at c.requires.held) c.self.invariant.live in
@@ -87,12 +85,10 @@ enter-requires-clause-count c =
       fits,
       c.place-at.ensures.few,
       length-cut c.self.inside.nodes.live.next c.self.inside.nodes.live.prev c.place-at.result,
-      ap (λ z. (size_in c.args.area z).count) (c.leave.ensures
-          ∙ ap (sizes_without c.unwrap-from.result c.node-node.result.note.weight) c.get-sizes.ensures),
     )
 
-pub enter-requires-clause-weight : goal.enter-requires-clause-weight
-enter-requires-clause-weight c =
+pub count_moved-requires-clause-heavier : goal.count_moved-requires-clause-heavier
+count_moved-requires-clause-heavier c =
     let on = taken_on c.unwrap-from.result c.self.inside.nodes.live c.self.inside.sizes.live c.args.held.slot.0 c.place-at.result
     c.node-node.result.note c.place-at.ensures.node c.node-node.ensures.note (sym c.unwrap-from.ensures)
     (rw (← c.self.view_is) at c.requires.held) c.self.invariant.live in
@@ -103,8 +99,6 @@ enter-requires-clause-weight c =
       c.requires.fits,
       ap (λ v. total weigh v.areas) on.shows,
       ap (λ t. total weigh (without_slot c.args.held.slot.0 t.live.areas)) c.self.view_is,
-      ap (λ z. (size_in c.args.area z).weight) (c.leave.ensures
-          ∙ ap (sizes_without c.unwrap-from.result c.node-node.result.note.weight) c.get-sizes.ensures),
     )
 
 pub invariant_of-self : goal.invariant_of-self
@@ -113,18 +107,16 @@ invariant_of-self c =
     let s = c.self.inside.sizes in
     let held = held_shown (links_of c.self.inside.nodes.live) c.self.inside.sizes.live c.args.held.slot.0 c.args.self.now.live (ap (λ t. t.live) c.self.view_is)
     c.requires.held c.self.invariant.live in
-    each_live r c.link_behind.new.self s c.set.new.self
+    each_live r c.link_behind.new.self s c.count_moved.new.sizes
     (page_goes_on r c.unlink.new.self c.link_behind.new.self (page_stays r c.unlink.new.self _ c.unlink.ensures)
     (page_stays c.unlink.new.self c.link_behind.new.self _ c.link_behind.ensures))
-    (page_stays s c.set.new.self _ c.set.ensures) c.self.invariant
+    (page_stays s c.count_moved.new.sizes _ c.count_moved.ensures) c.self.invariant
     (moved_by c.unwrap-from.result c.args.area r.live s.live c.args.held.slot.0 c.place-at.result c.mark_of-mark.result
-    c.args.held.weight c.node-node.result.note c.link_behind.new.self.live c.set.new.self.live c.place-at.ensures.node
+    c.args.held.weight c.node-node.result.note c.link_behind.new.self.live c.count_moved.new.sizes.live c.place-at.ensures.node
     c.mark_of-mark.ensures c.node-node.ensures.note (sym c.unwrap-from.ensures)
     (ap (λ t. t.live) (c.link_behind.ensures ∙ ap (λ u. live_with (ring.noted c.place-at.result (note_in c.args.area c.args.held.weight)
     (ring.linked_behind c.mark_of-mark.result c.place-at.result u.live)) u) c.unlink.ensures))
-    (ap (λ t. t.live) c.set.ensures ∙ c.enter.ensures
-    ∙ ap (sizes_with c.args.area c.args.held.weight) (c.leave.ensures
-    ∙ ap (sizes_without c.unwrap-from.result c.node-node.result.note.weight) c.get-sizes.ensures))
+    (ap (λ t. t.live) c.count_moved.ensures)
     (omega (arith, held.1.place.own)) (rw (← c.self.view_is) at c.requires.held) c.self.invariant.live).nodes
 
 pub returns : goal.returns
@@ -133,18 +125,16 @@ returns c =
     let s = c.self.inside.sizes in
     let held = held_shown (links_of c.self.inside.nodes.live) c.self.inside.sizes.live c.args.held.slot.0 c.args.self.now.live (ap (λ t. t.live) c.self.view_is)
     c.requires.held c.self.invariant.live in
-    shown_live r c.link_behind.new.self s c.set.new.self _
+    shown_live r c.link_behind.new.self s c.count_moved.new.sizes _
     (page_goes_on r c.unlink.new.self c.link_behind.new.self (page_stays r c.unlink.new.self _ c.unlink.ensures)
     (page_stays c.unlink.new.self c.link_behind.new.self _ c.link_behind.ensures))
-    (page_stays s c.set.new.self _ c.set.ensures)
+    (page_stays s c.count_moved.new.sizes _ c.count_moved.ensures)
     (moved_by c.unwrap-from.result c.args.area r.live s.live c.args.held.slot.0 c.place-at.result c.mark_of-mark.result
-    c.args.held.weight c.node-node.result.note c.link_behind.new.self.live c.set.new.self.live c.place-at.ensures.node
+    c.args.held.weight c.node-node.result.note c.link_behind.new.self.live c.count_moved.new.sizes.live c.place-at.ensures.node
     c.mark_of-mark.ensures c.node-node.ensures.note (sym c.unwrap-from.ensures)
     (ap (λ t. t.live) (c.link_behind.ensures ∙ ap (λ u. live_with (ring.noted c.place-at.result (note_in c.args.area c.args.held.weight)
     (ring.linked_behind c.mark_of-mark.result c.place-at.result u.live)) u) c.unlink.ensures))
-    (ap (λ t. t.live) c.set.ensures ∙ c.enter.ensures
-    ∙ ap (sizes_with c.args.area c.args.held.weight) (c.leave.ensures
-    ∙ ap (sizes_without c.unwrap-from.result c.node-node.result.note.weight) c.get-sizes.ensures))
+    (ap (λ t. t.live) c.count_moved.ensures)
     (omega (arith, held.1.place.own)) (rw (← c.self.view_is) at c.requires.held) c.self.invariant.live).shows
     ∙ ap (λ t. live_with (put_in c.args.area (placed c.args.held.slot.0 c.args.held.weight)
     (taken_out c.args.held.slot.0 t.live)) t) c.self.view_is
