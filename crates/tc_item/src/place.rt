@@ -11,7 +11,6 @@ pub(crate) const IN_PLACE: usize = 22;
 const LANES: usize = 16;
 
 /// Whether the 16 bytes from a place on are the same.
-#[inline(always)]
 fn are_same_lanes(one: &[u8], other: &[u8], at: usize) -> bool
     requires one { at + 16 ≤ length one.now }
     requires other { at + 16 ≤ length other.now }
