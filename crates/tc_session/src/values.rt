@@ -4,7 +4,7 @@
 //! a hit with little data is written in one, and END with the last.
 //! Large data is shared: it stays where it lies, and a piece of a chain says behind which bytes.
 ghost use Rattle.std.specs.Prelude.{◌≡◌, ◌+◌, ◌≤◌, ◌++◌, ◌∷◌, decimal, drop, take, length, vec_len, vec_capacity, OnOk, OnErr};
-ghost use Rattle.std.specs.Prelude.{◌<◌, IfOk, List};
+ghost use Rattle.std.specs.Prelude.{◌<◌, [], IfOk, IfSome, List};
 ghost use Rattle.tc_item.specs.Bounds.{longest_key};
 ghost use Rattle.tc_session.specs.declared.chain.Piece.{Piece};
 ghost use Rattle.tc_session.specs.Replies.{cas_text, value_line, value_text, values_text, stats_text};
@@ -206,6 +206,27 @@ fn append_hit(to: &mut Vec<u8>, form: Form, hit: &Hit, behind: &[u8]) -> Result<
     } else {
         append_long(to, form, hit, bytes, behind)
     }
+}
+
+/// The only hit, where its data is not shared. So it is with most replies, and they need no plan.
+pub(crate) fn only_copied(hits: &[Hit]) -> Option<&Hit>
+    ensures { IfSome result (λ hit. hits.now ≡ hit.now ∷ []) }
+{
+    match hits {
+        [hit] if hit.blob.len() < SHARED => Some(hit),
+        _ => None,
+    }
+}
+
+/// Puts the only hit at the end, and END. A refusal changes nothing.
+#[tactic(auto, unfolding(crate::specs::Replies::values_text))]
+pub(crate) fn append_only(to: &mut Vec<u8>, form: Form, hit: &Hit) -> Result<(), NoMemory>
+    ensures bytes { OnOk result (to.new.items
+        ≡ to.old.items ++ values_text form (hit.now ∷ [])) }
+    ensures unchanged_on_err { OnErr result (to.new.items ≡ to.old.items) }
+    ensures capacity { vec_capacity to.old ≤ vec_capacity to.new }
+{
+    append_hit(to, form, hit, END)
 }
 
 /// What a reply takes.
