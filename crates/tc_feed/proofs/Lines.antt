@@ -253,7 +253,7 @@ needed_more line bytes (NeedsBlock head n) e = go (nat_lt (length bytes) (n + 2)
     go true h f = let lt = ltb-true (length bytes) (n + 2) h in omega (arith, lt)
     go false h f = absurd (grind arith)
 
-lacking_line : (line : ℕ) (bytes : List ℕ) (said : Line) → line + length bytes < needed_of line said
+pub lacking_line : (line : ℕ) (bytes : List ℕ) (said : Line) → line + length bytes < needed_of line said
     → line_request line bytes said ≡ None
 lacking_line line bytes (Ready command) h = absurd (omega arith)
 lacking_line line bytes (RefusedLine fault quiet skip) h = absurd (omega arith)

@@ -1,14 +1,21 @@
 //! The unread bytes of a stream.
-ghost use Rattle.std.specs.Prelude.{◌≡◌, ◌++◌, ◌+◌, ◌≤◌, [], drop, None, OnOk, OnErr, IfOk, IsTrue, option_map, length as list_length};
+ghost use Rattle.std.specs.Prelude.{◌≡◌, ◌++◌, ◌+◌, ◌<◌, ◌≤◌, [], take, drop, None, Some, OnOk, OnErr, IfOk, IsTrue};
+ghost use Rattle.std.specs.Prelude.{option_map, length as list_length};
+ghost use Rattle.tc_grammar.specs.Reading.{reading};
+ghost use Rattle.tc_grammar.specs.declared.line.Line.TheVariants.{NeedsBlock};
 ghost use Rattle.tc_feed.specs.Passing.{passed_of};
 ghost use Rattle.tc_feed.specs.Refusing.{HasLine};
-ghost use Rattle.tc_feed.specs.Stream.{Reader, more, empty, longest_line, first, found, after_first};
+ghost use Rattle.tc_feed.specs.Scanned.{IsScanned, IsAwaited, IsRemembered};
+ghost use Rattle.tc_feed.specs.Stream.{Reader, more, empty, line_length, line_room, longest_line, trimmed, first, found, after_first};
+ghost use Rattle.tc_feed.specs.Stream.{reader_behind};
 
-use crate::Request;
+use crate::line_end::{LONGEST_LINE, trim_line};
 use crate::passing::{Passed, first_passed};
-use crate::reading::{Finding, look};
+use crate::reading::{find_end, read_block};
+use crate::request::{Request, Taken};
 use std::alloc::Global;
 use std::marker::Model;
+use tc_grammar::{Fault, Head, Line, parse_line};
 use tc_item::NoMemory;
 
 /// The most room that is kept once all bytes are read.
@@ -111,23 +118,124 @@ impl Feed {
             return Ok(None);
         }
         let unread = &self.bytes[self.start..];
-        let Finding {
-            taken,
-            scanned,
-            needed,
-        } = look(alloc, limit, unread, self.scanned)?;
-        match taken {
-            None => {
-                self.scanned = scanned;
-                self.limit = limit;
-                self.needed = needed;
-                Ok(None)
+        match find_end(unread, self.scanned) {
+            None => Ok(self.next_without_end(alloc, limit)),
+            Some(end) => self.next_line(alloc, limit, end),
+        }
+    }
+
+    /// What is next where the room of a line holds no line feed.
+    fn next_without_end(&mut self, alloc: Global, limit: u32) -> Option<Request>
+        requires none { line_length (take line_room self.old.unread) ≡ None }
+        ensures found { result ≡ found limit self.old }
+        ensures after { self.new ≡ after_first limit self.old }
+        ensures bounded { result ≡ None
+            → list_length self.new.unread ≤ limit + (longest_line + 2) }
+        ensures no_longer { list_length self.new.unread ≤ list_length self.old.unread }
+    {
+        let unread = self.kept();
+        if unread <= LONGEST_LINE {
+            self.wait(limit, unread, unread + 1);
+            return None;
+        }
+        let fault = Fault::LineTooLong;
+        let request = Request::Refused {
+            fault,
+            quiet: false,
+        };
+        Some(self.take(alloc, Taken::whole(request, LONGEST_LINE + 1)))
+    }
+
+    /// The request of the first line, which ends at a place.
+    fn next_line(
+        &mut self,
+        alloc: Global,
+        limit: u32,
+        end: usize,
+    ) -> Result<Option<Request>, NoMemory>
+        requires end { line_length (take line_room self.old.unread) ≡ Some end }
+        requires within { end < list_length self.old.unread }
+        requires short { end ≤ longest_line }
+        ensures found { IfOk result (λ request. request ≡ found limit self.old) }
+        ensures after { OnOk result (self.new ≡ after_first limit self.old) }
+        ensures bounded { IfOk result (λ request. request ≡ None
+            → list_length self.new.unread ≤ limit + (longest_line + 2)) }
+        ensures no_longer { list_length self.new.unread ≤ list_length self.old.unread }
+        ensures unchanged_on_err { OnErr result (self.new ≡ self.old) }
+    {
+        let unread = &self.bytes[self.start..];
+        match parse_line(alloc, trim_line(&unread[..end]), limit)? {
+            Line::Ready(command) => {
+                let taken = Taken::whole(Request::Ask(command), end + 1);
+                Ok(Some(self.take(alloc, taken)))
             }
-            Some(taken) => {
-                self.pass(alloc, taken.length, taken.skip);
-                Ok(Some(taken.request))
+            Line::Refused { fault, quiet, skip } => {
+                let taken = Taken {
+                    request: Request::Refused { fault, quiet },
+                    length: end + 1,
+                    skip: skip as usize,
+                };
+                Ok(Some(self.take(alloc, taken)))
+            }
+            Line::NeedsBlock(head, length) => {
+                self.next_block(alloc, limit, end, head, length as usize)
             }
         }
+    }
+
+    /// The request of the first line, which ends at a place, and of the block that it needs.
+    fn next_block(
+        &mut self,
+        alloc: Global,
+        limit: u32,
+        end: usize,
+        head: Head,
+        length: usize,
+    ) -> Result<Option<Request>, NoMemory>
+        requires end { line_length (take line_room self.old.unread) ≡ Some end }
+        requires within { end < list_length self.old.unread }
+        requires short { end ≤ longest_line }
+        requires line { reading limit (trimmed (take end self.old.unread)) ≡ NeedsBlock head length }
+        requires few { length ≤ limit }
+        ensures found { IfOk result (λ request. request ≡ found limit self.old) }
+        ensures after { OnOk result (self.new ≡ after_first limit self.old) }
+        ensures bounded { IfOk result (λ request. request ≡ None
+            → list_length self.new.unread ≤ limit + (longest_line + 2)) }
+        ensures no_longer { list_length self.new.unread ≤ list_length self.old.unread }
+        ensures unchanged_on_err { OnErr result (self.new ≡ self.old) }
+    {
+        let needed = end + 1 + (length + 2);
+        if self.kept() < needed {
+            self.wait(limit, end, needed);
+            return Ok(None);
+        }
+        let bytes = &self.bytes[self.start + (end + 1)..];
+        let request = read_block(alloc, head, length, bytes)?;
+        Ok(Some(self.take(alloc, Taken::whole(request, needed))))
+    }
+
+    /// Takes a request out of the unread bytes, with those after it that are skipped.
+    fn take(&mut self, alloc: Global, taken: Taken) -> Request
+        requires { taken.length ≤ list_length self.old.unread }
+        ensures request { result ≡ taken.request }
+        ensures after { self.new ≡ reader_behind self.old.unread taken }
+        ensures no_longer { list_length self.new.unread ≤ list_length self.old.unread }
+    {
+        self.pass(alloc, taken.length, taken.skip);
+        taken.request
+    }
+
+    /// Remembers a look that found no whole request: that so many bytes hold no line feed, and how many
+    /// a request needs.
+    fn wait(&mut self, limit: u32, scanned: usize, needed: usize)
+        requires scanned { IsScanned 0 scanned 0 self.old.unread }
+        requires awaited { IsAwaited limit needed self.old.unread }
+        requires remembered { IsRemembered needed scanned self.old.unread }
+        ensures { self.new ≡ self.old }
+    {
+        self.scanned = scanned;
+        self.limit = limit;
+        self.needed = needed;
     }
 
     /// Passes over the next whole request, where blocks of at most `limit` bytes are taken: it is gone,

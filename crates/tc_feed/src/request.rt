@@ -1,4 +1,5 @@
 //! What stands next in a stream.
+ghost use Rattle.std.specs.Prelude.{◌≡◌};
 
 use tc_grammar::{Command, Fault};
 
@@ -17,4 +18,17 @@ pub(crate) struct Taken {
     pub request: Request,
     pub length: usize,
     pub skip: usize,
+}
+
+impl Taken {
+    /// A request of so many bytes, with none skipped after it.
+    pub fn whole(request: Request, length: usize) -> Taken
+        ensures { result ≡ record { request = request; length = length; skip = 0 } }
+    {
+        Taken {
+            request,
+            length,
+            skip: 0,
+        }
+    }
 }

@@ -1,8 +1,10 @@
 //! `get`, `gets`, `gat` and `gats`.
 ghost use Rattle.std.specs.Prelude.{◌≡◌, IfOk};
+ghost use Rattle.tc_grammar.specs.Lines.{IsAnswered, IsBounded, ready};
 ghost use Rattle.tc_grammar.specs.Retrieval.{keys_of, get_of, gat_of};
 
 use crate::command::{Command, Form};
+use crate::line::{Line, refuse_format};
 use crate::number::read_exptime;
 use crate::tokens::Tokens;
 use std::alloc::Global;
@@ -27,30 +29,34 @@ fn read_keys(alloc: Global, mut tokens: Tokens) -> Result<Option<Keys>, NoMemory
 
 #[tactic(auto, unfolding(crate::specs::Retrieval::get_of))]
 /// `get` and `gets`, from the tokens after the name.
-pub fn read_get(alloc: Global, form: Form, tokens: Tokens) -> Result<Option<Command>, NoMemory>
-    ensures { IfOk result (λ command. command ≡ get_of form tokens.entry) }
+pub fn read_get(alloc: Global, form: Form, tokens: Tokens) -> Result<Line, NoMemory>
+    ensures reading { IfOk result (λ line. line ≡ ready (get_of form tokens.entry)) }
+    ensures bounded { IfOk result (IsBounded 0) }
+    ensures answered { IfOk result IsAnswered }
 {
     let Some(keys) = read_keys(alloc, tokens)? else {
-        return Ok(None)
+        return Ok(refuse_format(0))
     };
-    Ok(Some(Command::Get { form, keys }))
+    Ok(Line::Ready(Command::Get { form, keys }))
 }
 
 #[tactic(auto, unfolding(crate::specs::Retrieval::gat_of))]
 /// `gat` and `gats`, from the tokens after the name.
-pub fn read_gat(alloc: Global, form: Form, mut tokens: Tokens) -> Result<Option<Command>, NoMemory>
-    ensures { IfOk result (λ command. command ≡ gat_of form tokens.entry) }
+pub fn read_gat(alloc: Global, form: Form, mut tokens: Tokens) -> Result<Line, NoMemory>
+    ensures reading { IfOk result (λ line. line ≡ ready (gat_of form tokens.entry)) }
+    ensures bounded { IfOk result (IsBounded 0) }
+    ensures answered { IfOk result IsAnswered }
 {
     let Some(exptime) = tokens.next() else {
-        return Ok(None)
+        return Ok(refuse_format(0))
     };
     let Some(exptime) = read_exptime(exptime) else {
-        return Ok(None)
+        return Ok(refuse_format(0))
     };
     let Some(keys) = read_keys(alloc, tokens)? else {
-        return Ok(None)
+        return Ok(refuse_format(0))
     };
-    Ok(Some(Command::Gat {
+    Ok(Line::Ready(Command::Gat {
         form,
         exptime,
         keys,

@@ -1,5 +1,5 @@
 -- Runs of bytes that pass a test, one by one and sixteen at a time.
-use Rattle.std.proofs.Common.{◌≡◌, ◌≢◌, ◌⊎◌, ℕ, suc, ◌+◌, ◌-◌, ◌%◌, ◌^◌, ◌<◌, ◌≤◌, eqb}
+use Rattle.std.proofs.Common.{◌≡◌, ◌≢◌, ◌⊎◌, ℕ, zero, suc, ◌+◌, ◌-◌, ◌%◌, ◌^◌, ◌<◌, ◌≤◌, eqb}
 use Rattle.std.proofs.Common.{Bool, true, false, not, ◌&&◌, cond, List, [], ◌∷◌}
 use Rattle.std.proofs.Common.{map, length, get_or, take, drop, Fits, w8, w64, refl, sym, ap, ap₂, ◌∙◌, subst, arith, inl, inr}
 use Rattle.std.proofs.lemmas.Bool.{agree_below, agree_below_at, cases_eq, cases_lt, eq-eqb, ne_eqb, cond-true, cond-false}
@@ -90,6 +90,28 @@ through_all q (x ∷ xs) = go (q x) (cases_eq (prefix_len q xs) (length xs)) (th
     go true (inl same) h = eq-eqb _ _ (omega arith) ∙ (sym (eq-eqb _ _ same) ∙ h)
     go true (inr other) h = ne_eqb _ _ (λ e. other (omega arith)) ∙ (sym (ne_eqb _ _ other) ∙ h)
     go false cases h = ne_eqb 0 (suc (length xs)) (λ e. omega arith)
+
+-- a run through n elements goes through fewer
+pub run_shorter : (q : ℕ → Bool) (xs : List ℕ) (m n : ℕ) → m ≤ n → n ≤ length xs → prefix_len q (take n xs) ≡ n
+    → prefix_len q (take m xs) ≡ m
+run_shorter q xs zero n le room all = refl
+run_shorter q xs (suc m) zero le room all = absurd (omega arith)
+run_shorter q [] (suc m) (suc n) le room all = absurd (omega arith)
+run_shorter q (x ∷ xs) (suc m) (suc n) le room all = go (q x) (run_shorter q xs m n (omega arith) (omega arith)) all
+  where
+    go : (b : Bool) → (prefix_len q (take n xs) ≡ n → prefix_len q (take m xs) ≡ m)
+        → cond b (1 + prefix_len q (take n xs)) 0 ≡ suc n → cond b (1 + prefix_len q (take m xs)) 0 ≡ suc m
+    go true h e = omega (arith, h (omega arith))
+    go false h e = absurd (omega arith)
+
+-- the last elements decide where a run ends, where those before some of them are known to pass
+pub run_behind : (q : ℕ → Bool) (xs : List ℕ) (at n : ℕ) → at ≤ n → n ≤ length xs → prefix_len q (take n xs) ≡ n
+    → at + prefix_len q (drop at xs) ≡ prefix_len q xs
+run_behind q xs at n le room all =
+    let past = run_past q xs 0 at (omega arith) (run_shorter q xs at n le room all) in
+    let same : 0 + at ≡ at = omega arith in
+    let behind = ap (λ k. prefix_len q (drop k xs)) same in
+    omega (arith, past, behind)
 
 -- the elements of a run through n elements pass
 pub run_passes : (q : ℕ → Bool) (d : List ℕ) (at n : ℕ) → at + n ≤ length d → prefix_len q (take n (drop at d)) ≡ n

@@ -1,5 +1,6 @@
 //! Keys: 1 to 250 bytes, any but 0 to 32 and 127.
-ghost use Rattle.std.specs.Prelude.{◌≡◌, ◌<◌, ◌≤◌, ◌∷◌, [], length, IfOk, IfSome, IsNone, IsOkUnless, IsTrue, Err};
+ghost use Rattle.std.specs.Prelude.{◌≡◌, ◌<◌, ◌≤◌, ◌∷◌, [], length, take, IfOk, IfSome, IsNone, IsOkUnless};
+ghost use Rattle.std.specs.Prelude.{IsTrue, Err};
 ghost use Rattle.std.specs.List.{list_all};
 ghost use Rattle.std.specs.Str.{bytes_eq};
 ghost use Rattle.std.specs.Cmp.Rules.{comparing, hashing};
@@ -8,9 +9,11 @@ ghost use Rattle.tc_item.specs.Bounds.{longest_key};
 ghost use Rattle.tc_item.specs.KeyRule.{is_key, is_key_byte};
 ghost use Rattle.tc_item.specs.KeyBytes.{bytes_held, IsInPlace};
 ghost use Rattle.tc_item.specs.KeyFaults.{key_fault};
+ghost use Rattle.tc_item.specs.declared.key.KeyBytes.TheVariants.{Short};
 ghost use Rattle.tc_item.specs.declared.key.KeyFault.TheVariants.{NoMemory as OutOfMemory};
 
 use crate::key_bytes::are_key_bytes;
+use crate::place::{IN_PLACE, are_same_bytes};
 use crate::{Blob, Few, LONGEST_KEY, NoMemory, TryCopy};
 use std::alloc::Global;
 use std::error::Error;
@@ -49,9 +52,6 @@ impl From<NoMemory> for KeyFault {
     }
 }
 
-/// The most bytes of a key that are kept in place.
-const IN_PLACE: usize = 22;
-
 /// What an item is stored under. Up to 22 bytes are kept in place, and copied all at once; more are
 /// shared by all copies.
 #[derive(Drop)]
@@ -86,6 +86,21 @@ pub fn is_key(bytes: &[u8]) -> bool
     !bytes.is_empty() && bytes.len() <= LONGEST_KEY && are_key_bytes(bytes)
 }
 
+/// Whether two places have the same bytes, each so many. They are compared whole, since behind its bytes
+/// each is 0.
+fn are_same_places(
+    one: &[u8; IN_PLACE],
+    one_length: u8,
+    other: &[u8; IN_PLACE],
+    other_length: u8,
+) -> bool
+    requires one { IsInPlace (Short one.now one_length) }
+    requires other { IsInPlace (Short other.now other_length) }
+    ensures { result ≡ bytes_eq (take one_length one.now) (take other_length other.now) }
+{
+    one_length == other_length && are_same_bytes(one, other)
+}
+
 impl KeyBytes {
     /// These bytes, in place.
     fn short(bytes: &[u8]) -> KeyBytes
@@ -96,6 +111,31 @@ impl KeyBytes {
         let mut place = [0; IN_PLACE];
         place[..bytes.len()].copy_from_slice(bytes);
         KeyBytes::Short(place, bytes.len() as u8)
+    }
+
+    /// The bytes.
+    fn as_slice(&self) -> &[u8]
+        requires { IsInPlace self.now }
+        ensures { result.now ≡ bytes_held self.now }
+    {
+        match self {
+            KeyBytes::Short(place, length) => &place[..usize::from(*length)],
+            KeyBytes::Long(bytes) => bytes.as_slice(),
+        }
+    }
+
+    /// Whether these are the same bytes.
+    fn is_same(&self, other: &KeyBytes) -> bool
+        requires one { IsInPlace self.now }
+        requires other { IsInPlace other.now }
+        ensures { result ≡ bytes_eq (bytes_held self.now) (bytes_held other.now) }
+    {
+        match (self, other) {
+            (KeyBytes::Short(place, length), KeyBytes::Short(other_place, other_length)) => {
+                are_same_places(place, *length, other_place, *other_length)
+            }
+            _ => self.as_slice() == other.as_slice(),
+        }
     }
 }
 
@@ -138,10 +178,7 @@ impl Key {
         ensures not_empty { 0 < length self.now }
         ensures short { length self.now ≤ longest_key }
     {
-        match &self.bytes {
-            KeyBytes::Short(place, length) => &place[..usize::from(*length)],
-            KeyBytes::Long(bytes) => bytes.as_slice(),
-        }
+        self.bytes.as_slice()
     }
 
     /// An equal key.
@@ -171,7 +208,7 @@ impl PartialEq for Key {
     ghost laws = { Prim.search (comparing, rules) };
 
     fn eq(&self, other: &Key) -> bool {
-        self.as_bytes() == other.as_bytes()
+        self.bytes.is_same(&other.bytes)
     }
 }
 

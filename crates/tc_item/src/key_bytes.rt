@@ -1,5 +1,5 @@
 //! Which bytes may stand in a key: any but 0 to 32 and 127. Source: memcached's doc/protocol.txt, 'Keys'.
-ghost use Rattle.std.specs.Prelude.{◌≡◌, ◌==◌, if◌then◌else◌, ◌+◌, ◌≤◌, length, take, drop};
+ghost use Rattle.std.specs.Prelude.{◌≡◌, ◌==◌, if◌then◌else◌, ◌+◌, ◌<◌, ◌≤◌, length, take, drop};
 ghost use Rattle.std.specs.List.{list_all, prefix_len};
 ghost use Rattle.std.specs.Int.{w64, trailing_zeros};
 ghost use Rattle.tc_item.specs.KeyRule.{is_key_byte};
@@ -67,6 +67,23 @@ fn run_of_few(bytes: &[u8]) -> usize
     bytes.len()
 }
 
+/// The same of fewer than 16 bytes. Of 8 or more the last 8 may overlap the first.
+fn run_in_tail(bytes: &[u8]) -> usize
+    requires { length bytes.now < 16 }
+    ensures value { result ≡ prefix_len is_key_byte bytes.now }
+    ensures within { result ≤ length bytes.now }
+{
+    if bytes.len() < HALF_LANES {
+        return run_of_few(bytes);
+    }
+    let run = run_in_half(bytes, 0);
+    if run < HALF_LANES {
+        return run;
+    }
+    let last = bytes.len() - HALF_LANES;
+    last + run_in_half(bytes, last)
+}
+
 /// How many bytes stand before the first that may not stand in a key.
 pub fn key_run(bytes: &[u8]) -> usize
     ensures value { result ≡ prefix_len is_key_byte bytes.now }
@@ -80,7 +97,7 @@ pub fn key_run(bytes: &[u8]) -> usize
             return at;
         }
     }
-    at + run_of_few(&bytes[at..])
+    at + run_in_tail(&bytes[at..])
 }
 
 /// Whether all bytes may stand in a key, where there are 8 to 16. The last 8 may overlap the first.

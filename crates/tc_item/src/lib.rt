@@ -19,6 +19,7 @@ mod key;
 mod key_bytes;
 pub mod moment;
 mod no_memory;
+mod place;
 mod slot;
 
 pub use blob::Blob;

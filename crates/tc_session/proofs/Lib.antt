@@ -1,4 +1,3 @@
-mod LineEnds
 mod Logins
 pub mod Served
 mod Waiting

@@ -5,7 +5,9 @@ ghost use Rattle.tc_session.specs.Replies.{values_text, stats_text};
 
 use crate::chain::Chain;
 use crate::parts::Parts;
-use crate::values::{Plan, append_number, append_stats, append_values, splice_values};
+use crate::values::{
+    Plan, append_number, append_only, append_stats, append_values, only_copied, splice_values,
+};
 use std::alloc::Global;
 use std::marker::Model;
 use tc_grammar::Form;
@@ -127,6 +129,9 @@ impl Output {
         ensures unchanged_on_err { OnErr result (self.new.bytes ≡ self.old.bytes) }
         ensures room_on_err { OnErr result (self.old.room ≤ self.new.room) }
     {
+        if let Some(hit) = only_copied(hits) {
+            return append_only(&mut self.own, form, hit);
+        }
         let plan = Plan::of(hits);
         if plan.pieces == 0 {
             append_values(&mut self.own, plan.own, form, hits)?;

@@ -404,10 +404,10 @@ impl Session {
         ensures reader { self.new.endpoint.reader ≡ self.old.endpoint.reader }
         ensures room { reply_room ≤ self.new.room }
     {
-        match command {
-            Command::Quit => self.close(),
-            command => Want::Call(user, command),
+        if matches!(command, Command::Quit) {
+            return self.close();
         }
+        Want::Call(user, command)
     }
 
     /// Says a fault, unless it is quiet; after a line that is too long the connection is closed.

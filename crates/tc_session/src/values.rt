@@ -1,11 +1,12 @@
 //! VALUE lines with their data, and rows of counters, behind bytes that wait.
 //!
-//! Text and small data are appended to one vector, so that each costs a look at its room and a copy.
+//! Text and small data are appended to one vector. That costs a look at its room and a copy each time, so
+//! a hit with little data is written in one, and END with the last.
 //! Large data is shared: it stays where it lies, and a piece of a chain says behind which bytes.
 ghost use Rattle.std.specs.Prelude.{◌≡◌, ◌+◌, ◌≤◌, ◌++◌, ◌∷◌, decimal, drop, take, length, vec_len, vec_capacity, OnOk, OnErr};
-ghost use Rattle.std.specs.Prelude.{◌<◌, IfOk, List};
+ghost use Rattle.std.specs.Prelude.{◌<◌, [], IfOk, IfSome, List};
+ghost use Rattle.tc_item.specs.Bounds.{longest_key};
 ghost use Rattle.tc_session.specs.declared.chain.Piece.{Piece};
-ghost use Rattle.tc_session.specs.Texts.{line_end};
 ghost use Rattle.tc_session.specs.Replies.{cas_text, value_line, value_text, values_text, stats_text};
 ghost use Rattle.tc_session.specs.Unsent.{Says, joined, reach};
 
@@ -28,12 +29,8 @@ const SHARED_IN_LARGE: usize = 256;
 /// The most own bytes of a hit beside its key and its data: those of its VALUE line and a line end.
 const BESIDE: usize = 73;
 
-/// The most bytes of a VALUE line behind its key: three numbers of 20 digits, a space before each, and
-/// a line end.
-const LINE_ROOM: usize = 65;
-
-/// Where that line end begins.
-const LINE_END: usize = 63;
+/// What stands behind a VALUE line, and behind the data.
+const LINE_END: &[u8] = b"\r\n";
 
 /// What stands behind the last hit.
 const END: &[u8] = b"END\r\n";
@@ -50,7 +47,40 @@ pub(crate) fn append_number(to: &mut Vec<u8>, number: u64)
     let _ = to.extend_from_slice(text.as_bytes());
 }
 
-/// Puts a space and a number before the end of a text that is written from its end on. Where they begin.
+/// The most bytes of a key and of data that are written in one with what stands beside them.
+const MOST_COMPOSED: usize = 256;
+
+/// Room for a hit with so many bytes, and for END behind it.
+const TEXT_ROOM: usize = MOST_COMPOSED + BESIDE + END.len();
+
+/// Puts bytes before the end of a text that is written from its end on. Where they begin.
+fn put_bytes(text: &mut [u8], end: usize, bytes: &[u8]) -> usize
+    requires room { length bytes.now ≤ end }
+    requires within { end ≤ length text.old }
+    ensures written { drop result text.new ≡ bytes.now ++ drop end text.old }
+    ensures start { result + length bytes.now ≡ end }
+{
+    let start = end - bytes.len();
+    text[start..end].copy_from_slice(bytes);
+    start
+}
+
+/// Puts a number before the end of a text. Where it begins. Flags are mostly 0, so a digit is quick.
+fn put_digits(text: &mut [u8], end: usize, number: u64) -> usize
+    requires room { 20 ≤ end }
+    requires within { end ≤ length text.old }
+    ensures written { drop result text.new ≡ decimal number ++ drop end text.old }
+    ensures near { end ≤ result + 20 }
+    ensures before { result ≤ end }
+{
+    if number < 10 {
+        text[end - 1] = b'0' + number as u8;
+        return end - 1;
+    }
+    write_digits(number, text, end)
+}
+
+/// Puts a space and a number before the end of a text. Where they begin.
 fn put_number(text: &mut [u8], end: usize, number: u64) -> usize
     requires room { 21 ≤ end }
     requires within { end ≤ length text.old }
@@ -58,67 +88,145 @@ fn put_number(text: &mut [u8], end: usize, number: u64) -> usize
     ensures near { end ≤ result + 21 }
     ensures before { result ≤ end }
 {
-    let digits = write_digits(number, text, end);
+    let digits = put_digits(text, end, number);
     text[digits - 1] = b' ';
     digits - 1
 }
 
-/// Puts the cas number of a VALUE line before its end, where it is asked for. Where it begins.
-fn put_cas(text: &mut [u8; LINE_ROOM], form: Form, cas: u64) -> usize
-    ensures written { drop result text.new ≡ cas_text form cas ++ drop 63 text.old }
-    ensures near { 42 ≤ result }
-    ensures before { result ≤ 63 }
+/// Puts the cas number of a VALUE line before the end of a text, where it is asked for. Where it begins.
+fn put_cas(text: &mut [u8], end: usize, form: Form, cas: u64) -> usize
+    requires room { 21 ≤ end }
+    requires within { end ≤ length text.old }
+    ensures written { drop result text.new ≡ cas_text form cas ++ drop end text.old }
+    ensures near { end ≤ result + 21 }
+    ensures before { result ≤ end }
 {
     match form {
-        Form::Bare => LINE_END,
-        Form::WithCas => put_number(text, LINE_END, cas),
+        Form::Bare => end,
+        Form::WithCas => put_number(text, end, cas),
     }
 }
 
-/// Puts what a VALUE line has behind its key before the end of a text. Where it begins.
-fn put_numbers(text: &mut [u8; LINE_ROOM], form: Form, hit: &Hit) -> usize
-    ensures written { drop result text.new
-        ≡ 32 ∷ (decimal hit.now.flags ++ (32 ∷ (decimal (length hit.now.blob)
-        ++ (cas_text form hit.now.cas ++ line_end)))) }
-    ensures within { result ≤ 63 }
+/// Puts the VALUE line of a hit with so many bytes of data before the end of a text. Where it begins.
+#[tactic(auto, unfolding(crate::specs::Replies::value_line))]
+fn put_value_line(text: &mut [u8], end: usize, form: Form, hit: &Hit, size: usize) -> usize
+    requires size { size ≡ length hit.now.blob }
+    requires room { length hit.now.key + 71 ≤ end }
+    requires within { end ≤ length text.old }
+    ensures written { drop result text.new ≡ value_line form hit.now ++ drop end text.old }
+    ensures near { end ≤ result + (length hit.now.key + 71) }
+    ensures before { result ≤ end }
 {
-    text[LINE_END] = b'\r';
-    text[LINE_END + 1] = b'\n';
-    let end = put_cas(text, form, hit.cas);
-    let end = put_number(text, end, hit.blob.as_slice().len() as u64);
-    put_number(text, end, u64::from(hit.flags))
+    let end = put_bytes(text, end, LINE_END);
+    let end = put_cas(text, end, form, hit.cas);
+    let end = put_number(text, end, size as u64);
+    let end = put_number(text, end, u64::from(hit.flags));
+    let end = put_bytes(text, end, hit.key.as_bytes());
+    put_bytes(text, end, b"VALUE ")
 }
 
-/// Puts a VALUE line at the end of bytes that have room for it. What stands behind the key is short,
-/// and written in one.
-#[tactic(auto, unfolding(crate::specs::Replies::value_line))]
-pub(crate) fn append_value_line(to: &mut Vec<u8>, form: Form, hit: &Hit)
-    requires { vec_len to.old + (length hit.now.key + 71) ≤ vec_capacity to.old }
+/// Puts the VALUE line of a hit with so many bytes of data at the end of bytes that have room for it. It is
+/// written in one.
+fn append_value_line(to: &mut Vec<u8>, form: Form, hit: &Hit, size: usize)
+    requires size { size ≡ length hit.now.blob }
+    requires room { vec_len to.old + (length hit.now.key + 71) ≤ vec_capacity to.old }
+    requires short { length hit.now.key ≤ longest_key }
     ensures bytes { to.new.items ≡ to.old.items ++ value_line form hit.now }
     ensures longer { vec_len to.new ≤ vec_len to.old + (length hit.now.key + 71) }
     ensures capacity { vec_capacity to.old ≤ vec_capacity to.new }
 {
-    let mut text = [0; LINE_ROOM];
-    let start = put_numbers(&mut text, form, hit);
-    let _ = to.extend_from_slice(b"VALUE ");
-    let _ = to.extend_from_slice(hit.key.as_bytes());
+    let mut text = [0; TEXT_ROOM];
+    let start = put_value_line(&mut text, TEXT_ROOM, form, hit, size);
     let _ = to.extend_from_slice(&text[start..]);
 }
 
-/// Puts a hit at the end: its VALUE line, its data and a line end.
+/// Puts a hit with these bytes of data at the end, and what stands behind it: all of it is written in one.
 #[tactic(auto, unfolding(crate::specs::Replies::value_text))]
-fn append_hit(to: &mut Vec<u8>, form: Form, hit: &Hit) -> Result<(), NoMemory>
-    ensures bytes { OnOk result (to.new.items ≡ to.old.items ++ value_text form hit.now) }
+fn append_composed(
+    to: &mut Vec<u8>,
+    form: Form,
+    hit: &Hit,
+    bytes: &[u8],
+    behind: &[u8],
+) -> Result<(), NoMemory>
+    requires same { bytes.now ≡ hit.now.blob }
+    requires few { length hit.now.key + length hit.now.blob ≤ 256 }
+    requires behind { length behind.now ≤ 5 }
+    ensures bytes { OnOk result (to.new.items
+        ≡ to.old.items ++ (value_text form hit.now ++ behind.now)) }
+    ensures unchanged_on_err { OnErr result (to.new.items ≡ to.old.items) }
+    ensures capacity { vec_capacity to.old ≤ vec_capacity to.new }
+{
+    let mut text = [0; TEXT_ROOM];
+    let end = put_bytes(&mut text, TEXT_ROOM, behind);
+    let end = put_bytes(&mut text, end, LINE_END);
+    let end = put_bytes(&mut text, end, bytes);
+    let start = put_value_line(&mut text, end, form, hit, bytes.len());
+    to.extend_from_slice(&text[start..])?;
+    Ok(())
+}
+
+/// Puts a hit with these bytes of data at the end, and what stands behind it: one after the other.
+#[tactic(auto, unfolding(crate::specs::Replies::value_text))]
+fn append_long(
+    to: &mut Vec<u8>,
+    form: Form,
+    hit: &Hit,
+    bytes: &[u8],
+    behind: &[u8],
+) -> Result<(), NoMemory>
+    requires same { bytes.now ≡ hit.now.blob }
+    requires behind { length behind.now ≤ 5 }
+    ensures bytes { OnOk result (to.new.items
+        ≡ to.old.items ++ (value_text form hit.now ++ behind.now)) }
     ensures unchanged_on_err { OnErr result (to.new.items ≡ to.old.items) }
     ensures capacity { vec_capacity to.old ≤ vec_capacity to.new }
 {
     let key = hit.key.as_bytes().len();
-    let data = hit.blob.as_slice();
-    to.reserve(key + data.len() + 73)?;
-    append_value_line(to, form, hit);
-    let _ = to.extend_from_slice(data);
-    let _ = to.extend_from_slice(b"\r\n");
+    to.reserve(key + bytes.len() + (BESIDE + END.len()))?;
+    append_value_line(to, form, hit, bytes.len());
+    let _ = to.extend_from_slice(bytes);
+    let _ = to.extend_from_slice(LINE_END);
+    let _ = to.extend_from_slice(behind);
     Ok(())
+}
+
+/// Puts a hit at the end, and what stands behind it.
+fn append_hit(to: &mut Vec<u8>, form: Form, hit: &Hit, behind: &[u8]) -> Result<(), NoMemory>
+    requires behind { length behind.now ≤ 5 }
+    ensures bytes { OnOk result (to.new.items
+        ≡ to.old.items ++ (value_text form hit.now ++ behind.now)) }
+    ensures unchanged_on_err { OnErr result (to.new.items ≡ to.old.items) }
+    ensures capacity { vec_capacity to.old ≤ vec_capacity to.new }
+{
+    let key = hit.key.as_bytes();
+    let bytes = hit.blob.as_slice();
+    if key.len() + bytes.len() <= MOST_COMPOSED {
+        append_composed(to, form, hit, bytes, behind)
+    } else {
+        append_long(to, form, hit, bytes, behind)
+    }
+}
+
+/// The only hit, where its data is not shared. So it is with most replies, and they need no plan.
+pub(crate) fn only_copied(hits: &[Hit]) -> Option<&Hit>
+    ensures { IfSome result (λ hit. hits.now ≡ hit.now ∷ []) }
+{
+    match hits {
+        [hit] if hit.blob.len() < SHARED => Some(hit),
+        _ => None,
+    }
+}
+
+/// Puts the only hit at the end, and END. A refusal changes nothing.
+#[tactic(auto, unfolding(crate::specs::Replies::values_text))]
+pub(crate) fn append_only(to: &mut Vec<u8>, form: Form, hit: &Hit) -> Result<(), NoMemory>
+    ensures bytes { OnOk result (to.new.items
+        ≡ to.old.items ++ values_text form (hit.now ∷ [])) }
+    ensures unchanged_on_err { OnErr result (to.new.items ≡ to.old.items) }
+    ensures capacity { vec_capacity to.old ≤ vec_capacity to.new }
+{
+    append_hit(to, form, hit, END)
 }
 
 /// What a reply takes.
@@ -171,11 +279,14 @@ fn append_hits(to: &mut Vec<u8>, form: Form, hits: &[Hit]) -> Result<(), NoMemor
     ensures front_on_err { OnErr result (take (length to.old.items) to.new.items ≡ to.old.items) }
     ensures capacity { vec_capacity to.old ≤ vec_capacity to.new }
 {
-    for hit in hits {
-        append_hit(to, form, hit)?;
+    let Some((last, before)) = hits.split_last() else {
+        to.extend_from_slice(END)?;
+        return Ok(());
+    };
+    for hit in before {
+        append_hit(to, form, hit, b"")?;
     }
-    to.extend_from_slice(END)?;
-    Ok(())
+    append_hit(to, form, last, END)
 }
 
 /// Takes off what was put behind so many bytes, and gives back what room was made for it.
@@ -226,9 +337,9 @@ fn append_shared(
 {
     let data = hit.blob.copy()?;
     to.reserve(hit.key.as_bytes().len() + BESIDE)?;
-    append_value_line(to, form, hit);
+    append_value_line(to, form, hit, hit.blob.len());
     chain.push(to.len() - from - chain.reach(), data)?;
-    to.extend_from_slice(b"\r\n")?;
+    to.extend_from_slice(LINE_END)?;
     Ok(())
 }
 
@@ -252,7 +363,7 @@ fn append_piece(
     if hit.blob.len() >= least {
         return append_shared(to, chain, from, form, hit);
     }
-    append_hit(to, form, hit)?;
+    append_hit(to, form, hit, b"")?;
     Ok(())
 }
 
@@ -342,7 +453,7 @@ pub(crate) fn append_stats(to: &mut Vec<u8>, counters: &Counters) -> Result<(), 
 {
     let mark = to.len();
     counters.render(to)?;
-    if to.extend_from_slice(b"END\r\n").is_err() {
+    if to.extend_from_slice(END).is_err() {
         to.truncate(mark);
         return Err(NoMemory);
     }
