@@ -236,13 +236,13 @@ impl LiveSlots {
         self.held.access_at(slot);
     }
 
-    /// Reads what a look-up that was noted will change: its counters, and its node in the lists. What that
+    /// Reads what a look-up that was noted will change: its counters, and its links in the lists. What that
     /// comes to says nothing.
     pub(crate) fn read_noted(&self, noted: Noted) -> u64 {
         match noted {
             Noted::Hit(slot, hash) => {
-                let node = u64::from(self.held.has_node(slot));
-                node.wrapping_add(u64::from(self.sketch.freq(hash)))
+                let links = self.held.read_links(slot);
+                links.wrapping_add(u64::from(self.sketch.freq(hash)))
             }
             Noted::Miss(hash) => u64::from(self.sketch.freq(hash)),
         }

@@ -249,9 +249,9 @@ impl Slots {
         }
     }
 
-    /// Whether a slot is in the lists.
-    pub fn has_node(&self, slot: Slot) -> bool {
-        self.lists.holds(slot)
+    /// Reads what an access of a slot changes of the lists. What that comes to says nothing.
+    pub fn read_links(&self, slot: Slot) -> u64 {
+        self.lists.read(slot)
     }
 
     /// The key of what a slot holds; no bytes where it holds nothing.

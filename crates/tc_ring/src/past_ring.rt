@@ -132,6 +132,28 @@ impl<N: Copy, const MARKS: usize> PastRing<N, MARKS> {
         self.nodes.get(at)
     }
 
+    /// Where a node leads; nowhere, where there is no such node.
+    fn link_at(&self, at: u32) -> u64 {
+        let at = at as usize;
+        if at < self.nodes.len() {
+            u64::from(self.nodes.get(at).next)
+        } else {
+            0
+        }
+    }
+
+    /// Reads the node of a slot, with those that it is linked to, which a move of the slot writes. What that
+    /// comes to says nothing.
+    pub fn read(&self, slot: Slot) -> u64 {
+        let at = slot.0.saturating_add(MARKS);
+        if at >= self.nodes.len() {
+            return 0;
+        }
+        let node = self.nodes.get(at);
+        self.link_at(node.prev)
+            .wrapping_add(self.link_at(node.next))
+    }
+
     /// Takes a node out of the ring.
     #[inline(always)]
     pub fn unlink(&mut self, at: usize)

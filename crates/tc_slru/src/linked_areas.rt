@@ -158,6 +158,11 @@ impl LinkedAreas {
         self.nodes.slots()
     }
 
+    /// Reads what a move of a slot writes. What that comes to says nothing.
+    pub fn read(&self, slot: Slot) -> u64 {
+        self.nodes.read(slot)
+    }
+
     /// Whether the slot stands in a list.
     pub fn holds(&self, slot: Slot) -> bool
         ensures { result ≡ holds slot.0 self.now.live.areas }

@@ -113,6 +113,12 @@ impl Lists {
         self.limits.main
     }
 
+    /// Reads what an access of a slot writes, so that several wait for memory together. What that comes to
+    /// says nothing.
+    pub fn read(&self, slot: Slot) -> u64 {
+        self.areas.read(slot)
+    }
+
     /// Whether the slot stands in one of the lists.
     pub fn holds(&self, slot: Slot) -> bool
         ensures { result ≡ holds slot.0 self.now.live.areas }
