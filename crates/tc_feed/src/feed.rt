@@ -6,8 +6,8 @@ ghost use Rattle.tc_grammar.specs.declared.line.Line.TheVariants.{NeedsBlock};
 ghost use Rattle.tc_feed.specs.Passing.{passed_of};
 ghost use Rattle.tc_feed.specs.Refusing.{HasLine};
 ghost use Rattle.tc_feed.specs.Scanned.{IsScanned, IsAwaited, IsRemembered};
-ghost use Rattle.tc_feed.specs.Stream.{Reader, more, empty, line_length, line_room, longest_line, trimmed, first, found, after_first};
-ghost use Rattle.tc_feed.specs.Stream.{reader_behind};
+ghost use Rattle.tc_feed.specs.Stream.{Reader, more, empty, line_length, line_room, longest_line, trimmed};
+ghost use Rattle.tc_feed.specs.Stream.{first, found, after_first, reader_behind};
 
 use crate::line_end::{LONGEST_LINE, trim_line};
 use crate::passing::{Passed, first_passed};
@@ -195,7 +195,8 @@ impl Feed {
         requires end { line_length (take line_room self.old.unread) ≡ Some end }
         requires within { end < list_length self.old.unread }
         requires short { end ≤ longest_line }
-        requires line { reading limit (trimmed (take end self.old.unread)) ≡ NeedsBlock head length }
+        requires line { reading limit (trimmed (take end self.old.unread))
+            ≡ NeedsBlock head length }
         requires few { length ≤ limit }
         ensures found { IfOk result (λ request. request ≡ found limit self.old) }
         ensures after { OnOk result (self.new ≡ after_first limit self.old) }
