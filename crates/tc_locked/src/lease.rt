@@ -7,8 +7,8 @@ use std::sync::{Mutex, MutexGuard, Wait};
 use tc_grammar::Command;
 use tc_plain::{Cache, LeftOver};
 
-/// Once commands of this cost were done under a lock that is kept, it is given back: a tenth of a
-/// millisecond at most, after which others who wait for it have their turn.
+/// Once commands of this cost were done under a lock that is kept, it is given back, after some
+/// tenth of a millisecond, or later where one command is long: others who wait have their turn.
 const MOST: usize = 128;
 
 /// What a command costs, by its keys.
