@@ -40,7 +40,8 @@ P99, LONGEST = 25, 150           # the bar of a quiet tenant's gets, ms
 NEW_P99 = 250                    # the same of a new connection with its login and a get
 GROWTH = 64                      # MiB that a tenant may take beside its budget
 # what is no matter of time
-QUICK = ("tables_mostly_empty", "reply_memory", "reply_unlimited", "reply_refused_room", "all_connections_of_a_stranger", "endings")
+QUICK = ("tables_mostly_empty", "reply_memory", "reply_unlimited", "reply_refused_room",
+         "all_connections_of_a_stranger", "endings")
 FIELD = re.compile(r"^(?!listen)(\w+ = .*)$", re.M)
 
 
