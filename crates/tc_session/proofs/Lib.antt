@@ -2,3 +2,4 @@ mod Logins
 pub mod Served
 mod Waiting
 pub mod Declining
+mod Texts

@@ -12,8 +12,10 @@ mod declined;
 mod news;
 mod output;
 mod parts;
+mod pieces;
 mod reply;
 mod session;
+mod text;
 mod values;
 mod want;
 

@@ -5,9 +5,8 @@ ghost use Rattle.tc_session.specs.Replies.{values_text, stats_text};
 
 use crate::chain::Chain;
 use crate::parts::Parts;
-use crate::values::{
-    Plan, append_number, append_only, append_stats, append_values, only_copied, splice_values,
-};
+use crate::pieces::splice_values;
+use crate::values::{append_composed, append_number, append_stats, room_to_compose};
 use std::alloc::Global;
 use std::marker::Model;
 use tc_grammar::Form;
@@ -129,16 +128,11 @@ impl Output {
         ensures unchanged_on_err { OnErr result (self.new.bytes ≡ self.old.bytes) }
         ensures room_on_err { OnErr result (self.old.room ≤ self.new.room) }
     {
-        if let Some(hit) = only_copied(hits) {
-            return append_only(&mut self.own, form, hit);
-        }
-        let plan = Plan::of(hits);
-        if plan.pieces == 0 {
-            append_values(&mut self.own, plan.own, form, hits)?;
-            return Ok(());
+        if let Some(room) = room_to_compose(hits) {
+            return append_composed(&mut self.own, room, form, hits);
         }
         let from = self.start + self.chain.reach();
-        splice_values(&mut self.own, &mut self.chain, from, &plan, form, hits)?;
+        splice_values(&mut self.own, &mut self.chain, from, form, hits)?;
         Ok(())
     }
 

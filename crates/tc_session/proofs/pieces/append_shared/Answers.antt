@@ -5,7 +5,7 @@ use Rattle.tc_session.specs.Texts.{line_end}
 use Rattle.tc_session.specs.declared.chain.Piece.{Piece}
 use Rattle.tc_session.specs.Unsent.{joined, reach}
 use Rattle.tc_session.proofs.Waiting.{shared_hit, reach-append}
-use Rattle.tc_session.proofs.values.append_shared.Goals as goal
+use Rattle.tc_session.proofs.pieces.append_shared.Goals as goal
 
 pub returns-clause-bytes : goal.returns-clause-bytes
 unfolding value_text

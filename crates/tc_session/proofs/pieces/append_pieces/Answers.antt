@@ -3,7 +3,7 @@ use Rattle.std.proofs.lemmas.List.{take_all}
 use Rattle.tc_session.specs.Unsent.{reach}
 use Rattle.tc_session.specs.Replies.{values_text}
 use Rattle.tc_session.proofs.Waiting.{appended}
-use Rattle.tc_session.proofs.values.append_pieces.Goals as goal
+use Rattle.tc_session.proofs.pieces.append_pieces.Goals as goal
 
 pub returns-clause-says : goal.returns-clause-says
 unfolding values_text

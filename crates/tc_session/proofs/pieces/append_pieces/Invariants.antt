@@ -2,7 +2,7 @@ use Rattle.std.specs.List.{flat_map}
 use Rattle.std.proofs.Common.{◌≡◌, ◌++◌, ◌≤◌, ◌+◌, take, drop, length, vec_len, vec_capacity}
 use Rattle.tc_session.specs.Replies.{value_text}
 use Rattle.tc_session.specs.Unsent.{joined, reach}
-use Rattle.tc_session.proofs.values.append_pieces.Given as goal
+use Rattle.tc_session.proofs.pieces.append_pieces.Given as goal
 
 abbrev pub invariant-loop-hit : goal.invariant-loop-hit
 invariant-loop-hit l = record {

@@ -1,5 +1,5 @@
 use Rattle.std.proofs.Common.{arith, length-drop, vec_len, length, ◌≡◌, rules}
-use Rattle.tc_session.proofs.values.append_spliced.Goals as goal
+use Rattle.tc_session.proofs.pieces.append_spliced.Goals as goal
 
 pub returns-clause-says : goal.returns-clause-says
 returns-clause-says c =
