@@ -27,10 +27,12 @@ reply_room = 64
 abbrev pub needed_room : ℕ
 needed_room = 2 * reply_room
 
--- a connection: its endpoint, the bytes that wait to be sent, and for how many more there is room
+-- a connection: its endpoint, the bytes that wait to be sent, how many of these, the last, are not written yet, and for how
+-- many more there is room
 pub record SessionView : Type 0 where
   pub endpoint : Endpoint text_protocol
   pub out : List ℕ
+  pub unwritten : ℕ
   pub room : ℕ
 
 -- what a session wants, as the machine has it

@@ -59,7 +59,7 @@ pub fn can_end(command: &Command, outcome: &Outcome) -> bool
 }
 
 /// Whether the command's VALUE lines show cas numbers.
-fn form_of(command: &Command) -> Form
+pub(crate) fn form_of(command: &Command) -> Form
     ensures { result ≡ form_of command.now }
 {
     match command {

@@ -13,6 +13,7 @@ mod news;
 mod output;
 mod parts;
 mod pieces;
+mod replies;
 mod reply;
 mod session;
 mod text;

@@ -2,11 +2,12 @@
 ghost use Rattle.std.specs.Prelude.{◌≡◌, ◌+◌, ◌-◌, ◌<◌, ◌≤◌, ◌++◌, [], decimal, drop, take, length, vec_len, vec_capacity};
 ghost use Rattle.std.specs.Prelude.{OnOk, OnErr};
 ghost use Rattle.tc_session.specs.Replies.{values_text, stats_text};
+ghost use Rattle.tc_session.specs.Room.{room_of};
 
 use crate::chain::Chain;
 use crate::parts::Parts;
 use crate::pieces::splice_values;
-use crate::values::{append_composed, append_number, append_stats, room_to_compose};
+use crate::values::{append_composed, append_number, append_stats, compose, room_to_compose};
 use std::alloc::Global;
 use std::marker::Model;
 use tc_grammar::Form;
@@ -83,10 +84,18 @@ impl Output {
     pub fn reserve(&mut self, n: usize) -> Result<(), NoMemory>
         ensures bytes { self.new.bytes ≡ self.old.bytes }
         ensures room { OnOk result (n ≤ self.new.room) }
+        ensures kept { self.old.room ≤ self.new.room }
         ensures refused { OnErr result (self.old.room < n) }
     {
         self.own.reserve(n)?;
         Ok(())
+    }
+
+    /// For how many bytes there is room.
+    pub fn room(&self) -> usize
+        ensures { result ≡ self.now.room }
+    {
+        self.own.capacity() - self.own.len()
     }
 
     /// Puts bytes at the end, for which there is room.
@@ -134,6 +143,17 @@ impl Output {
         let from = self.start + self.chain.reach();
         splice_values(&mut self.own, &mut self.chain, from, form, hits)?;
         Ok(())
+    }
+
+    /// Puts all hits at the end, and END, for which there is room.
+    #[tactic(auto, using(crate::proofs::Waiting::written))]
+    pub fn write_composed(&mut self, room: usize, form: Form, hits: &[Hit])
+        requires room { room ≡ room_of hits.now }
+        requires fits { room ≤ self.old.room }
+        ensures bytes { self.new.bytes ≡ self.old.bytes ++ values_text form hits.now }
+        ensures room { self.old.room ≤ self.new.room + room }
+    {
+        compose(&mut self.own, room, form, hits);
     }
 
     /// The bytes that wait.

@@ -1,5 +1,5 @@
 //! A connection.
-ghost use Rattle.std.specs.Prelude.{◌≡◌, ◌≢◌, ◌+◌, ◌<◌, ◌≤◌, ◌++◌, ◌↔◌, ℕ, List, [], true, false, codes, drop, length};
+ghost use Rattle.std.specs.Prelude.{◌≡◌, ◌≢◌, ◌+◌, ◌-◌, ◌<◌, ◌≤◌, ◌++◌, ◌↔◌, ℕ, List, [], true, false, codes, drop, take, length};
 ghost use Rattle.std.specs.Prelude.{None, Some, IsOk, IfOk, IfSome, IsTrue, OnOk, OnErr};
 ghost use Rattle.tc_model.specs.Connection.{turn, login, login_turn, unbound_turn, bound_turn, with_piece, shut_endpoint};
 ghost use Rattle.tc_model.specs.Connection.{new_endpoint, Unbound, Bound, Nothing, Close, is_closed};
@@ -14,24 +14,24 @@ ghost use Rattle.tc_item.specs.Bounds.{largest_item};
 ghost use Rattle.tc_session.specs.Declines.{IsPassed, IsAsked};
 ghost use Rattle.tc_session.specs.Refusing.{WantsMemory};
 ghost use Rattle.tc_session.specs.Replies.{can_end, render, is_long};
+ghost use Rattle.tc_stats.specs.declared.outcome.Outcome.TheVariants.{Values};
 ghost use Rattle.tc_session.specs.TextProtocol.{text_protocol, fault_said, unbound_asks, unbound_command, unbound_store};
 ghost use Rattle.tc_session.specs.TextProtocol.{bound_wants, bound_command};
 ghost use Rattle.tc_session.specs.SessionView.{SessionView, want_of, fault_want, fault_phase, KeepsAtMost, most_resting};
 ghost use Rattle.tc_session.specs.SessionView.{reply_room, needed_room};
 
 use crate::Want;
-use crate::answering::{write_refusal, write_reply};
+use crate::answering::form_of;
 use crate::declined::Declined;
 use crate::news::{News, named};
-use crate::output::Output;
 use crate::parts::Parts;
-use crate::reply::write_fault;
+use crate::replies::Replies;
 use std::alloc::Global;
 use std::marker::Model;
 use tc_feed::{Feed, Passed, Request};
 use tc_grammar::{Command, Fault, Head, StoreKind};
 use tc_item::{LARGEST_ITEM, NoMemory};
-use tc_stats::Outcome;
+use tc_stats::{Hits, Outcome};
 use tc_users::{UserNo, Users};
 
 /// The most bytes of a block before a connection is bound; after it they are those of the largest item.
@@ -57,7 +57,7 @@ enum Stage {
 pub struct Session {
     feed: Feed,
     stage: Stage,
-    out: Output,
+    out: Replies,
     /// What a log is to be told, until it is asked for. No reply rests on it.
     news: Option<News>,
 }
@@ -70,6 +70,7 @@ impl Model for Session {
     ghost view = { λ s. record {
       endpoint = record { phase = phase_of s.stage; reader = s.feed };
       out = s.out.bytes;
+      unwritten = s.out.unwritten;
       room = s.out.room;
     } };
 }
@@ -90,7 +91,7 @@ impl Session {
         Session {
             feed: Feed::new(alloc),
             stage: Stage::Unbound,
-            out: Output::new(alloc),
+            out: Replies::new(alloc),
             news: None,
         }
     }
@@ -435,7 +436,7 @@ impl Session {
         ensures room { reply_room ≤ self.new.room }
     {
         if !quiet {
-            write_fault(&mut self.out, fault);
+            self.out.write_fault(fault);
         }
     }
 
@@ -463,8 +464,45 @@ impl Session {
             ≡ self.old.out ++ unless_quiet (is_quiet command.now) (fault_line OutOfMemory)) }
         ensures short { is_long outcome.now ≡ false → IsOk result }
     {
-        if write_reply(&mut self.out, command, outcome).is_err() {
+        if self.out.write_reply(command, outcome).is_err() {
             self.news = Some(News::NoMemory);
+            return Err(NoMemory);
+        }
+        Ok(())
+    }
+
+    /// `answer`, but the reply to a look-up is mostly written later: where bytes are to be sent, or
+    /// something else is said. What is refused is known at once.
+    pub fn answer_later(&mut self, command: &Command, outcome: Outcome) -> Result<(), NoMemory>
+        requires room { reply_room ≤ self.old.room }
+        requires can_end { can_end command.now outcome ≡ true }
+        ensures endpoint { self.new.endpoint ≡ self.old.endpoint }
+        ensures reply { OnOk result (self.new.out ≡ self.old.out ++ render command.now outcome) }
+        ensures refused { OnErr result (self.new.out
+            ≡ self.old.out ++ unless_quiet (is_quiet command.now) (fault_line OutOfMemory)) }
+        ensures short { is_long outcome ≡ false → IsOk result }
+    {
+        match outcome {
+            Outcome::Values(hits) => self.owe(command, hits),
+            outcome => self.answer(command, &outcome),
+        }
+    }
+
+    /// Owes the hits of a look-up.
+    fn owe(&mut self, command: &Command, hits: Hits) -> Result<(), NoMemory>
+        requires room { reply_room ≤ self.old.room }
+        requires can_end { can_end command.now (Values hits) ≡ true }
+        ensures endpoint { self.new.endpoint ≡ self.old.endpoint }
+        ensures reply { OnOk result (self.new.out
+            ≡ self.old.out ++ render command.now (Values hits)) }
+        ensures refused { OnErr result (self.new.out
+            ≡ self.old.out ++ unless_quiet (is_quiet command.now) (fault_line OutOfMemory)) }
+    {
+        if command.is_quiet() {
+            return Ok(());
+        }
+        if self.out.owe(form_of(command), hits).is_err() {
+            self.refuse(command);
             return Err(NoMemory);
         }
         Ok(())
@@ -478,7 +516,7 @@ impl Session {
             ≡ self.old.out ++ unless_quiet (is_quiet command.now) (fault_line OutOfMemory) }
     {
         self.news = Some(News::NoMemory);
-        write_refusal(&mut self.out, command);
+        self.out.write_refusal(command);
     }
 
     /// The last that a log is to be told, once. A `next` that was refused is its caller's to tell.
@@ -490,25 +528,41 @@ impl Session {
         news
     }
 
-    /// The bytes that wait to be sent.
+    /// Writes the replies that were to be written later.
+    pub fn settle(&mut self)
+        ensures endpoint { self.new.endpoint ≡ self.old.endpoint }
+        ensures out { self.new.out ≡ self.old.out }
+        ensures written { self.new.unwritten ≡ 0 }
+    {
+        self.out.settle();
+    }
+
+    /// The bytes that wait to be sent, but those that are not written yet.
     pub fn parts(&self) -> Parts<'_>
-        ensures { result ≡ self.now.out }
+        ensures parts { result ≡ take (length self.now.out - self.now.unwritten) self.now.out }
+        ensures whole { self.now.unwritten ≡ 0 → result ≡ self.now.out }
     {
         self.out.parts()
     }
 
-    /// How many bytes wait to be sent.
-    pub fn out_len(&self) -> usize
-        ensures { result ≡ length self.now.out }
+    /// The bytes that wait to be sent, copied.
+    pub fn copy_out(&self, alloc: Global) -> Result<Vec<u8>, NoMemory>
+        ensures { IfOk result (λ bytes. bytes.items ≡ self.now.out) }
     {
-        self.out.len()
+        self.out.to_vec(alloc)
+    }
+
+    /// About how many bytes wait to be sent: for a reply that is written later, as many as there is room
+    /// for. It is for who weighs what to do next, and no promise.
+    pub fn about_out(&self) -> usize {
+        self.out.about()
     }
 
     /// Whether bytes wait to be sent.
     pub fn has_out(&self) -> bool
         ensures { IsTrue result ↔ (0 < length self.now.out) }
     {
-        self.out_len() > 0
+        self.out.has_some()
     }
 
     /// So many of the first bytes that wait were sent; all of them, where fewer wait.

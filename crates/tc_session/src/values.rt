@@ -91,6 +91,7 @@ fn put_hit(text: &mut [u8], at: usize, form: Form, hit: &Hit) -> usize
 fn put_hits(text: &mut [u8], at: usize, form: Form, hits: &[Hit]) -> usize
     requires { at + room_of hits.now ≤ length text.old }
     ensures written { take result text.new ≡ take at text.old ++ values_text form hits.now }
+    ensures near { result ≤ at + room_of hits.now }
 {
     let mut end = at;
     for hit in hits {
@@ -114,6 +115,20 @@ pub(crate) fn room_to_compose(hits: &[Hit]) -> Option<usize>
     Some(room)
 }
 
+/// Puts all hits at the end, and END, for which there is room.
+pub(crate) fn compose(to: &mut Vec<u8>, room: usize, form: Form, hits: &[Hit])
+    requires room { room ≡ room_of hits.now }
+    requires fits { vec_len to.old + room ≤ vec_capacity to.old }
+    ensures bytes { to.new.items ≡ to.old.items ++ values_text form hits.now }
+    ensures longer { vec_len to.new ≤ vec_len to.old + room }
+    ensures capacity { vec_capacity to.old ≤ vec_capacity to.new }
+{
+    let start = to.len();
+    let _ = to.resize(start + room, 0);
+    let end = put_hits(to.as_mut_slice(), start, form, hits);
+    to.truncate(end);
+}
+
 /// Puts all hits at the end, and END, with room for them. A refusal changes nothing.
 pub(crate) fn append_composed(
     to: &mut Vec<u8>,
@@ -126,11 +141,8 @@ pub(crate) fn append_composed(
     ensures unchanged_on_err { OnErr result (to.new.items ≡ to.old.items) }
     ensures capacity { vec_capacity to.old ≤ vec_capacity to.new }
 {
-    let start = to.len();
     to.reserve(room)?;
-    let _ = to.resize(start + room, 0);
-    let end = put_hits(to.as_mut_slice(), start, form, hits);
-    to.truncate(end);
+    compose(to, room, form, hits);
     Ok(())
 }
 
