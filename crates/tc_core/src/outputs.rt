@@ -8,7 +8,7 @@ use std::alloc::Global;
 use std::collections::BTreeMap;
 use std::marker::Model;
 use tc_item::NoMemory;
-use tc_session::{Parts, Session};
+use tc_session::Session;
 
 /// All bytes that a connection was sent.
 #[derive(Debug, Drop)]
@@ -25,12 +25,12 @@ impl Model for Sent {
 }
 
 impl Sent {
-    /// A copy of these bytes.
-    pub(crate) fn copied(alloc: Global, parts: &Parts<'_>) -> Result<Sent, NoMemory>
-        ensures { IfOk result (λ sent. sent ≡ parts.now) }
+    /// A copy of what waits to be sent by a session.
+    pub(crate) fn copied(alloc: Global, session: &Session) -> Result<Sent, NoMemory>
+        ensures { IfOk result (λ sent. sent ≡ session.now.out) }
     {
         Ok(Sent {
-            bytes: parts.to_vec(alloc)?,
+            bytes: session.copy_out(alloc)?,
         })
     }
 
@@ -94,7 +94,7 @@ pub(crate) fn outputs_of(
         outputs.push(Output {
             connection: *number,
             closed: session.is_closed(),
-            bytes: Sent::copied(alloc, &session.parts())?,
+            bytes: Sent::copied(alloc, session)?,
         })?;
     }
     Ok(Outputs::new(outputs))

@@ -207,7 +207,7 @@ impl<W: Wire + Drop> Link<W> {
     pub(crate) fn backlog(&self) -> Backlog {
         Backlog {
             user: self.user(),
-            bytes: self.session.out_len(),
+            bytes: self.session.about_out(),
         }
     }
 
@@ -330,7 +330,7 @@ impl<W: Wire + Drop> Link<W> {
 
     /// Whether so much waits to be sent that its client is to read first.
     fn is_full(&self) -> bool {
-        self.session.out_len() > self.admitted.most_out
+        self.session.about_out() > self.admitted.most_out
     }
 
     /// Whether it reads nothing now.
@@ -432,6 +432,7 @@ impl<W: Wire + Drop> Link<W> {
     fn put(&mut self) -> Put
         ensures sends { (sent : List ℕ) × Carries sent [] self.old self.new }
     {
+        self.session.settle();
         match self.wire.write(&self.session.parts()) {
             Put::Wrote(n) => {
                 self.session.sent(n);

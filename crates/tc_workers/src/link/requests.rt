@@ -71,7 +71,7 @@ impl<W: Wire + Drop> Link<W> {
 
     /// Whether what waits to be sent is kept for the last part of the turn.
     fn keeps_out(&self) -> bool {
-        self.session.out_len() <= EARLY_OUT || self.guesses.waits()
+        self.session.about_out() <= EARLY_OUT || self.guesses.waits()
     }
 
     /// Does requests until none is whole, many were done, much was done, much waits to be sent, a reply
@@ -217,9 +217,8 @@ impl<W: Wire + Drop> Link<W> {
             self.session.refuse(command);
             return;
         };
-        // A reply that was refused says so itself.
-        let _ = self.session.answer(command, &receipt.slip.outcome);
         self.last = number_after(self.last, receipt.slip.number);
-        drop(receipt);
+        // It is written once no lock is held; one that was refused says so itself.
+        let _ = self.session.answer_later(command, receipt.slip.outcome);
     }
 }
