@@ -1,4 +1,4 @@
-use Rattle.std.proofs.Common.{[], refl}
+use Rattle.std.proofs.Common.{[], ap, drop, refl, ◌∙◌}
 use Rattle.tc_workers.proofs.Talking.{appends-same, appends-kept, carries-still, carries-wrote}
 use Rattle.tc_workers.proofs.link.Link.put.Goals as goal
 
@@ -7,7 +7,9 @@ returns-in-Wrote g c =
     rw (← c.self.view_is)
     (record {
       sends =
-          carries-wrote c.in-Wrote.n c.parts.result c.parts.ensures c.sent.ensures.out c.sent.ensures.endpoint refl refl
+          carries-wrote c.in-Wrote.n c.parts.result (c.parts.ensures.whole c.settle.ensures.written ∙ c.settle.ensures.out)
+          (c.sent.ensures.out ∙ ap (drop c.in-Wrote.n) c.settle.ensures.out)
+          (c.sent.ensures.endpoint ∙ c.settle.ensures.endpoint) refl refl
           c.write.ensures.gives_nothing c.in-Wrote.ensures.takes;
     })
 
@@ -17,7 +19,7 @@ returns-in-Later g c =
     (record {
       sends =
           let took = appends-kept _ _ c.in-Later.ensures.takes in
-          ([], carries-still refl refl refl refl (appends-same c.write.ensures.gives_nothing) took);
+          ([], carries-still c.settle.ensures.endpoint c.settle.ensures.out refl refl (appends-same c.write.ensures.gives_nothing) took);
     })
 
 pub returns-in-Failed : goal.returns-in-Failed
@@ -26,5 +28,5 @@ returns-in-Failed g c =
     (record {
       sends =
           let took = appends-kept _ _ c.in-Failed.ensures.takes in
-          ([], carries-still refl refl refl refl (appends-same c.write.ensures.gives_nothing) took);
+          ([], carries-still c.settle.ensures.endpoint c.settle.ensures.out refl refl (appends-same c.write.ensures.gives_nothing) took);
     })
