@@ -3,3 +3,4 @@ pub mod Served
 mod Waiting
 pub mod Declining
 mod Texts
+mod Resting
