@@ -6,7 +6,7 @@ use Rattle.std.proofs.Common.{length-append, length-take, length-drop}
 use Rattle.std.proofs.lemmas.Bool.Decides.{nat_tests}
 use Rattle.std.proofs.Math.Nat.{zero-sub, sub-zero, zero-min, min-zero, suc-min-suc}
 use Rattle.std.proofs.lemmas.Bool.{ltb-true, ltb-false, le-ltb, lt-ltb, eqb-true}
-use Rattle.std.proofs.lemmas.List.{get_or-drop, take-append-le, drop-append-le, take-take}
+use Rattle.std.proofs.lemmas.List.{get_or-drop, take-append-le, drop-append-le, take-take, append-nil}
 use Rattle.tc_grammar.specs.declared.command.Head.{Head}
 use Rattle.tc_grammar.specs.declared.fault.Fault.TheVariants.{LineTooLong}
 use Rattle.tc_grammar.specs.declared.line.Line.{Line}
@@ -17,6 +17,7 @@ use Rattle.tc_feed.specs.declared.request.Taken.{Taken}
 use Rattle.tc_feed.specs.declared.passing.Passing.{Passing}
 use Rattle.tc_feed.specs.Passing.{passing_of}
 use Rattle.tc_feed.specs.Stream.{Reader, line_length, line_room, block_request, block_of, line_request, first_by, first, trimmed}
+use Rattle.tc_feed.specs.Stream.{left_by, after_first}
 use Rattle.tc_feed.specs.CutStream.{IsFoundInMore, IsCutAnywhere}
 use Rattle.tc_feed.specs.Looking.{needed_of}
 use Rattle.tc_feed.specs.Scanned.{IsScanned, IsAwaited, IsRemembered}
@@ -340,4 +341,13 @@ pub remembered_line : (u : List ℕ) (n needed : ℕ) (said : Line) → line_len
 remembered_line u n needed said e same none =
     let lt = line_front line_room u n e in
     let more = needed_more (n + 1) (drop (n + 1) u) said none in
-    inr (inr (omega (arith, same, more), lt.1, sym (get_take line_room u n lt.0) ∙ at_line (take line_room u) n e))
+    inr (omega (arith, same, more), lt.1, sym (get_take line_room u n lt.0) ∙ at_line (take line_room u) n e)
+
+-- with fewer bytes than are awaited the reader stays as it is
+pub waiting_stays : (limit held needed : ℕ) (u : List ℕ) (r : Reader) → u ≡ r.unread → held ≡ limit → IsAwaited held needed u
+    → length r.unread < needed → after_first limit r ≡ r
+waiting_stays limit held needed u r same at awaited lt =
+    let whole : u ++ [] ≡ r.unread = append-nil u ∙ same in
+    let few : length (u ++ []) < needed = rw whole lt in
+    let none : first held (u ++ []) ≡ None = awaited.lacking [] few in
+    ap (left_by r) (subst (λ xs. first limit xs ≡ None) whole (subst (λ n. first n (u ++ []) ≡ None) at none))

@@ -14,9 +14,8 @@ pub record IsAwaited (limit needed : ℕ) (unread : List ℕ) : Type 0 where
   pub lacking : (later : List ℕ) → length (unread ++ later) < needed → first limit (unread ++ later) ≡ None
   pub bounded : needed ≤ limit + (longest_line + 3)
 
--- what is remembered of a look that found no whole request: nothing; or that no byte is a
--- line feed and one more is needed; or where the first line ends
+-- what is remembered of a look that found no whole request: that no byte is a line feed and one more is
+-- needed; or where the first line ends
 abbrev pub IsRemembered : ℕ → ℕ → List ℕ → Type 0
 IsRemembered needed scanned unread =
-    ((needed ≡ 0) × (scanned ≡ 0))
-    ⊎ ((needed ≡ scanned + 1) ⊎ ((0 < needed) × (scanned < length unread) × (slice_index unread scanned ≡ 10)))
+    (needed ≡ scanned + 1) ⊎ ((0 < needed) × (scanned < length unread) × (slice_index unread scanned ≡ 10))

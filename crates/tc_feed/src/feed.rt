@@ -29,7 +29,7 @@ pub struct Feed {
     start: usize,
     /// How many of the unread bytes were looked through for a line feed, and hold none.
     scanned: usize,
-    /// The limit of blocks at the last look, and how many unread bytes a request needs by it.
+    /// The limit of blocks at the last look, and how many unread bytes a request needs by it: at least one.
     limit: u32,
     needed: usize,
     /// How many bytes to come are skipped.
@@ -61,7 +61,7 @@ impl Feed {
             start: 0,
             scanned: 0,
             limit: 0,
-            needed: 0,
+            needed: 1,
             owed: 0,
         }
     }
@@ -114,7 +114,7 @@ impl Feed {
         ensures refused { OnErr result (HasLine self.old.unread) }
         ensures unchanged_on_err { OnErr result (self.new ≡ self.old) }
     {
-        if self.is_lacking(limit) {
+        if self.is_waiting(limit) {
             return Ok(None);
         }
         let unread = &self.bytes[self.start..];
@@ -257,9 +257,11 @@ impl Feed {
         }
     }
 
-    /// Whether the last look says that no whole request is there yet.
-    fn is_lacking(&self, limit: u32) -> bool
-        ensures none { IsTrue result → first limit self.now.unread ≡ None }
+    /// Whether the last look says that no whole request is there yet, where blocks of at most `limit` bytes
+    /// are taken.
+    pub fn is_waiting(&self, limit: u32) -> bool
+        ensures none { IsTrue result → found limit self.now ≡ None }
+        ensures stays { IsTrue result → after_first limit self.now ≡ self.now }
         ensures bounded { IsTrue result → list_length self.now.unread ≤ limit + (longest_line + 2) }
     {
         self.limit == limit && self.kept() < self.needed
@@ -274,7 +276,7 @@ impl Feed {
     {
         let there = self.bytes.len() - self.start - length;
         self.scanned = 0;
-        self.needed = 0;
+        self.needed = 1;
         if skip < there {
             self.start += length + skip;
         } else {

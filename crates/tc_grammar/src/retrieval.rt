@@ -8,18 +8,18 @@ use crate::line::{Line, refuse_format};
 use crate::number::read_exptime;
 use crate::tokens::Tokens;
 use std::alloc::Global;
-use tc_item::{Key, Keys, NoMemory, is_key};
+use tc_item::{Key, Keys, NoMemory};
 
 /// One or more keys, up to the line's end.
 fn read_keys(alloc: Global, mut tokens: Tokens) -> Result<Option<Keys>, NoMemory>
     ensures { IfOk result (λ keys. keys ≡ keys_of tokens.entry) }
 {
     let mut keys = Keys::new();
-    while let Some(token) = tokens.next() {
-        if !is_key(token) {
+    while let Some(word) = tokens.next_word() {
+        if !word.is_key {
             return Ok(None);
         }
-        keys.push(alloc, Key::from_key_bytes(alloc, token)?)?;
+        keys.push(alloc, Key::from_key_bytes(alloc, word.bytes)?)?;
     }
     if keys.is_empty() {
         return Ok(None);

@@ -1,5 +1,6 @@
 //! Storage lines.
 ghost use Rattle.std.specs.Prelude.{◌≡◌, IfOk};
+ghost use Rattle.tc_item.specs.KeyRule.{is_key};
 ghost use Rattle.tc_grammar.specs.Lines.{IsAnswered, IsBounded};
 ghost use Rattle.tc_grammar.specs.Storage.{ending_of, head_of, storage_line};
 
@@ -8,9 +9,9 @@ use crate::ending::read_quiet;
 use crate::fault::Fault;
 use crate::line::{Line, refuse_format};
 use crate::number::{read_exptime, read_number, read_u32};
-use crate::tokens::Tokens;
+use crate::tokens::{Tokens, Word};
 use std::alloc::Global;
-use tc_item::{Key, NoMemory, is_key};
+use tc_item::{Key, NoMemory};
 
 /// The most bytes that a block may be announced with.
 pub(crate) const LONGEST_BLOCK: u64 = (1 << 31) - 1;
@@ -34,14 +35,15 @@ pub(crate) fn read_ending(kind: StoreKind, mut tokens: Tokens) -> Option<(u64, b
 fn read_head(
     alloc: Global,
     kind: StoreKind,
-    key: &[u8],
+    key: &Word,
     flags: &[u8],
     exptime: &[u8],
     rest: Tokens,
 ) -> Result<Option<Head>, NoMemory>
-    ensures { IfOk result (λ h. h ≡ head_of kind key.now flags.now exptime.now rest.entry) }
+    requires { key.now.is_key ≡ is_key key.now.bytes.now }
+    ensures { IfOk result (λ h. h ≡ head_of kind key.now.bytes.now flags.now exptime.now rest.entry) }
 {
-    if !is_key(key) {
+    if !key.is_key {
         return Ok(None);
     }
     let Some(flags) = read_u32(flags) else {
@@ -53,7 +55,7 @@ fn read_head(
     let Some((cas_unique, quiet)) = read_ending(kind, rest) else {
         return Ok(None)
     };
-    let key = Key::from_key_bytes(alloc, key)?;
+    let key = Key::from_key_bytes(alloc, key.bytes)?;
     Ok(Some(Head {
         kind,
         key,
@@ -76,7 +78,7 @@ pub fn read_storage_line(
     ensures bounded { IfOk result (IsBounded block_limit) }
     ensures answered { IfOk result IsAnswered }
 {
-    let Some(key) = tokens.next() else {
+    let Some(key) = tokens.next_word() else {
         return Ok(refuse_format(0))
     };
     let Some(flags) = tokens.next() else {
@@ -92,7 +94,7 @@ pub fn read_storage_line(
         return Ok(refuse_format(0))
     };
     let length = length as u32;
-    let Some(head) = read_head(alloc, kind, key, flags, exptime, tokens)? else {
+    let Some(head) = read_head(alloc, kind, &key, flags, exptime, tokens)? else {
         return Ok(refuse_format(length + 2));
     };
     if length > block_limit {

@@ -1,10 +1,12 @@
 //! The tokens of a line, read from its front.
 ghost use Rattle.std.specs.Prelude.{◌≡◌, ◌≤◌, ◌<◌, ◌∷◌, [], drop, length, MatchOption};
+ghost use Rattle.std.specs.List.{prefix_len};
+ghost use Rattle.tc_item.specs.KeyRule.{is_key, is_key_byte};
 ghost use Rattle.tc_grammar.specs.Tokens.{tokens};
 ghost use Rattle.tc_grammar.specs.Words.{word_length};
 
 use std::marker::Model;
-use tc_item::key_run;
+use tc_item::{LONGEST_KEY, key_run};
 
 /// The tokens of a line that are still to be read.
 #[derive(Drop)]
@@ -48,14 +50,20 @@ fn first_space(bytes: &[u8]) -> usize
     bytes.len()
 }
 
-/// How many bytes stand before the first space. Most words are of bytes that may stand in a key, and
-/// these are passed together.
-fn word_length(bytes: &[u8]) -> usize
-    ensures value { result ≡ word_length bytes.now }
-    ensures within { result ≤ length bytes.now }
+/// A token, and whether it is a key.
+#[derive(Clone, Copy)]
+pub struct Word<'a> {
+    pub bytes: &'a [u8],
+    pub is_key: bool,
+}
+
+/// Whether a token is a key of which the first so many bytes may stand in one, and no more.
+fn is_key_run(token: &[u8], run: usize) -> bool
+    requires some { 0 < length token.now }
+    requires run { prefix_len is_key_byte token.now ≡ run }
+    ensures { result ≡ is_key token.now }
 {
-    let run = key_run(bytes);
-    run + first_space(&bytes[run..])
+    run == token.len() && run <= LONGEST_KEY
 }
 
 impl<'a> Tokens<'a> {
@@ -66,18 +74,35 @@ impl<'a> Tokens<'a> {
         Tokens { rest: line }
     }
 
+    /// Takes the next token, and says whether it is a key. Most words are of bytes that may stand in a key,
+    /// and these are passed together.
+    pub fn next_word(&mut self) -> Option<Word<'a>>
+        ensures { MatchOption result ((self.old ≡ []) × (self.new ≡ []))
+            (λ word. (self.old ≡ word.bytes.now ∷ self.new)
+            × (word.is_key ≡ is_key word.bytes.now)) }
+    {
+        let bytes = &self.rest[space_length(self.rest)..];
+        if bytes.is_empty() {
+            return None;
+        }
+        let run = key_run(bytes);
+        let length = run + first_space(&bytes[run..]);
+        let (token, rest) = bytes.split_at(length);
+        self.rest = rest;
+        Some(Word {
+            bytes: token,
+            is_key: is_key_run(token, run),
+        })
+    }
+
     /// Takes the next token.
     pub fn next(&mut self) -> Option<&'a [u8]>
         ensures { MatchOption result ((self.old ≡ []) × (self.new ≡ []))
             (λ token. self.old ≡ token.now ∷ self.new) }
     {
-        let bytes = &self.rest[space_length(self.rest)..];
-        let length = word_length(bytes);
-        if length == 0 {
-            return None;
+        match self.next_word() {
+            Some(word) => Some(word.bytes),
+            None => None,
         }
-        let (token, rest) = bytes.split_at(length);
-        self.rest = rest;
-        Some(token)
     }
 }

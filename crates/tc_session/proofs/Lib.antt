@@ -4,3 +4,4 @@ mod Waiting
 pub mod Declining
 mod Texts
 mod Owing
+mod Resting

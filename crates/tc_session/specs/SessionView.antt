@@ -1,8 +1,10 @@
 -- A connection as contracts see it. Source: this project's own.
-use Rattle.std.specs.Prelude.{ℕ, ◌+◌, ◌*◌, ◌≤◌, List}
-use Rattle.tc_model.specs.Connection.{Phase, Unbound, Bound, Closed, Endpoint, Want, Nothing, Said, Call, Close}
+use Rattle.std.specs.Prelude.{ℕ, ◌+◌, ◌*◌, ◌≤◌, Bool, List, [], codes, Option}
+use Rattle.tc_model.specs.Connection.{Phase, Unbound, Bound, Closed, Endpoint, Want, Nothing, Said, Call, Close, Turn}
+use Rattle.tc_model.specs.Connection.{login, login_turn, unbound_turn, bound_turn}
 use Rattle.tc_item.specs.Bounds.{largest_item}
-use Rattle.tc_feed.specs.Stream.{longest_line}
+use Rattle.tc_feed.specs.Stream.{longest_line, found, after_first}
+use Rattle.tc_feed.specs.declared.request.Request.{Request}
 use Rattle.tc_grammar.specs.declared.command.Command.{Command}
 use Rattle.tc_session.specs.declared.session.Stage.{Stage}
 use Rattle.tc_session.specs.declared.session.Stage.TheVariants.{Unbound as IsUnbound, Bound as IsBound, Closed as IsClosed}
@@ -10,8 +12,10 @@ use Rattle.tc_session.specs.declared.want.Want.{Want as WantCode}
 use Rattle.tc_session.specs.declared.want.Want.TheVariants.{Nothing as IsNothing, Said as IsSaid, Call as IsCall}
 use Rattle.tc_session.specs.declared.want.Want.TheVariants.{Close as IsClose}
 use Rattle.tc_grammar.specs.declared.fault.Fault.{Fault}
-use Rattle.tc_grammar.specs.declared.fault.Fault.TheVariants.{LineTooLong}
-use Rattle.tc_session.specs.TextProtocol.{text_protocol, unbound_limit}
+use Rattle.tc_grammar.specs.declared.fault.Fault.TheVariants.{LineTooLong, AuthenticationFailure}
+use Rattle.tc_users.specs.declared.users.UserSpec.{UserSpec}
+use Rattle.tc_session.specs.Texts.{unless_quiet}
+use Rattle.tc_session.specs.TextProtocol.{text_protocol, unbound_limit, fault_said, unbound_asks, bound_wants}
 
 -- the phase of a stage
 abbrev pub phase_of : Stage → Phase
@@ -62,3 +66,27 @@ KeepsAtMost Closed unread = Unit {0}
 -- the most bytes that are unread of an open connection with no whole request: what KeepsAtMost says of either limit
 abbrev pub most_resting : ℕ
 most_resting = largest_item + (longest_line + 2)
+
+-- the turn of an unbound connection, by the request that was found
+abbrev pub turn_unbound : List UserSpec → SessionView → Option Request → Turn text_protocol
+turn_unbound rows s request = unbound_turn text_protocol rows s.endpoint.reader (unbound_asks request)
+
+-- the turn of a login by this data
+abbrev pub turn_login : List UserSpec → SessionView → Bool → List ℕ → Turn text_protocol
+turn_login rows s quiet text =
+    login_turn text_protocol s.endpoint.reader (unless_quiet quiet (codes "STORED\r\n"))
+    (fault_said AuthenticationFailure quiet) (login text_protocol rows text)
+
+-- the turn of a user's connection, by the request that was found
+abbrev pub turn_bound : ℕ → SessionView → Option Request → Turn text_protocol
+turn_bound user s request = bound_turn text_protocol user s.endpoint.reader (bound_wants request)
+
+-- the next turn of a user's connection
+abbrev pub next_turn : ℕ → SessionView → Turn text_protocol
+next_turn user s =
+    bound_turn text_protocol user (after_first largest_item s.endpoint.reader)
+    (bound_wants (found largest_item s.endpoint.reader))
+
+-- the turn of a connection on which no whole request is there
+abbrev pub resting_turn : Endpoint text_protocol → Turn text_protocol
+resting_turn e = record { want = Nothing; said = []; endpoint = e }

@@ -1,35 +1,33 @@
 //! A connection.
-ghost use Rattle.std.specs.Prelude.{◌≡◌, ◌≢◌, ◌+◌, ◌-◌, ◌<◌, ◌≤◌, ◌++◌, ◌↔◌, ℕ, List, [], true, false, codes, drop, take, length};
+ghost use Rattle.std.specs.Prelude.{◌≡◌, ◌≢◌, ◌+◌, ◌-◌, ◌<◌, ◌≤◌, ◌++◌, ◌↔◌, List, [], true, false, drop, take, length};
 ghost use Rattle.std.specs.Prelude.{None, Some, IsOk, IfOk, IfSome, IsTrue, OnOk, OnErr};
-ghost use Rattle.tc_model.specs.Connection.{turn, login, login_turn, unbound_turn, bound_turn, with_piece, shut_endpoint};
-ghost use Rattle.tc_model.specs.Connection.{new_endpoint, Unbound, Bound, Nothing, Close, is_closed};
-ghost use Rattle.tc_grammar.specs.declared.fault.Fault.TheVariants.{AuthenticationFailure, NoMemory as OutOfMemory};
-ghost use Rattle.tc_session.specs.Texts.{fault_line, unless_quiet};
-ghost use Rattle.tc_users.specs.declared.users.UserSpec.{UserSpec};
+ghost use Rattle.tc_model.specs.Connection.{turn, with_piece, shut_endpoint, new_endpoint, Bound, Nothing, Close, is_closed};
+ghost use Rattle.tc_grammar.specs.declared.fault.Fault.TheVariants.{NoMemory as OutOfMemory};
 ghost use Rattle.tc_grammar.specs.Outlines.{is_quiet};
-ghost use Rattle.tc_feed.specs.Passing.{passed_of};
-ghost use Rattle.tc_feed.specs.Stream.{found, after_first};
-ghost use Rattle.tc_feed.specs.declared.request.Request.{Request as AnyRequest};
-ghost use Rattle.tc_item.specs.Bounds.{largest_item};
-ghost use Rattle.tc_session.specs.Declines.{IsPassed, IsAsked};
+ghost use Rattle.tc_feed.specs.declared.request.Request.TheVariants.{Ask};
+ghost use Rattle.tc_session.specs.Declines.{IsAsked};
 ghost use Rattle.tc_session.specs.Refusing.{WantsMemory};
 ghost use Rattle.tc_session.specs.Replies.{can_end, render, is_long};
 ghost use Rattle.tc_stats.specs.declared.outcome.Outcome.TheVariants.{Values};
-ghost use Rattle.tc_session.specs.TextProtocol.{text_protocol, fault_said, unbound_asks, unbound_command, unbound_store};
-ghost use Rattle.tc_session.specs.TextProtocol.{bound_wants, bound_command};
-ghost use Rattle.tc_session.specs.SessionView.{SessionView, want_of, fault_want, fault_phase, KeepsAtMost, most_resting};
-ghost use Rattle.tc_session.specs.SessionView.{reply_room, needed_room};
+ghost use Rattle.tc_session.specs.SessionView.{want_of, fault_want, fault_phase, KeepsAtMost, most_resting};
+ghost use Rattle.tc_session.specs.SessionView.{reply_room, needed_room, turn_bound, resting_turn};
+ghost use Rattle.tc_session.specs.Texts.{fault_line, unless_quiet};
+ghost use Rattle.tc_session.specs.TextProtocol.{text_protocol, fault_said};
+ghost use Rattle.tc_users.specs.declared.users.UserSpec.{UserSpec};
+
+mod declining;
+mod unbound;
 
 use crate::Want;
 use crate::answering::form_of;
 use crate::declined::Declined;
-use crate::news::{News, named};
+use crate::news::News;
 use crate::parts::Parts;
 use crate::replies::Replies;
 use std::alloc::Global;
 use std::marker::Model;
-use tc_feed::{Feed, Passed, Request};
-use tc_grammar::{Command, Fault, Head, StoreKind};
+use tc_feed::{Feed, Request};
+use tc_grammar::{Command, Fault};
 use tc_item::{LARGEST_ITEM, NoMemory};
 use tc_stats::{Hits, Outcome};
 use tc_users::{UserNo, Users};
@@ -73,13 +71,6 @@ impl Model for Session {
       unwritten = s.out.unwritten;
       room = s.out.room;
     } };
-}
-
-/// The user whom the data logs in.
-fn find_login(users: &Users, text: &[u8]) -> Option<UserNo>
-    ensures { result ≡ login text_protocol users.now text.now }
-{
-    users.login(text)
 }
 
 impl Session {
@@ -135,6 +126,48 @@ impl Session {
         ensures out_on_err { OnErr result (self.new.out ≡ self.old.out) }
     {
         self.out.reserve(NEEDED_ROOM)?;
+        if self.is_resting() {
+            return Ok(Want::Nothing);
+        }
+        self.look(alloc, users)
+    }
+
+    /// Whether it is known that there is nothing to do until more comes, so that most looks for a further
+    /// request are over at once.
+    fn is_resting(&self) -> bool
+        ensures none { IsTrue result → (rows : List UserSpec)
+            → turn text_protocol rows self.now.endpoint ≡ resting_turn self.now.endpoint }
+        ensures bounded { IsTrue result → KeepsAtMost self.now.endpoint.phase
+            (length self.now.endpoint.reader.unread) }
+    {
+        match self.stage {
+            Stage::Closed => true,
+            Stage::Unbound => self.feed.is_waiting(UNBOUND_LIMIT),
+            Stage::Bound(_) => self.feed.is_waiting(LARGEST_ITEM),
+        }
+    }
+
+    /// The connection's next request, looked for.
+    fn look(&mut self, alloc: Global, users: &Users) -> Result<Want, NoMemory>
+        requires room { needed_room ≤ self.old.room }
+        ensures want { IfOk result (λ want. want_of want
+            ≡ (turn text_protocol users.now self.old.endpoint).want) }
+        ensures endpoint { OnOk result (self.new.endpoint
+            ≡ (turn text_protocol users.now self.old.endpoint).endpoint) }
+        ensures said { OnOk result (self.new.out
+            ≡ self.old.out ++ (turn text_protocol users.now self.old.endpoint).said) }
+        ensures room { OnOk result (reply_room ≤ self.new.room) }
+        ensures bounded { IfOk result (λ want. want_of want ≡ Nothing
+            → KeepsAtMost self.old.endpoint.phase (length self.new.endpoint.reader.unread)) }
+        ensures open_bounded { IfOk result (λ want. want_of want ≡ Nothing
+            → is_closed self.old.endpoint.phase ≡ false
+            → length self.new.endpoint.reader.unread ≤ most_resting) }
+        ensures no_longer { length self.new.endpoint.reader.unread
+            ≤ length self.old.endpoint.reader.unread }
+        ensures refused { OnErr result (WantsMemory self.old) }
+        ensures endpoint_on_err { OnErr result (self.new.endpoint ≡ self.old.endpoint) }
+        ensures out_on_err { OnErr result (self.new.out ≡ self.old.out) }
+    {
         let stage = self.stage;
         match stage {
             Stage::Closed => Ok(Want::Nothing),
@@ -180,206 +213,14 @@ impl Session {
         }
     }
 
-    /// Declines a bound connection's next request, and lists it.
-    fn decline_listed(
-        &mut self,
-        alloc: Global,
-        declined: &mut Declined,
-    ) -> Result<Option<Want>, NoMemory>
-        ensures asked { (rows : List UserSpec) → IfOk result (IsAsked (turn text_protocol rows self.old.endpoint)
-            self.old self.new declined.old declined.new) }
-        ensures endpoint { (rows : List UserSpec) → OnOk result (self.new.endpoint
-            ≡ (turn text_protocol rows self.old.endpoint).endpoint) }
-        ensures busy { IfOk result (λ asked. IfSome asked (λ want. want_of want ≢ Nothing)) }
-        ensures room { OnOk result (reply_room ≤ self.new.room) }
-        ensures no_longer { length self.new.endpoint.reader.unread
-            ≤ length self.old.endpoint.reader.unread }
-        ensures endpoint_on_err { OnErr result (self.new.endpoint ≡ self.old.endpoint) }
-        ensures out_on_err { OnErr result (self.new.out ≡ self.old.out) }
-        ensures declined_on_err { OnErr result (declined.new ≡ declined.old) }
-    {
-        let Some(user) = self.user() else {
-            return Err(NoMemory)
-        };
-        let listed = declined.and(&self.feed, user);
-        match self.decline(alloc, user)? {
-            Some(want) => Ok(Some(want)),
-            None => {
-                *declined = listed;
-                Ok(None)
-            }
-        }
-    }
-
-    /// Passes over the next whole request of the user's connection, with its block. A command is not
-    /// done, and `None`: that memory was refused is said, unless its line has `noreply`. What needs no
-    /// cache is answered as `next` does. It takes no memory but for room to say so; a refusal, also where no
-    /// whole request is there, leaves all as it was.
-    pub fn decline(&mut self, alloc: Global, user: UserNo) -> Result<Option<Want>, NoMemory>
-        requires bound { self.old.endpoint.phase ≡ Bound user }
-        ensures passed { IfOk result (IsPassed user (bound_turn text_protocol user
-            (after_first largest_item self.old.endpoint.reader)
-            (bound_wants (found largest_item self.old.endpoint.reader))) self.old self.new) }
-        ensures endpoint { OnOk result (self.new.endpoint ≡ (bound_turn text_protocol user
-            (after_first largest_item self.old.endpoint.reader)
-            (bound_wants (found largest_item self.old.endpoint.reader))).endpoint) }
-        ensures busy { IfOk result (λ asked. IfSome asked (λ want. want_of want ≢ Nothing)) }
-        ensures room { OnOk result (reply_room ≤ self.new.room) }
-        ensures no_longer { length self.new.endpoint.reader.unread
-            ≤ length self.old.endpoint.reader.unread }
-        ensures endpoint_on_err { OnErr result (self.new.endpoint ≡ self.old.endpoint) }
-        ensures out_on_err { OnErr result (self.new.out ≡ self.old.out) }
-    {
-        self.out.reserve(NEEDED_ROOM)?;
-        match self.feed.pass_over(alloc, LARGEST_ITEM) {
-            None => Err(NoMemory),
-            Some(passed) => Ok(self.answer_passed(user, passed)),
-        }
-    }
-
-    /// What is made of a request of the user's that was passed over.
-    fn answer_passed(&mut self, user: UserNo, passed: Passed) -> Option<Want>
-        requires room { needed_room ≤ self.old.room }
-        requires bound { self.old.endpoint.phase ≡ Bound user }
-        ensures passed { (request : AnyRequest) → passed_of request ≡ passed
-            → IsPassed user (bound_turn text_protocol user self.old.endpoint.reader
-            (bound_wants (Some request))) self.old self.new result }
-        ensures endpoint { (request : AnyRequest) → passed_of request ≡ passed
-            → self.new.endpoint ≡ (bound_turn text_protocol user self.old.endpoint.reader
-            (bound_wants (Some request))).endpoint }
-        ensures busy { IfSome result (λ want. want_of want ≢ Nothing) }
-        ensures reader { self.new.endpoint.reader ≡ self.old.endpoint.reader }
-        ensures room { reply_room ≤ self.new.room }
-    {
-        match passed {
-            Passed::Command { quiet } => {
-                self.news = Some(News::NoMemory);
-                self.say_fault(Fault::NoMemory, quiet);
-                None
-            }
-            Passed::Quit => Some(self.close()),
-            Passed::Refused { fault, quiet } => Some(self.fail(fault, quiet)),
-        }
-    }
-
-    /// What a request means before the connection is bound.
-    fn greet(&mut self, users: &Users, request: Option<Request>) -> Want
-        requires room { needed_room ≤ self.old.room }
-        requires unbound { self.old.endpoint.phase ≡ Unbound }
-        ensures want { want_of result ≡ (unbound_turn text_protocol users.now
-            self.old.endpoint.reader (unbound_asks request)).want }
-        ensures rests { want_of result ≡ Nothing → request ≡ None }
-        ensures endpoint { self.new.endpoint ≡ (unbound_turn text_protocol users.now
-            self.old.endpoint.reader (unbound_asks request)).endpoint }
-        ensures said { self.new.out ≡ self.old.out
-            ++ (unbound_turn text_protocol users.now self.old.endpoint.reader
-            (unbound_asks request)).said }
-        ensures reader { self.new.endpoint.reader ≡ self.old.endpoint.reader }
-        ensures room { reply_room ≤ self.new.room }
-    {
-        match request {
-            None => Want::Nothing,
-            Some(Request::Ask(command)) => self.greet_command(users, &command),
-            Some(Request::Refused { fault, quiet }) => {
-                self.note_fault(fault);
-                self.fail(fault, quiet)
-            }
-        }
-    }
-
-    /// Notes a fault that a log has a line for.
-    fn note_fault(&mut self, fault: Fault)
-        ensures { self.new ≡ self.old }
-    {
-        if let Fault::TooLarge = fault {
-            self.news = Some(News::LongBlock);
-        }
-    }
-
-    /// What a command means before the connection is bound.
-    fn greet_command(&mut self, users: &Users, command: &Command) -> Want
-        requires room { needed_room ≤ self.old.room }
-        requires unbound { self.old.endpoint.phase ≡ Unbound }
-        ensures want { want_of result ≡ (unbound_turn text_protocol users.now
-            self.old.endpoint.reader (unbound_command command.now)).want }
-        ensures busy { want_of result ≢ Nothing }
-        ensures endpoint { self.new.endpoint ≡ (unbound_turn text_protocol users.now
-            self.old.endpoint.reader (unbound_command command.now)).endpoint }
-        ensures said { self.new.out ≡ self.old.out
-            ++ (unbound_turn text_protocol users.now self.old.endpoint.reader
-            (unbound_command command.now)).said }
-        ensures reader { self.new.endpoint.reader ≡ self.old.endpoint.reader }
-        ensures room { reply_room ≤ self.new.room }
-    {
-        match command {
-            Command::Store(head, blob) => self.greet_store(users, head, blob.as_slice()),
-            Command::Quit => self.close(),
-            _ => {
-                self.say_fault(Fault::Unauthenticated, command.is_quiet());
-                Want::Said
-            }
-        }
-    }
-
-    /// What a storage command means before the connection is bound: a `set` is a login.
-    fn greet_store(&mut self, users: &Users, head: &Head, blob: &[u8]) -> Want
-        requires room { needed_room ≤ self.old.room }
-        requires unbound { self.old.endpoint.phase ≡ Unbound }
-        ensures want { want_of result ≡ (unbound_turn text_protocol users.now
-            self.old.endpoint.reader (unbound_store head.now.kind head.now blob.now)).want }
-        ensures busy { want_of result ≢ Nothing }
-        ensures endpoint { self.new.endpoint ≡ (unbound_turn text_protocol users.now
-            self.old.endpoint.reader (unbound_store head.now.kind head.now blob.now)).endpoint }
-        ensures said { self.new.out ≡ self.old.out
-            ++ (unbound_turn text_protocol users.now self.old.endpoint.reader
-            (unbound_store head.now.kind head.now blob.now)).said }
-        ensures reader { self.new.endpoint.reader ≡ self.old.endpoint.reader }
-        ensures room { reply_room ≤ self.new.room }
-    {
-        match head.kind {
-            StoreKind::Set => self.log_in(users, head.quiet, blob),
-            _ => self.say_fault(Fault::Unauthenticated, head.quiet),
-        }
-        Want::Said
-    }
-
-    /// Binds the connection to the user whom the data logs in, or denies the login.
-    fn log_in(&mut self, users: &Users, quiet: bool, text: &[u8])
-        requires room { needed_room ≤ self.old.room }
-        requires unbound { self.old.endpoint.phase ≡ Unbound }
-        ensures endpoint { self.new.endpoint ≡ (login_turn text_protocol self.old.endpoint.reader
-            (unless_quiet quiet (codes "STORED\r\n")) (fault_said AuthenticationFailure quiet)
-            (login text_protocol users.now text.now)).endpoint }
-        ensures said { self.new.out ≡ self.old.out
-            ++ (login_turn text_protocol self.old.endpoint.reader
-            (unless_quiet quiet (codes "STORED\r\n")) (fault_said AuthenticationFailure quiet)
-            (login text_protocol users.now text.now)).said }
-        ensures reader { self.new.endpoint.reader ≡ self.old.endpoint.reader }
-        ensures room { reply_room ≤ self.new.room }
-    {
-        match find_login(users, text) {
-            None => {
-                self.news = Some(News::LoginRefused(named(users, text)));
-                self.say_fault(Fault::AuthenticationFailure, quiet);
-            }
-            Some(user) => {
-                self.stage = Stage::Bound(user);
-                self.say_stored(quiet);
-            }
-        }
-    }
-
     /// What a request means once the connection is bound.
     fn serve(&mut self, user: UserNo, request: Option<Request>) -> Want
         requires room { needed_room ≤ self.old.room }
         requires bound { self.old.endpoint.phase ≡ Bound user }
-        ensures want { want_of result
-            ≡ (bound_turn text_protocol user self.old.endpoint.reader (bound_wants request)).want }
+        ensures want { want_of result ≡ (turn_bound user self.old request).want }
         ensures rests { want_of result ≡ Nothing → request ≡ None }
-        ensures endpoint { self.new.endpoint ≡ (bound_turn text_protocol user
-            self.old.endpoint.reader (bound_wants request)).endpoint }
-        ensures said { self.new.out ≡ self.old.out
-            ++ (bound_turn text_protocol user self.old.endpoint.reader (bound_wants request)).said }
+        ensures endpoint { self.new.endpoint ≡ (turn_bound user self.old request).endpoint }
+        ensures said { self.new.out ≡ self.old.out ++ (turn_bound user self.old request).said }
         ensures reader { self.new.endpoint.reader ≡ self.old.endpoint.reader }
         ensures room { reply_room ≤ self.new.room }
     {
@@ -394,14 +235,12 @@ impl Session {
     fn serve_command(&mut self, user: UserNo, command: Command) -> Want
         requires room { needed_room ≤ self.old.room }
         requires bound { self.old.endpoint.phase ≡ Bound user }
-        ensures want { want_of result ≡ (bound_turn text_protocol user self.old.endpoint.reader
-            (bound_command command)).want }
+        ensures want { want_of result ≡ (turn_bound user self.old (Some (Ask command))).want }
         ensures busy { want_of result ≢ Nothing }
-        ensures endpoint { self.new.endpoint ≡ (bound_turn text_protocol user
-            self.old.endpoint.reader (bound_command command)).endpoint }
+        ensures endpoint { self.new.endpoint
+            ≡ (turn_bound user self.old (Some (Ask command))).endpoint }
         ensures said { self.new.out ≡ self.old.out
-            ++ (bound_turn text_protocol user self.old.endpoint.reader
-            (bound_command command)).said }
+            ++ (turn_bound user self.old (Some (Ask command))).said }
         ensures reader { self.new.endpoint.reader ≡ self.old.endpoint.reader }
         ensures room { reply_room ≤ self.new.room }
     {
@@ -437,18 +276,6 @@ impl Session {
     {
         if !quiet {
             self.out.write_fault(fault);
-        }
-    }
-
-    /// Says that a login was granted, unless it is quiet.
-    fn say_stored(&mut self, quiet: bool)
-        requires { needed_room ≤ self.old.room }
-        ensures endpoint { self.new.endpoint ≡ self.old.endpoint }
-        ensures said { self.new.out ≡ self.old.out ++ unless_quiet quiet (codes "STORED\r\n") }
-        ensures room { reply_room ≤ self.new.room }
-    {
-        if !quiet {
-            self.out.write(b"STORED\r\n");
         }
     }
 

@@ -1,5 +1,5 @@
 use Rattle.std.specs.List.{list_all}
-use Rattle.std.proofs.Common.{◌≡◌, ◌∷◌, true, false, sym, ap, ◌∙◌, refl, arith}
+use Rattle.std.proofs.Common.{◌≡◌, ◌∷◌, false, sym, ap, ◌∙◌}
 use Rattle.tc_item.specs.KeyRule.{is_key}
 use Rattle.tc_grammar.specs.Retrieval.{keys_of}
 use Rattle.tc_grammar.proofs.GoodKeys.{keys_of-empty, keys_of-none, keys_of-all, bad_key_front, bad_key_behind}

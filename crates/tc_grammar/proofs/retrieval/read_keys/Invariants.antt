@@ -3,11 +3,11 @@ use Rattle.std.proofs.Common.{◌≡◌, ◌++◌, length}
 use Rattle.tc_item.specs.KeyRule.{is_key}
 use Rattle.tc_grammar.proofs.retrieval.read_keys.Given as goal
 
-abbrev pub invariant-loop-token : goal.invariant-loop-token
-invariant-loop-token l = record {
+abbrev pub invariant-loop-word : goal.invariant-loop-word
+invariant-loop-word l = record {
   all : l.keys ++ l.tokens ≡ l.initial.tokens;
   good : list_all is_key l.tokens ≡ list_all is_key l.initial.tokens;
 }
 
-abbrev pub decreases-loop-token : goal.decreases-loop-token
-decreases-loop-token l = length l.tokens
+abbrev pub decreases-loop-word : goal.decreases-loop-word
+decreases-loop-word l = length l.tokens
