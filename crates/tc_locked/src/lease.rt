@@ -11,6 +11,10 @@ use tc_plain::{Cache, LeftOver};
 /// tenth of a millisecond, or later where one command is long: others who wait have their turn.
 const MOST: usize = 128;
 
+/// A command of so many keys is long: what comes before and after it, its line and its reply, takes about as
+/// long as itself and needs no lock, so the lock is given back at once.
+const LONG: usize = 8;
+
 /// What a command costs, by its keys.
 fn cost_of(command: &Command) -> usize {
     match command {
@@ -70,7 +74,7 @@ impl<'a, C: Cache, N: Naming> Lease<'a, C, N> {
     }
 
     /// Keeps the lock of this user after a command that left this over, or gives it back where enough
-    /// was done under it.
+    /// was done under it, or the command was long.
     pub(crate) fn keep(
         &mut self,
         alloc: Global,
@@ -79,13 +83,14 @@ impl<'a, C: Cache, N: Naming> Lease<'a, C, N> {
         command: &Command,
         left: Vec<LeftOver>,
     ) {
+        let cost = cost_of(command);
         self.user = user;
-        self.done = self.done.saturating_add(cost_of(command));
+        self.done = self.done.saturating_add(cost);
         self.guard = Some(guard);
         if !left.is_empty() {
             self.left = left;
         }
-        if self.done >= MOST {
+        if self.done >= MOST || cost >= LONG {
             self.release(alloc);
         }
     }
