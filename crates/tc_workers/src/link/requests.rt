@@ -220,6 +220,8 @@ impl<W: Wire + Drop> Link<W> {
         // A reply that was refused says so itself.
         let _ = self.session.answer(command, &receipt.slip.outcome);
         self.last = number_after(self.last, receipt.slip.number);
+        // With nothing unread there is no request to ask for.
+        self.rests = self.session.kept() == 0;
         drop(receipt);
     }
 }
