@@ -236,10 +236,10 @@ impl<C: Cache> Book<C> {
         conn: u32,
         command: &Command,
         kept: Command,
-    ) -> Result<Slip, CallFault>
+    ) -> Result<Called, CallFault>
         requires seat { seat_no < length self.old.counts }
         requires copy { kept ≡ command.now }
-        ensures slip { IfOk result (λ slip. slip ≡ slip_of self.old
+        ensures slip { IfOk result (λ called. called.slip ≡ slip_of self.old
             (entry_of self.old seat_no now conn command.now)) }
         ensures entered { OnOk result (self.new
             ≡ after_call self.old (entry_of self.old seat_no now conn command.now)) }
@@ -264,12 +264,16 @@ impl<C: Cache> Book<C> {
         );
         self.moment = moment;
         self.used += 1;
-        Ok(Slip {
+        let slip = Slip {
             page: self.turns,
             number,
             tally,
             moment,
             outcome: answer,
+        };
+        Ok(Called {
+            slip,
+            left: Vec::new(alloc),
         })
     }
 
@@ -381,13 +385,10 @@ impl<C: Cache> Book<C> {
         ensures unchanged_on_err { OnErr result (self.new ≡ self.old) }
     {
         if self.used < journal {
-            let slip = self.call(alloc, seat_no, now, conn, command, kept)?;
-            return Ok(Called {
-                slip,
-                left: Vec::new(alloc),
-            });
+            self.call(alloc, seat_no, now, conn, command, kept)
+        } else {
+            self.call_turning(alloc, seat_no, now, conn, command, kept)
         }
-        self.call_turning(alloc, seat_no, now, conn, command, kept)
     }
 
     /// The entry that was made last.
