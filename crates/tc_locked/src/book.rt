@@ -106,21 +106,19 @@ fn count_entry(number: &mut u64, counts: &mut Vec<u64>, seat_no: usize) -> (u64,
     (*number, tally)
 }
 
-/// Enters a call that the cache did: counts it, puts its entry behind the first `used`, and gives what
-/// its caller is told.
+/// Enters a call that the cache did: counts it, puts its entry behind the first `used`, and gives the
+/// entry's number and tally.
 fn enter(
     entries: &mut Vec<Entry>,
     used: usize,
     number: &mut u64,
     counts: &mut Vec<u64>,
-    page: u64,
     seat_no: usize,
     moment: Moment,
     conn: u32,
     kept: Command,
-    answer: Outcome,
     outcome: Outcome,
-) -> Slip
+) -> (u64, u64)
     requires within { used ≤ length entries.old.items }
     requires room { length entries.old.items ≤ used
         → vec_len entries.old < vec_capacity entries.old }
@@ -140,13 +138,8 @@ fn enter(
     ensures number { number.new ≡ number.old + 1 }
     ensures counts { counts.new.items
         ≡ slice_set counts.old.items seat_no (slice_index counts.old.items seat_no + 1) }
-    ensures slip { result ≡ record {
-      page = page;
-      number = number.old + 1;
-      tally = slice_index counts.old.items seat_no + 1;
-      moment = moment;
-      outcome = answer;
-    } }
+    ensures given { (result.0 ≡ number.old + 1)
+        × (result.1 ≡ slice_index counts.old.items seat_no + 1) }
 {
     let (number, tally) = count_entry(number, counts, seat_no);
     let entry = Entry {
@@ -159,13 +152,7 @@ fn enter(
         outcome,
     };
     put(entries, used, entry);
-    Slip {
-        page,
-        number,
-        tally,
-        moment,
-        outcome: answer,
-    }
+    (number, tally)
 }
 
 /// What can fail before the cache is called: a number for the entry, and room for it behind the first
@@ -249,10 +236,10 @@ impl<C: Cache> Book<C> {
         conn: u32,
         command: &Command,
         kept: Command,
-    ) -> Result<Slip, CallFault>
+    ) -> Result<Called, CallFault>
         requires seat { seat_no < length self.old.counts }
         requires copy { kept ≡ command.now }
-        ensures slip { IfOk result (λ slip. slip ≡ slip_of self.old
+        ensures slip { IfOk result (λ called. called.slip ≡ slip_of self.old
             (entry_of self.old seat_no now conn command.now)) }
         ensures entered { OnOk result (self.new
             ≡ after_call self.old (entry_of self.old seat_no now conn command.now)) }
@@ -264,22 +251,30 @@ impl<C: Cache> Book<C> {
         let moment = self.moment.later(now);
         make_ready(&mut self.entries, self.used, self.number)?;
         let (answer, outcome) = self.cache.act(alloc, moment, command)?;
-        let slip = enter(
+        let (number, tally) = enter(
             &mut self.entries,
             self.used,
             &mut self.number,
             &mut self.counts,
-            self.turns,
             seat_no,
             moment,
             conn,
             kept,
-            answer,
             outcome,
         );
         self.moment = moment;
         self.used += 1;
-        Ok(slip)
+        let slip = Slip {
+            page: self.turns,
+            number,
+            tally,
+            moment,
+            outcome: answer,
+        };
+        Ok(Called {
+            slip,
+            left: Vec::new(alloc),
+        })
     }
 
     /// Deferred work of the cache, at most `limit` pieces of it (`Cache::maintain`).
@@ -342,21 +337,26 @@ impl<C: Cache> Book<C> {
         )?;
         left.push_reserved(self.cache.turn());
         self.turns += 1;
-        let slip = enter(
+        let (number, tally) = enter(
             &mut self.entries,
             0,
             &mut self.number,
             &mut self.counts,
-            self.turns,
             seat_no,
             moment,
             conn,
             kept,
-            answer,
             outcome,
         );
         self.moment = moment;
         self.used = 1;
+        let slip = Slip {
+            page: self.turns,
+            number,
+            tally,
+            moment,
+            outcome: answer,
+        };
         Ok(Called { slip, left })
     }
 
@@ -385,13 +385,10 @@ impl<C: Cache> Book<C> {
         ensures unchanged_on_err { OnErr result (self.new ≡ self.old) }
     {
         if self.used < journal {
-            let slip = self.call(alloc, seat_no, now, conn, command, kept)?;
-            return Ok(Called {
-                slip,
-                left: Vec::new(alloc),
-            });
+            self.call(alloc, seat_no, now, conn, command, kept)
+        } else {
+            self.call_turning(alloc, seat_no, now, conn, command, kept)
         }
-        self.call_turning(alloc, seat_no, now, conn, command, kept)
     }
 
     /// The entry that was made last.

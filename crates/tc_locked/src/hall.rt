@@ -92,13 +92,12 @@ impl<C: Cache, N: Naming> Hall<C, N> {
             ≡ refusals.old ++ refusal user conn fault command.now ∷ []) }
         ensures none_refused { OnOk result (refusals.new ≡ refusals.old) }
     {
-        match self.try_call(rt, alloc, seat, lease, user, now, conn, command, held) {
-            Ok(receipt) => Ok(receipt),
-            Err(fault) => {
-                refusals.add(Refused { user, conn, fault }, command);
-                Err(fault)
-            }
+        let called = self.try_call(rt, alloc, seat, lease, user, now, conn, command, held);
+        if let Err(fault) = &called {
+            let fault = *fault;
+            refusals.add(Refused { user, conn, fault }, command);
         }
+        called
     }
 
     /// The call itself.

@@ -54,6 +54,7 @@
 //! want of memory, that a thread gets on, or that memory suffices.
 #![tactic(auto)]
 
+mod accounts;
 mod admitted;
 mod balance;
 mod crew;

@@ -8,10 +8,9 @@ ghost use Rattle.tc_workers.specs.Turns.{longest_piece, most_kept};
 
 mod requests;
 
+use crate::accounts::Holding;
 use crate::admitted::Admitted;
-use crate::dealing::Backlog;
 use crate::guesses::Guesses;
-use crate::half_blocks::Part;
 use crate::homes::Homes;
 use crate::pace::{Onward, Pace};
 use crate::wire::{Change, Got, Put, Remark, Wire};
@@ -39,7 +38,7 @@ pub(crate) struct Link<W: Wire + Drop> {
     pub(crate) conn: u32,
     wire: W,
     session: Session,
-    /// No request was asked for yet, or the last one that was asked for isn't whole.
+    /// Nothing is unread, or the last request that was asked for isn't whole.
     rests: bool,
     /// When memory was refused to the last look for a request, where it was refused to each since then.
     refused: Option<Moment>,
@@ -203,20 +202,12 @@ impl<W: Wire + Drop> Link<W> {
         self.admitted.most_out = most_out;
     }
 
-    /// How many bytes wait to be sent to it, and whose it is for the deal.
-    pub(crate) fn backlog(&self) -> Backlog {
-        Backlog {
+    /// Whose it is for the deal, and what is kept for it.
+    pub(crate) fn holding(&self) -> Holding {
+        Holding {
             user: self.user(),
-            bytes: self.session.about_out(),
-        }
-    }
-
-    /// How many of its bytes are unread, whose it is for the deal, and its key.
-    pub(crate) fn part(&self, key: usize) -> Part {
-        Part {
-            user: self.user(),
-            key,
-            bytes: self.session.kept(),
+            unread: self.session.kept(),
+            unsent: self.session.about_out(),
         }
     }
 
@@ -401,9 +392,17 @@ impl<W: Wire + Drop> Link<W> {
         ensures { self.new ≡ self.old }
     {
         if !self.is_told {
-            self.is_told = true;
-            self.wire.set_user(user);
+            self.tell_user(user);
         }
+    }
+
+    /// Tells the wire as which user it logged in.
+    #[cold]
+    fn tell_user(&mut self, user: UserNo)
+        ensures { self.new ≡ self.old }
+    {
+        self.is_told = true;
+        self.wire.set_user(user);
     }
 
     /// Writes until all is out, the wire takes no more, or it took so much that others are to go on

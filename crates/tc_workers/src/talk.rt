@@ -5,11 +5,10 @@ ghost use Rattle.tc_workers.specs.Talks.{Talks, Carries};
 ghost use Rattle.tc_workers.specs.Lives.{IsOpened, IsOpen, HasTalk};
 ghost use Rattle.tc_workers.specs.Turns.{most_kept};
 
+use crate::accounts::Holding;
 use crate::admitted::Admitted;
-use crate::dealing::Backlog;
 use crate::desk::Desk;
 use crate::gate::Gate;
-use crate::half_blocks::Part;
 use crate::homes::Homes;
 use crate::link::Link;
 use crate::pace::{Onward, Pace};
@@ -138,14 +137,9 @@ impl<W: Wire + Drop> Talk<W> {
         self.link.set_most_out(most_out);
     }
 
-    /// How many bytes wait to be sent to it, and whose it is for the deal.
-    pub(crate) fn backlog(&self) -> Backlog {
-        self.link.backlog()
-    }
-
-    /// How many of its bytes are unread, whose it is for the deal, and its key.
-    pub(crate) fn part(&self, key: usize) -> Part {
-        self.link.part(key)
+    /// Whose it is for the deal, and what is kept for it.
+    pub(crate) fn holding(&self) -> Holding {
+        self.link.holding()
     }
 
     /// Has its wire end, since it holds up others of its user.

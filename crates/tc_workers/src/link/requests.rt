@@ -218,6 +218,8 @@ impl<W: Wire + Drop> Link<W> {
             return;
         };
         self.last = number_after(self.last, receipt.slip.number);
+        // With nothing unread there is no request to ask for.
+        self.rests = self.session.kept() == 0;
         // It is written once no lock is held; one that was refused says so itself.
         let _ = self.session.answer_later(command, receipt.slip.outcome);
     }

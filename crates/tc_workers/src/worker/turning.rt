@@ -3,9 +3,10 @@ ghost use Rattle.std.specs.Prelude.{◌≡◌, ◌*◌, List, IfSome, IfNone};
 ghost use Rattle.std.specs.Prelude.{Some, None};
 ghost use Rattle.tc_users.specs.declared.users.UserSpec.{UserSpec};
 ghost use Rattle.tc_workers.specs.Turns.{Serves, GoesOnOrEnds, goes_on};
+ghost use Rattle.tc_workers.specs.SilentTurns.{ServesSilently};
 
+use crate::accounts::Holding;
 use crate::admitted::Admitted;
-use crate::dealing::{Backlog, PIECES};
 use crate::gate::Gate;
 use crate::half_blocks::Reads;
 use crate::listed::{Leaving, Listed};
@@ -16,8 +17,8 @@ use crate::worker::Worker;
 use std::sync::Wait;
 use tc_item::Moment;
 use tc_locked::{Clock, Hall, Lease, Naming};
-use tc_plain::{Cache, Progress};
-use tc_users::{UserNo, Users};
+use tc_plain::Cache;
+use tc_users::Users;
 
 impl<W: Wire + Drop, N: Naming> Worker<W, N> {
     /// Goes over the listed connections, in the order in which they came to the server: each reads, once
@@ -56,8 +57,7 @@ impl<W: Wire + Drop, N: Naming> Worker<W, N> {
         ensures { self.new ≡ self.old }
     {
         let sole = self.sole_user();
-        self.dealing.begin(users, sole);
-        self.half_blocks.open(users);
+        self.accounts.begin(users, sole);
     }
 
     /// The user whose connections alone are listed.
@@ -91,10 +91,11 @@ impl<W: Wire + Drop, N: Naming> Worker<W, N> {
     /// The first part of the turn of each listed connection.
     fn take_all_in<R: Wait, C: Cache, G: Gate>(&mut self, service: &Service<'_, R, C, N, G>)
         ensures listed { self.new.due ≡ self.old.due }
-        ensures serves { (rows : List UserSpec) → Serves 0 rows self.old self.new }
+        ensures serves { ServesSilently self.old self.new }
     {
+        let now = service.clock.now();
         for at in 0..self.listed.len() {
-            self.begin_visit(service, at);
+            self.begin_visit(service, now, at);
         }
     }
 
@@ -102,15 +103,16 @@ impl<W: Wire + Drop, N: Naming> Worker<W, N> {
     fn begin_visit<R: Wait, C: Cache, G: Gate>(
         &mut self,
         service: &Service<'_, R, C, N, G>,
+        now: Moment,
         at: usize,
     )
         ensures listed { self.new.due ≡ self.old.due }
-        ensures serves { (rows : List UserSpec) → Serves 0 rows self.old self.new }
+        ensures serves { ServesSilently self.old self.new }
     {
-        let Some(key) = self.admit(service, at) else {
+        let Some((key, before)) = self.admit(service, now, at) else {
             return;
         };
-        self.take_in(service.rt, service.clock.now(), key);
+        self.take_in(service.rt, now, key, before);
     }
 
     /// The second part of the turn of each listed connection.
@@ -134,89 +136,62 @@ impl<W: Wire + Drop, N: Naming> Worker<W, N> {
         ensures listed { self.new.due ≡ self.old.due }
         ensures serves { Serves 16 service.now.users.now self.old self.new }
     {
-        let Some(key) = self.admit_again(at) else {
+        let Some((key, before)) = self.admit_again(at) else {
             return;
         };
-        self.do_requests(service, lease, key);
+        self.do_requests(service, lease, key, before);
     }
 
-    /// The key of the connection at a place of the list, where it was admitted to this turn and its user
-    /// still has a share of it; else it is left out.
-    fn admit_again(&mut self, at: usize) -> Option<usize>
+    /// The key of the connection at a place of the list, and what is kept for it, where it was admitted to
+    /// this turn and its user still has a share of it; else it is left out.
+    fn admit_again(&mut self, at: usize) -> Option<(usize, Holding)>
         ensures { self.new ≡ self.old }
     {
-        let listed = *self.listed.get(at)?;
+        let listed = self.listed.get_mut(at)?;
         if !listed.is_admitted() {
             return None;
         }
-        let user = self.user_of(listed.key);
-        let is_served = self.dealing.serves(user);
-        self.note_served(at, is_served);
+        let link = self.links.get_mut(listed.key)?;
+        let holding = link.holding();
+        let is_served = self.accounts.has_share(holding.user);
+        listed.note(is_served, self.accounts.turn());
         if !is_served {
             return None;
         }
-        let most_out = self.dealing.most_out(self.backlog_of(listed.key));
-        self.tell_most_out(listed.key, most_out);
-        Some(listed.key)
+        link.set_most_out(self.accounts.most_out(holding));
+        Some((listed.key, holding))
     }
 
-    /// The key of the connection at a place of the list, where it is admitted to this turn; else it is
-    /// left out.
+    /// The key of the connection at a place of the list, and what is kept for it, where it is admitted to
+    /// this turn; else it is left out. One that held it up is to end.
     fn admit<R: Wait, C: Cache, G: Gate>(
         &mut self,
         service: &Service<'_, R, C, N, G>,
+        now: Moment,
         at: usize,
-    ) -> Option<usize>
+    ) -> Option<(usize, Holding)>
         ensures { self.new ≡ self.old }
     {
-        let key = self.listed.get(at)?.key;
-        let user = self.user_of(key);
-        let now = service.clock.now();
-        let is_served = self.is_served(service, user, now);
-        self.note_admitted(at, is_served);
+        let listed = self.listed.get_mut(at)?;
+        let key = listed.key;
+        let link = self.links.get_mut(key)?;
+        let holding = link.holding();
+        let is_served = self.accounts.serves(service, holding.user, now);
+        listed.admit(is_served, self.accounts.turn());
         if !is_served {
             return None;
         }
-        let most_out = self.dealing.most_out(self.backlog_of(key));
-        let is_read = self.is_read(service, key, now);
-        let admitted = Admitted {
-            user,
+        let reads = self.accounts.reads(key, holding, now);
+        link.admit(Admitted {
+            user: holding.user,
             now,
-            most_out,
-            is_read,
-        };
-        self.tell_admitted(key, admitted);
-        Some(key)
-    }
-
-    /// How many bytes wait to be sent to a key's connection.
-    fn backlog_of(&self, key: usize) -> Backlog {
-        match self.links.get(key) {
-            Some(link) => link.backlog(),
-            None => Backlog { user: 0, bytes: 0 },
+            most_out: self.accounts.most_out(holding),
+            is_read: reads != Reads::No,
+        });
+        if let Reads::For(other) = reads {
+            self.give_up(service, other);
         }
-    }
-
-    /// Whether a key's connection is read now. One that held it up is to end.
-    fn is_read<R: Wait, C: Cache, G: Gate>(
-        &mut self,
-        service: &Service<'_, R, C, N, G>,
-        key: usize,
-        now: Moment,
-    ) -> bool
-        ensures { self.new ≡ self.old }
-    {
-        let Some(link) = self.links.get(key) else {
-            return true;
-        };
-        match self.half_blocks.reads(link.part(key), now) {
-            Reads::Yes => true,
-            Reads::For(other) => {
-                self.give_up(service, other);
-                true
-            }
-            Reads::No => false,
-        }
+        Some((key, holding))
     }
 
     /// Has a key's connection end, since it holds up others of its user.
@@ -228,86 +203,9 @@ impl<W: Wire + Drop, N: Naming> Worker<W, N> {
         }
     }
 
-    /// Tells a connection that it is admitted.
-    fn tell_admitted(&mut self, key: usize, admitted: Admitted)
-        ensures { self.new ≡ self.old }
-    {
-        if let Some(link) = self.links.get_mut(key) {
-            link.admit(admitted);
-        }
-    }
-
-    /// Tells a connection with how many bytes that wait to be sent it is not full yet.
-    fn tell_most_out(&mut self, key: usize, most_out: usize)
-        ensures { self.new ≡ self.old }
-    {
-        if let Some(link) = self.links.get_mut(key) {
-            link.set_most_out(most_out);
-        }
-    }
-
-    /// Whether a user is served in this turn.
-    fn is_served<R: Wait, C: Cache, G: Gate>(
-        &mut self,
-        service: &Service<'_, R, C, N, G>,
-        user: usize,
-        now: Moment,
-    ) -> bool
-        ensures { self.new ≡ self.old }
-    {
-        if !self.dealing.serves(user) {
-            return false;
-        }
-        self.catch_up(service, user, now)
-    }
-
-    /// Notes whether the connection at a place of the list is admitted to this turn.
-    fn note_admitted(&mut self, at: usize, is_admitted: bool)
-        ensures { self.new ≡ self.old }
-    {
-        let turn = self.dealing.turn();
-        if let Some(listed) = self.listed.get_mut(at) {
-            listed.admit(is_admitted, turn);
-        }
-    }
-
-    /// Notes whether the connection at a place of the list is served in this turn.
-    fn note_served(&mut self, at: usize, is_served: bool)
-        ensures { self.new ≡ self.old }
-    {
-        let turn = self.dealing.turn();
-        if let Some(listed) = self.listed.get_mut(at) {
-            listed.note(is_served, turn);
-        }
-    }
-
-    /// Has a user's cache maintained where nothing says that none of its deferred work is left at this
-    /// moment: all items that are due in one second are much work, which the first command that meets that
-    /// second would do at once, while others wait. Whether the user may be served.
-    fn catch_up<R: Wait, C: Cache, G: Gate>(
-        &mut self,
-        service: &Service<'_, R, C, N, G>,
-        user: usize,
-        now: Moment,
-    ) -> bool
-        ensures { self.new ≡ self.old }
-    {
-        let Ok(number) = u32::try_from(user) else {
-            return true;
-        };
-        if !self.dealing.is_behind(user, now) {
-            return true;
-        }
-        let progress = service
-            .hall
-            .maintain(service.rt, UserNo::new(number), now, PIECES);
-        self.dealing.note_progress(user, now, progress);
-        progress == Progress::Done
-    }
-
     /// The last part of the turn of each listed connection, and how long the inlet may wait.
     fn give_all_out(&mut self, now: Moment) -> Patience
-        ensures serves { (rows : List UserSpec) → Serves 0 rows self.old self.new }
+        ensures serves { ServesSilently self.old self.new }
     {
         let mut one_got_on = false;
         let mut at = 0;
@@ -335,26 +233,25 @@ impl<W: Wire + Drop, N: Naming> Worker<W, N> {
     }
 
     /// The first part of one connection's turn. Where it is done it is dropped.
-    fn take_in<R: Wait>(&mut self, rt: &R, now: Moment, key: usize)
+    fn take_in<R: Wait>(&mut self, rt: &R, now: Moment, key: usize, before: Holding)
         ensures listed { self.new.due ≡ self.old.due }
-        ensures serves { (rows : List UserSpec) → Serves 0 rows self.old self.new }
+        ensures serves { ServesSilently self.old self.new }
     {
-        if !self.read(rt, now, key) {
-            drop(self.remove(key));
+        if !self.read(rt, now, key, before) {
+            self.let_go(key);
         }
     }
 
-    /// Reads on one connection. Whether it goes on.
-    fn read<R: Wait>(&mut self, rt: &R, now: Moment, key: usize) -> bool
+    /// Reads on one connection, for which so much was kept. Whether it goes on.
+    fn read<R: Wait>(&mut self, rt: &R, now: Moment, key: usize, before: Holding) -> bool
         ensures listed { self.new.due ≡ self.old.due }
         ensures serves { (rows : List UserSpec) → GoesOnOrEnds 0 rows key result self.old self.new }
     {
         match self.links.get_mut(key) {
             Some(link) => {
-                let unread = link.part(key);
                 let goes_on = link.take_in(rt, self.buffer.as_mut_slice());
-                self.dealing.charge(unread.user, link.work());
-                self.half_blocks.note(unread, link.part(key), now);
+                self.accounts
+                    .note(key, before, link.holding(), link.work(), now);
                 goes_on
             }
             None => true,
@@ -367,33 +264,34 @@ impl<W: Wire + Drop, N: Naming> Worker<W, N> {
         service: &Service<'a, R, C, N, G>,
         lease: &mut Lease<'a, C, N>,
         key: usize,
+        before: Holding,
     )
         ensures listed { self.new.due ≡ self.old.due }
         ensures serves { Serves 16 service.now.users.now self.old self.new }
     {
-        if !self.serve(service, lease, key) {
-            drop(self.remove(key));
+        if !self.serve(service, lease, key, before) {
+            self.let_go(key);
         }
     }
 
-    /// Does requests, and writes where much waits, on one connection. Whether it goes on.
+    /// Does requests, and writes where much waits, on one connection, for which so much was kept. Whether
+    /// it goes on.
     fn serve<'a, R: Wait, C: Cache, G: Gate>(
         &mut self,
         service: &Service<'a, R, C, N, G>,
         lease: &mut Lease<'a, C, N>,
         key: usize,
+        before: Holding,
     ) -> bool
         ensures listed { self.new.due ≡ self.old.due }
         ensures serves { GoesOnOrEnds 16 service.now.users.now key result self.old self.new }
     {
         match self.links.get_mut(key) {
             Some(link) => {
-                let (before, unread) = (link.backlog(), link.part(key));
                 let goes_on = link.do_requests(service, &mut self.desk, lease);
-                self.dealing.charge(before.user, link.work());
-                self.dealing.note_backlog(before, link.backlog());
-                self.half_blocks
-                    .note(unread, link.part(key), service.clock.now());
+                let now = service.clock.now();
+                self.accounts
+                    .note(key, before, link.holding(), link.work(), now);
                 goes_on
             }
             None => true,
@@ -403,19 +301,24 @@ impl<W: Wire + Drop, N: Naming> Worker<W, N> {
     /// The last part of the turn of a listed connection. One that was left out gets on in the next.
     fn end_visit(&mut self, now: Moment, listed: Listed) -> Onward
         ensures listed { self.new.due ≡ self.old.due }
-        ensures serves { (rows : List UserSpec) → Serves 0 rows self.old self.new }
+        ensures serves { ServesSilently self.old self.new }
     {
-        if listed.waits() {
+        if self.waits(listed) {
             return Onward::GoesOn(Pace::GetsOn);
         }
         self.give_out(now, listed.key)
+    }
+
+    /// Whether a listed connection was left out of the turn. One that was dropped in it was not.
+    fn waits(&self, listed: Listed) -> bool {
+        listed.waits() && self.links.contains(listed.key)
     }
 
     /// The last part of one connection's turn. Where it is done it is dropped, where it rests it is
     /// told so, and where another worker is to serve it, it is done with here.
     fn give_out(&mut self, now: Moment, key: usize) -> Onward
         ensures listed { self.new.due ≡ self.old.due }
-        ensures serves { (rows : List UserSpec) → Serves 0 rows self.old self.new }
+        ensures serves { ServesSilently self.old self.new }
     {
         let Some(onward) = self.write(now, key) else {
             return Onward::Done;
@@ -423,7 +326,7 @@ impl<W: Wire + Drop, N: Naming> Worker<W, N> {
         match onward {
             Onward::GoesOn(pace) => self.leave_or_stay(key, pace),
             Onward::Done => {
-                drop(self.remove(key));
+                self.let_go(key);
                 Onward::Done
             }
         }
@@ -439,18 +342,17 @@ impl<W: Wire + Drop, N: Naming> Worker<W, N> {
         let Some(link) = self.links.get_mut(key) else {
             return None;
         };
-        let (before, unread) = (link.backlog(), link.part(key));
+        let before = link.holding();
         let onward = link.give_out(now, self.buffer.as_mut_slice());
-        self.dealing.charge(before.user, link.work());
-        self.dealing.note_backlog(before, link.backlog());
-        self.half_blocks.note(unread, link.part(key), now);
+        self.accounts
+            .note(key, before, link.holding(), link.work(), now);
         Some(onward)
     }
 
     /// What a turn of this pace leaves of a connection that goes on.
     fn leave_or_stay(&mut self, key: usize, pace: Pace) -> Onward
         ensures listed { self.new.due ≡ self.old.due }
-        ensures serves { (rows : List UserSpec) → Serves 0 rows self.old self.new }
+        ensures serves { ServesSilently self.old self.new }
     {
         let Some(link) = self.links.get_mut(key) else {
             return Onward::Done;

@@ -43,10 +43,11 @@ pub enum Guests {
     AliceAndBob,
 }
 
-/// How many bytes each connection was sent; bob's is the last.
+/// How many bytes each connection was sent; bob's is the last. And whether all wires fail.
 #[derive(Drop)]
 pub(super) struct Ledger {
     sent: Vec<AtomicU64>,
+    over: AtomicU64,
 }
 
 impl Ledger {
@@ -55,7 +56,19 @@ impl Ledger {
         for _ in 0..MANY + 1 {
             sent.push(AtomicU64::new(0))?;
         }
-        Ok(Ledger { sent })
+        Ok(Ledger {
+            sent,
+            over: AtomicU64::new(0),
+        })
+    }
+
+    /// From now on all wires fail.
+    fn end(&self) {
+        self.over.store(1, SeqCst);
+    }
+
+    fn is_over(&self) -> bool {
+        self.over.load(SeqCst) == 1
     }
 
     fn add(&self, at: usize, bytes: usize) {
@@ -99,6 +112,9 @@ impl Wire for Asking {
     ghost took = { λ _. None };
 
     fn read(&mut self, into: &mut [u8]) -> Got {
+        if self.ledger.is_over() {
+            return Got::Failed;
+        }
         let n = self.next.len().min(into.len());
         let part = &mut into[..n];
         part.copy_from_slice(&self.next[..n]);
@@ -185,8 +201,25 @@ fn turn<C: Cache, N: Naming, R: Wait + Abort>(
     assert!(rt; ledger.flushed() == flushed && ledger.sent(MANY) == bob);
 }
 
+/// Turns in which all wires fail, also those of connections that were left out of the turn before: none
+/// of them is kept or listed.
+fn fail_all<C: Cache, N: Naming, R: Wait + Abort>(
+    rt: &R,
+    hall: &Hall<C, N>,
+    users: &Users,
+    worker: &mut Worker<Asking, N>,
+    ledger: &Ledger,
+) {
+    ledger.end();
+    for _ in 0..MANY {
+        worker.turn(rt, hall, users, &Clock::new(), &Open);
+    }
+    let patience = worker.turn(rt, hall, users, &Clock::new(), &Open);
+    assert!(rt; worker.is_idle() && patience == Patience::Long);
+}
+
 /// Alone, all of alice's connections are served in a turn. Beside bob, whom each turn serves, one is,
-/// and each comes once before another comes twice.
+/// and each comes once before another comes twice. In the end all wires fail.
 pub fn deal<C: Cache, N: Naming, R: Wait + Abort>(
     rt: &R,
     alloc: Global,
@@ -207,6 +240,7 @@ pub fn deal<C: Cache, N: Naming, R: Wait + Abort>(
         let bob = LOGGED_IN + MISSED * n as u64;
         turn(rt, hall, users, &mut worker, &ledger, n, bob);
     }
+    fail_all(rt, hall, users, &mut worker, &ledger);
     Ok(())
 }
 

@@ -7,7 +7,7 @@ pub returns-then-not-serve-clause-serves : goal.returns-then-not-serve-clause-se
 returns-then-not-serve-clause-serves g c =
     let Went = λ (on : Bool).
     GoesOnOrEnds 16 c.args.service.now.users.now c.args.key on c.args.self.now c.serve.new.self in
-    ends-dropped (subst Went c.if-not-serve.true c.serve.ensures.serves) c.remove.ensures.desk c.remove.ensures.gone
+    ends-dropped (subst Went c.if-not-serve.true c.serve.ensures.serves) c.let_go.ensures.desk c.let_go.ensures.gone
 
 pub returns-else-not-serve-clause-serves : goal.returns-else-not-serve-clause-serves
 returns-else-not-serve-clause-serves g c =

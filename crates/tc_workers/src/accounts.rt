@@ -1,0 +1,146 @@
+//! The accounts of a worker's users: how turns are dealt out among them, and their half blocks.
+use crate::dealing::{Backlog, Dealing, PIECES};
+use crate::gate::Gate;
+use crate::half_blocks::{HalfBlocks, Part, Reads};
+use crate::service::Service;
+use std::alloc::Global;
+use std::sync::Wait;
+use tc_item::Moment;
+use tc_locked::Naming;
+use tc_plain::{Cache, Progress};
+use tc_users::UserNo;
+
+/// Whose a connection is for the deal, and what is kept for it.
+#[derive(Clone, Copy, Debug)]
+pub(crate) struct Holding {
+    /// Its user's number, 0 before it has logged in.
+    pub(crate) user: usize,
+    /// How many of its bytes are unread.
+    pub(crate) unread: usize,
+    /// How many bytes wait to be sent to it.
+    pub(crate) unsent: usize,
+}
+
+impl Holding {
+    fn backlog(&self) -> Backlog {
+        Backlog {
+            user: self.user,
+            bytes: self.unsent,
+        }
+    }
+
+    fn part(&self, key: usize) -> Part {
+        Part {
+            user: self.user,
+            key,
+            bytes: self.unread,
+        }
+    }
+}
+
+/// Both accounts of all users.
+#[derive(Drop)]
+pub(crate) struct Accounts {
+    dealing: Dealing,
+    half_blocks: HalfBlocks,
+}
+
+impl Accounts {
+    /// Of a worker with no connection.
+    pub(crate) fn new(alloc: Global) -> Accounts {
+        Accounts {
+            dealing: Dealing::new(alloc),
+            half_blocks: HalfBlocks::new(alloc),
+        }
+    }
+
+    /// Begins a turn in which `sole` alone has something to do, or several users of so many.
+    pub(crate) fn begin(&mut self, users: usize, sole: Option<usize>) {
+        self.dealing.begin(users, sole);
+        self.half_blocks.open(users);
+    }
+
+    /// The turn that began last.
+    pub(crate) fn turn(&self) -> u64 {
+        self.dealing.turn()
+    }
+
+    /// A key's connection came.
+    pub(crate) fn enter(&mut self, key: usize, holding: Holding) {
+        self.dealing.enter(holding.backlog());
+        self.half_blocks.enter(holding.part(key));
+    }
+
+    /// A key's connection goes. What waits for it is its user's no more.
+    pub(crate) fn leave(&mut self, key: usize, holding: Holding) {
+        self.dealing.leave(holding.backlog());
+        self.half_blocks.leave(holding.part(key));
+    }
+
+    /// Notes so much work on a key's connection, and what it left of that.
+    pub(crate) fn note(
+        &mut self,
+        key: usize,
+        before: Holding,
+        after: Holding,
+        work: u64,
+        now: Moment,
+    ) {
+        self.dealing.charge(before.user, work);
+        let is_bound = after.user != before.user;
+        if is_bound || after.unsent != before.unsent {
+            self.dealing.note_backlog(before.backlog(), after.backlog());
+        }
+        if is_bound || after.unread != before.unread {
+            self.half_blocks
+                .note(before.part(key), after.part(key), now);
+        }
+    }
+
+    /// Whether a user has a share of this turn left.
+    pub(crate) fn has_share(&mut self, user: usize) -> bool {
+        self.dealing.serves(user)
+    }
+
+    /// Whether a user is served in this turn.
+    pub(crate) fn serves<R: Wait, C: Cache, N: Naming, G: Gate>(
+        &mut self,
+        service: &Service<'_, R, C, N, G>,
+        user: usize,
+        now: Moment,
+    ) -> bool {
+        self.has_share(user)
+            && (!self.dealing.is_behind(user, now) || self.catch_up(service, user, now))
+    }
+
+    /// Has a user's cache maintained where nothing says that none of its deferred work is left at this
+    /// moment: all items that are due in one second are much work, which the first command that meets that
+    /// second would do at once, while others wait. Whether the user may be served.
+    #[cold]
+    #[inline(never)]
+    fn catch_up<R: Wait, C: Cache, N: Naming, G: Gate>(
+        &mut self,
+        service: &Service<'_, R, C, N, G>,
+        user: usize,
+        now: Moment,
+    ) -> bool {
+        let Ok(number) = u32::try_from(user) else {
+            return true;
+        };
+        let progress = service
+            .hall
+            .maintain(service.rt, UserNo::new(number), now, PIECES);
+        self.dealing.note_progress(user, now, progress);
+        progress == Progress::Done
+    }
+
+    /// With how many bytes that wait to be sent a connection is not full yet.
+    pub(crate) fn most_out(&self, holding: Holding) -> usize {
+        self.dealing.most_out(holding.backlog())
+    }
+
+    /// Whether a key's connection is read at this moment.
+    pub(crate) fn reads(&mut self, key: usize, holding: Holding, now: Moment) -> Reads {
+        self.half_blocks.reads(holding.part(key), now)
+    }
+}
