@@ -16,7 +16,7 @@ use std::sync::Arc;
 const BESIDE: usize = 232;
 
 /// Bytes that many hold and none changes. Up to 232 lie in one block of memory with the count of
-/// their holders, of the least of four sizes in which they fit: to read them takes one way to memory,
+/// their holders, of the least of six sizes in which they fit: to read them takes one way to memory,
 /// not two.
 pub struct Blob {
     shared: Shared,
@@ -27,7 +27,9 @@ pub struct Blob {
 enum Shared {
     UpTo8(Arc<ArrayVec<u8, 8>>),
     UpTo40(Arc<ArrayVec<u8, 40>>),
+    UpTo72(Arc<ArrayVec<u8, 72>>),
     UpTo104(Arc<ArrayVec<u8, 104>>),
+    UpTo168(Arc<ArrayVec<u8, 168>>),
     UpTo232(Arc<ArrayVec<u8, 232>>),
     Longer(Arc<Vec<u8>>),
 }
@@ -84,8 +86,10 @@ impl Blob {
         let shared = match bytes.len() {
             0..=8 => Shared::UpTo8(beside(alloc, bytes)?),
             9..=40 => Shared::UpTo40(beside(alloc, bytes)?),
-            41..=104 => Shared::UpTo104(beside(alloc, bytes)?),
-            105..=BESIDE => Shared::UpTo232(beside(alloc, bytes)?),
+            41..=72 => Shared::UpTo72(beside(alloc, bytes)?),
+            73..=104 => Shared::UpTo104(beside(alloc, bytes)?),
+            105..=168 => Shared::UpTo168(beside(alloc, bytes)?),
+            169..=BESIDE => Shared::UpTo232(beside(alloc, bytes)?),
             _ => Shared::Longer(Arc::new(alloc, Vec::from_slice(alloc, bytes)?)?),
         };
         Ok(Blob { shared })
@@ -98,7 +102,9 @@ impl Blob {
         match &self.shared {
             Shared::UpTo8(bytes) => bytes.as_slice(),
             Shared::UpTo40(bytes) => bytes.as_slice(),
+            Shared::UpTo72(bytes) => bytes.as_slice(),
             Shared::UpTo104(bytes) => bytes.as_slice(),
+            Shared::UpTo168(bytes) => bytes.as_slice(),
             Shared::UpTo232(bytes) => bytes.as_slice(),
             Shared::Longer(bytes) => bytes.as_slice(),
         }
@@ -125,7 +131,9 @@ impl Blob {
         let shared = match &self.shared {
             Shared::UpTo8(bytes) => Shared::UpTo8(bytes.clone()?),
             Shared::UpTo40(bytes) => Shared::UpTo40(bytes.clone()?),
+            Shared::UpTo72(bytes) => Shared::UpTo72(bytes.clone()?),
             Shared::UpTo104(bytes) => Shared::UpTo104(bytes.clone()?),
+            Shared::UpTo168(bytes) => Shared::UpTo168(bytes.clone()?),
             Shared::UpTo232(bytes) => Shared::UpTo232(bytes.clone()?),
             Shared::Longer(bytes) => Shared::Longer(bytes.clone()?),
         };

@@ -291,7 +291,7 @@ fn a_blob_shows_the_bytes_that_it_was_made_of(rt: HostRuntime) -> Result<(), Fai
 }
 
 /// Lengths at both ends of each block's room.
-const BLOCK_ENDS: [usize; 9] = [0, 8, 9, 40, 41, 104, 105, 232, 233];
+const BLOCK_ENDS: [usize; 13] = [0, 8, 9, 40, 41, 72, 73, 104, 105, 168, 169, 232, 233];
 
 /// Whether a blob of so many bytes shows them, however it was made, and so does its copy.
 fn is_shown_whole(alloc: Global, length: usize) -> Result<bool, NoMemory> {
