@@ -1,12 +1,15 @@
 -- Where a line ends, what a request takes, and what a longer stream begins with.
-use Rattle.std.specs.Prelude.{◌==◌, option_map, nat_lt, min, IfSome}
+use Rattle.std.specs.Prelude.{◌==◌, not, option_map, nat_lt, min, IfSome}
+use Rattle.std.specs.List.{prefix_len}
+use Rattle.std.proofs.lemmas.Simd.{length-chunk, get_or-chunk}
+use Rattle.std.proofs.lemmas.List.Sums.{prefix_len_passes, prefix_len_stops}
 use Rattle.std.proofs.Common.{◌≡◌, ◌≢◌, ℕ, zero, suc, ◌+◌, ◌-◌, ◌<◌, ◌≤◌, Bool, true, false, cond, List, [], ◌∷◌, ◌++◌, length}
 use Rattle.std.proofs.Common.{get_or, take, drop, Option, Some, None, refl, sym, ◌∙◌, ap, subst, inr, arith, append_assoc}
 use Rattle.std.proofs.Common.{length-append, length-take, length-drop}
 use Rattle.std.proofs.lemmas.Bool.Decides.{nat_tests}
 use Rattle.std.proofs.Math.Nat.{zero-sub, sub-zero, zero-min, min-zero, suc-min-suc}
 use Rattle.std.proofs.lemmas.Bool.{ltb-true, ltb-false, le-ltb, lt-ltb, eqb-true}
-use Rattle.std.proofs.lemmas.List.{get_or-drop, take-append-le, drop-append-le, take-take, append-nil}
+use Rattle.std.proofs.lemmas.List.{get_or-drop, get_or-take, take-append-le, drop-append-le, take-take, append-nil}
 use Rattle.tc_grammar.specs.declared.command.Head.{Head}
 use Rattle.tc_grammar.specs.declared.fault.Fault.TheVariants.{LineTooLong}
 use Rattle.tc_grammar.specs.declared.line.Line.{Line}
@@ -19,12 +22,20 @@ use Rattle.tc_feed.specs.Passing.{passing_of}
 use Rattle.tc_feed.specs.Stream.{Reader, line_length, line_room, block_request, block_of, line_request, first_by, first, trimmed}
 use Rattle.tc_feed.specs.Stream.{left_by, after_first}
 use Rattle.tc_feed.specs.CutStream.{IsFoundInMore, IsCutAnywhere}
-use Rattle.tc_feed.specs.Looking.{needed_of}
+use Rattle.tc_feed.specs.Looking.{needed_of, is_inside}
 use Rattle.tc_feed.specs.Scanned.{IsScanned, IsAwaited, IsRemembered}
 
 pub line_room-is : line_room ≡ 65537
 unfolding line_room
 line_room-is = refl
+
+-- a byte that is not inside a line is a line feed
+is_feed : (x : ℕ) → is_inside x ≡ false → x ≡ 10
+is_feed x e = go (x == 10) refl e
+  where
+    go : (b : Bool) → (x == 10) ≡ b → not b ≡ false → x ≡ 10
+    go true same h = eqb-true x 10 same
+    go false same h = absurd (grind arith)
 
 no_line : (b : Bool) (o : Option ℕ) → cond b (Some 0) (option_map suc o) ≡ None → (b ≡ false) × (o ≡ None)
 no_line true o e = grind arith
@@ -57,6 +68,34 @@ lines_more xs from (suc n) le none clean =
     let same : suc (from + n) ≡ from + suc n = omega arith in
     subst (λ m. line_length (take m xs) ≡ None) same
     (line_more xs (from + n) (omega (arith, le)) here (λ e. clean n (omega arith) (get_or-drop from xs n 0 ∙ e)))
+
+-- no byte of a run is a line feed
+run_clean : (xs : List ℕ) (from n k : ℕ) → from + n ≤ length xs → k < n → k < prefix_len is_inside (take n (drop from xs))
+    → get_or (drop from xs) k 0 ≢ 10
+run_clean xs from n k room lt below e =
+    let here : get_or (take n (drop from xs)) k 0 ≡ 10 = get_or-take n (drop from xs) k 0 lt ∙ e in
+    let inside : is_inside (get_or (take n (drop from xs)) k 0) ≡ true =
+    prefix_len_passes is_inside (take n (drop from xs)) k 0 below in
+    let feed : is_inside (get_or (take n (drop from xs)) k 0) ≡ false = rw here refl in cc (sym inside ∙ feed)
+
+-- a run of bytes that are no line feed, and ends before n, ends the line
+pub line_in_run : (xs : List ℕ) (from n run : ℕ) → from + n ≤ length xs → line_length (take from xs) ≡ None
+    → run ≡ prefix_len is_inside (take n (drop from xs)) → run < n → line_length xs ≡ Some (from + run)
+line_in_run xs from n run room none same lt =
+    let long = length-chunk from n xs room in
+    let stop : is_inside (get_or (take n (drop from xs)) run 0) ≡ false =
+    ap (λ k. is_inside (get_or (take n (drop from xs)) k 0)) same
+    ∙ prefix_len_stops is_inside (take n (drop from xs)) 0 (omega (arith, long)) in
+    let at = get_or-chunk from n xs run 0 lt in
+    line_found xs (from + run) (omega arith)
+    (lines_more xs from run (omega arith) none (λ k below. run_clean xs from n k room (omega arith) (omega arith)))
+    (sym at ∙ is_feed (get_or (take n (drop from xs)) run 0) stop)
+
+-- one that goes on through n bytes leaves the end to be found behind them
+pub line_past_run : (xs : List ℕ) (from n run : ℕ) → from + n ≤ length xs → line_length (take from xs) ≡ None
+    → run ≡ prefix_len is_inside (take n (drop from xs)) → n ≤ run → line_length (take (from + n) xs) ≡ None
+line_past_run xs from n run room none same le =
+    lines_more xs from n room none (λ k below. run_clean xs from n k room below (omega arith))
 
 some_line : (b : Bool) (o : Option ℕ) (n m : ℕ) → ((k : ℕ) → o ≡ Some k → k < m) → cond b (Some 0) (option_map suc o) ≡ Some n
     → n < suc m

@@ -1,5 +1,5 @@
--- How many bytes a line's request needs. Source: this project's own.
-use Rattle.std.specs.Prelude.{ℕ, ◌+◌}
+-- How a line's end is looked for, and how many bytes its request needs. Source: this project's own.
+use Rattle.std.specs.Prelude.{ℕ, ◌+◌, Bool, not, ◌==◌}
 use Rattle.tc_grammar.specs.declared.line.Line.{Line}
 use Rattle.tc_grammar.specs.declared.line.Line.TheVariants.{Ready, NeedsBlock, Refused}
 
@@ -8,3 +8,7 @@ abbrev pub needed_of : ℕ → Line → ℕ
 needed_of line (Ready command) = 0
 needed_of line (Refused fault quiet skip) = 0
 needed_of line (NeedsBlock head n) = line + (n + 2)
+
+-- a byte that is no line feed
+abbrev pub is_inside : ℕ → Bool
+is_inside byte = not (byte == 10)

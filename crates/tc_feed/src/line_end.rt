@@ -1,14 +1,43 @@
 //! Where a line ends.
-ghost use Rattle.std.specs.Prelude.{◌≡◌, ◌≤◌, length, take, None};
+ghost use Rattle.std.specs.Prelude.{◌≡◌, ◌==◌, if◌then◌else◌, ◌+◌, ◌≤◌, length, take, drop, None};
+ghost use Rattle.std.specs.List.{prefix_len};
+ghost use Rattle.std.specs.Int.{w64, trailing_zeros};
+ghost use Rattle.tc_feed.specs.Looking.{is_inside};
 ghost use Rattle.tc_feed.specs.Stream.{line_length, trimmed};
 
 use memchr::memchr;
+use std::simd::prelude::*;
 
 /// The most bytes of a line before its line feed, a carriage return among them.
 pub const LONGEST_LINE: usize = 65_536;
 
+/// How many bytes are looked at together.
+const LANES: usize = 16;
+
+/// The place of the lowest bit that is set, or how many lanes there are.
+#[inline(always)]
+fn lowest_set(mask: u64) -> usize
+    ensures { result ≡ (if mask == 0 then 16 else trailing_zeros w64 mask) }
+{
+    if mask == 0 {
+        LANES
+    } else {
+        mask.trailing_zeros() as usize
+    }
+}
+
+/// How many of the 16 bytes from a place on stand before a line feed.
+#[inline(always)]
+fn run_in_lanes(bytes: &[u8], at: usize) -> usize
+    requires { at + 16 ≤ length bytes.now }
+    ensures { result ≡ prefix_len is_inside (take 16 (drop at bytes.now)) }
+{
+    let lanes = u8x16::from_slice(&bytes[at..]);
+    lowest_set(lanes.simd_eq(u8x16::splat(b'\n')).to_bitmask())
+}
+
 /// The place of the first line feed of bytes whose first `from` have none.
-pub(crate) fn find_line(bytes: &[u8], from: usize) -> Option<usize>
+fn seek_line(bytes: &[u8], from: usize) -> Option<usize>
     requires within { from ≤ length bytes.now }
     requires none { line_length (take from bytes.now) ≡ None }
     ensures { result ≡ line_length bytes.now }
@@ -17,6 +46,22 @@ pub(crate) fn find_line(bytes: &[u8], from: usize) -> Option<usize>
         Some(i) => Some(from + i),
         None => None,
     }
+}
+
+/// The same. Most lines are short, so a few bytes are looked at first.
+pub(crate) fn find_line(bytes: &[u8], from: usize) -> Option<usize>
+    requires within { from ≤ length bytes.now }
+    requires none { line_length (take from bytes.now) ≡ None }
+    ensures { result ≡ line_length bytes.now }
+{
+    if bytes.len() - from < LANES {
+        return seek_line(bytes, from);
+    }
+    let run = run_in_lanes(bytes, from);
+    if run < LANES {
+        return Some(from + run);
+    }
+    seek_line(bytes, from + LANES)
 }
 
 /// The line without a carriage return at its end.

@@ -6,11 +6,11 @@ ghost use Rattle.tc_grammar.specs.Reading.{reading, said_by};
 use crate::command::Command;
 use crate::counting::read_count_line;
 use crate::keyed::{read_delete, read_touch};
-use crate::line::{Line, ready, refuse_unknown};
+use crate::line::{Line, refuse_unknown};
 use crate::retrieval::{read_gat, read_get};
 use crate::storage_line::read_storage_line;
 use crate::tokens::Tokens;
-use crate::unkeyed::{read_end, read_flush, read_verbosity};
+use crate::unkeyed::{read_flush_line, read_lone_name, read_verbosity_line};
 use crate::verb::{Verb, verb_named};
 use std::alloc::Global;
 use tc_item::NoMemory;
@@ -28,11 +28,11 @@ fn read_args(alloc: Global, verb: Verb, tokens: Tokens, block_limit: u32) -> Res
         Verb::Gat(form) => read_gat(alloc, form, tokens),
         Verb::Delete => read_delete(alloc, tokens),
         Verb::Touch => read_touch(alloc, tokens),
-        Verb::FlushAll => Ok(ready(read_flush(tokens))),
-        Verb::Stats => Ok(ready(read_end(Command::Stats, tokens))),
-        Verb::Version => Ok(ready(read_end(Command::Version, tokens))),
-        Verb::Verbosity => Ok(ready(read_verbosity(tokens))),
-        Verb::Quit => Ok(ready(read_end(Command::Quit, tokens))),
+        Verb::FlushAll => Ok(read_flush_line(tokens)),
+        Verb::Stats => Ok(read_lone_name(Command::Stats, tokens)),
+        Verb::Version => Ok(read_lone_name(Command::Version, tokens)),
+        Verb::Verbosity => Ok(read_verbosity_line(tokens)),
+        Verb::Quit => Ok(read_lone_name(Command::Quit, tokens)),
     }
 }
 

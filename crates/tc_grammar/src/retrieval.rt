@@ -1,5 +1,6 @@
 //! `get`, `gets`, `gat` and `gats`.
-ghost use Rattle.std.specs.Prelude.{◌≡◌, IfOk};
+ghost use Rattle.std.specs.Prelude.{◌≡◌, ◌∷◌, true, IfOk};
+ghost use Rattle.tc_item.specs.KeyRule.{is_key};
 ghost use Rattle.tc_grammar.specs.Lines.{IsAnswered, IsBounded, ready};
 ghost use Rattle.tc_grammar.specs.Retrieval.{keys_of, get_of, gat_of};
 
@@ -10,21 +11,37 @@ use crate::tokens::Tokens;
 use std::alloc::Global;
 use tc_item::{Key, Keys, NoMemory};
 
-/// One or more keys, up to the line's end.
-fn read_keys(alloc: Global, mut tokens: Tokens) -> Result<Option<Keys>, NoMemory>
-    ensures { IfOk result (λ keys. keys ≡ keys_of tokens.entry) }
+/// A key, and those that follow up to the line's end.
+fn read_more_keys(alloc: Global, first: Key, mut tokens: Tokens) -> Result<Option<Keys>, NoMemory>
+    requires { is_key first ≡ true }
+    ensures { IfOk result (λ keys. keys ≡ keys_of (first ∷ tokens.entry)) }
 {
-    let mut keys = Keys::new();
+    let mut keys = Vec::with_capacity(alloc, 1 + tokens.count_spaced())?;
+    keys.push(first)?;
     while let Some(word) = tokens.next_word() {
         if !word.is_key {
             return Ok(None);
         }
-        keys.push(alloc, Key::from_key_bytes(alloc, word.bytes)?)?;
+        keys.push(Key::from_key_bytes(alloc, word.bytes)?)?;
     }
-    if keys.is_empty() {
+    Ok(Some(Keys::from_vec(alloc, keys)?))
+}
+
+/// One or more keys, up to the line's end. One alone takes no list.
+fn read_keys(alloc: Global, mut tokens: Tokens) -> Result<Option<Keys>, NoMemory>
+    ensures { IfOk result (λ keys. keys ≡ keys_of tokens.entry) }
+{
+    let Some(first) = tokens.next_word() else {
+        return Ok(None)
+    };
+    if !first.is_key {
         return Ok(None);
     }
-    Ok(Some(keys))
+    let key = Key::from_key_bytes(alloc, first.bytes)?;
+    if tokens.is_at_end() {
+        return Ok(Some(Keys::one(key)));
+    }
+    read_more_keys(alloc, key, tokens)
 }
 
 #[tactic(auto, unfolding(crate::specs::Retrieval::get_of))]

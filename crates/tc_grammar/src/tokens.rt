@@ -1,5 +1,5 @@
 //! The tokens of a line, read from its front.
-ghost use Rattle.std.specs.Prelude.{◌≡◌, ◌≤◌, ◌<◌, ◌∷◌, [], drop, length, MatchOption};
+ghost use Rattle.std.specs.Prelude.{◌≡◌, ◌≤◌, ◌<◌, ◌∷◌, ◌^◌, [], drop, length, MatchOption, IsTrue};
 ghost use Rattle.std.specs.List.{prefix_len};
 ghost use Rattle.tc_item.specs.KeyRule.{is_key, is_key_byte};
 ghost use Rattle.tc_grammar.specs.Tokens.{tokens};
@@ -72,6 +72,26 @@ impl<'a> Tokens<'a> {
         ensures { result ≡ tokens line.now }
     {
         Tokens { rest: line }
+    }
+
+    /// Whether the line's end is reached.
+    pub fn is_at_end(&self) -> bool
+        ensures { IsTrue result → self.now ≡ [] }
+    {
+        self.rest.is_empty()
+    }
+
+    /// How many tokens are left behind spaces.
+    pub fn count_spaced(&self) -> usize
+        ensures { result < 2 ^ 63 }
+    {
+        let Some((_, behind)) = self.rest.split_first() else {
+            return 0
+        };
+        let neighbours = self.rest.iter().zip(behind.iter());
+        neighbours
+            .filter(|(byte, next)| **byte == b' ' && **next != b' ')
+            .count()
     }
 
     /// Takes the next token, and says whether it is a key. Most words are of bytes that may stand in a key,

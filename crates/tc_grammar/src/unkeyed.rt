@@ -1,10 +1,12 @@
 //! `flush_all`, `verbosity` and the lines of one token.
 ghost use Rattle.std.specs.Prelude.{◌≡◌};
 ghost use Rattle.tc_grammar.specs.Ending.{ended};
+ghost use Rattle.tc_grammar.specs.Lines.{ready};
 ghost use Rattle.tc_grammar.specs.Unkeyed.{delayed, flush_of, verbosity_of};
 
 use crate::command::Command;
 use crate::ending::read_quiet;
+use crate::line::{Line, ready};
 use crate::number::read_u32;
 use crate::tokens::Tokens;
 
@@ -56,4 +58,25 @@ pub fn read_verbosity(mut tokens: Tokens) -> Option<Command>
     let level = read_u32(tokens.next()?)?;
     let quiet = read_quiet(tokens)?;
     Some(Command::Verbosity { level, quiet })
+}
+
+/// What a line says whose name is to stand alone.
+pub fn read_lone_name(command: Command, tokens: Tokens) -> Line
+    ensures { result ≡ ready (ended command tokens.entry) }
+{
+    ready(read_end(command, tokens))
+}
+
+/// What a line of `flush_all` says, from the tokens after its name.
+pub fn read_flush_line(tokens: Tokens) -> Line
+    ensures { result ≡ ready (flush_of tokens.entry) }
+{
+    ready(read_flush(tokens))
+}
+
+/// What a line of `verbosity` says, from the tokens after its name.
+pub fn read_verbosity_line(tokens: Tokens) -> Line
+    ensures { result ≡ ready (verbosity_of tokens.entry) }
+{
+    ready(read_verbosity(tokens))
 }

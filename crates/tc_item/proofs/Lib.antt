@@ -1,2 +1,2 @@
 mod Places
-mod Runs
+pub mod Runs
