@@ -47,6 +47,18 @@ impl Aside {
             → (then_of self.new u).page ≡ (then_of self.old t).page }
         ensures next { (t : Then (AreasOf Entry)) → (then_of self.new t).next ≡ t.next }
     {
+        if !self.is_nothing() {
+            self.keep_page();
+        }
+    }
+
+    /// What is set aside is for the page alone.
+    #[inline(never)]
+    fn keep_page(&mut self)
+        ensures page { (t u : Then (AreasOf Entry)) → u.page ≡ t.page
+            → (then_of self.new u).page ≡ (then_of self.old t).page }
+        ensures next { (t : Then (AreasOf Entry)) → (then_of self.new t).next ≡ t.next }
+    {
         match mem::replace(self, Aside::Nothing) {
             Aside::Nothing => {}
             Aside::Both(slots) | Aside::Page(slots) => *self = Aside::Page(slots),
@@ -97,6 +109,27 @@ pub fn turn(held: &mut Slots, aside: &mut Aside, gone: &mut Option<Tables>) -> O
     ensures next { (then_of aside.new held.new.then).next
         ≡ (then_of aside.old held.old.then).next }
 {
+    if aside.is_nothing() {
+        return held.turn();
+    }
+    turn_aside(held, aside, gone)
+}
+
+/// The same, where tables may be set aside.
+#[inline(never)]
+fn turn_aside(
+    held: &mut Slots,
+    aside: &mut Aside,
+    gone: &mut Option<Tables>,
+) -> Option<Vec<Change>>
+    ensures areas { held.new.areas ≡ held.old.areas }
+    ensures limits { held.new.limits ≡ held.old.limits }
+    ensures slots { held.new.slots ≡ held.old.slots }
+    ensures page { (then_of aside.new held.new.then).page
+        ≡ (then_of aside.old held.old.then).next }
+    ensures next { (then_of aside.new held.new.then).next
+        ≡ (then_of aside.old held.old.then).next }
+{
     match mem::replace(aside, Aside::Nothing) {
         Aside::Nothing => held.turn(),
         Aside::Both(mut slots) => {
@@ -114,6 +147,14 @@ pub fn turn(held: &mut Slots, aside: &mut Aside, gone: &mut Option<Tables>) -> O
 
 /// Gives the memory of one table back of those that are gone.
 pub fn shed(gone: &mut Option<Tables>) {
+    if gone.is_some() {
+        shed_one(gone);
+    }
+}
+
+/// The same, where some are gone.
+#[inline(never)]
+fn shed_one(gone: &mut Option<Tables>) {
     let left = match gone {
         Some(tables) => tables.shed(),
         None => false,

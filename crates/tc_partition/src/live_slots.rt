@@ -238,13 +238,15 @@ impl LiveSlots {
 
     /// Reads what a look-up that was noted will change: its counters, and its links in the lists. What that
     /// comes to says nothing.
-    pub(crate) fn read_noted(&self, noted: Noted) -> u64 {
+    pub(crate) fn read_noted(&self, noted: Noted) -> u64
+        requires { IsPlaced self.now.held.slots noted }
+    {
         match noted {
             Noted::Hit(slot, hash) => {
                 let links = self.held.read_links(slot);
-                links.wrapping_add(u64::from(self.sketch.freq(hash)))
+                links ^ self.sketch.read(hash)
             }
-            Noted::Miss(hash) => u64::from(self.sketch.freq(hash)),
+            Noted::Miss(hash) => self.sketch.read(hash),
         }
     }
 

@@ -249,8 +249,11 @@ impl Slots {
         }
     }
 
-    /// Reads what an access of a slot changes of the lists. What that comes to says nothing.
-    pub fn read_links(&self, slot: Slot) -> u64 {
+    /// Reads what an access of what a slot holds changes of the lists. What that comes to says nothing.
+    pub fn read_links(&self, slot: Slot) -> u64
+        requires { IsSome (slice_index_or self.now.slots slot.0 None) }
+    {
+        let _ = &self.index;
         self.lists.read(slot)
     }
 
@@ -400,7 +403,7 @@ impl Slots {
         ensures then { self.new.then ≡ self.old.then }
         ensures spare { self.old.spare ≤ self.new.spare }
     {
-        let weight = weight_at(&self.entries, slot);
+        let weight = self.lists.weight_of(slot);
         self.lists.access(slot, weight);
     }
 

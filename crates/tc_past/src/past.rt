@@ -65,6 +65,7 @@ fn join_logs<T: Copy>(since: &mut Log<T>, before: &mut Log<T>)
 
 /// Notes what a place holds, if nothing is noted of it. It is not read otherwise, so that a read need
 /// not wait for what was written there just before.
+#[inline(always)]
 fn note_held<T: Copy>(since: &mut Log<T>, live: &Vec<T>, at: usize)
     requires within { at < length live.now.items }
     requires room { at < since.old.room }
@@ -115,6 +116,7 @@ impl<T: Copy> Past<T> {
     }
 
     /// Has a place hold what f makes of what it holds.
+    #[inline(always)]
     pub fn change<F: FnOnce(T) -> T>(&mut self, at: usize, f: F)
         requires within { at < length self.old.live }
         requires callable { F.IsAlwaysCallable f }

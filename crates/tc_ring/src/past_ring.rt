@@ -132,26 +132,15 @@ impl<N: Copy, const MARKS: usize> PastRing<N, MARKS> {
         self.nodes.get(at)
     }
 
-    /// Where a node leads; nowhere, where there is no such node.
-    fn link_at(&self, at: u32) -> u64 {
-        let at = at as usize;
-        if at < self.nodes.len() {
-            u64::from(self.nodes.get(at).next)
-        } else {
-            0
-        }
-    }
-
-    /// Reads the node of a slot, with those that it is linked to, which a move of the slot writes. What that
-    /// comes to says nothing.
-    pub fn read(&self, slot: Slot) -> u64 {
-        let at = slot.0.saturating_add(MARKS);
-        if at >= self.nodes.len() {
-            return 0;
-        }
-        let node = self.nodes.get(at);
-        self.link_at(node.prev)
-            .wrapping_add(self.link_at(node.next))
+    /// Reads a node and those that it is linked to, which a move of it writes, so that several wait for memory
+    /// together. What that comes to says nothing.
+    pub fn read(&self, at: usize) -> u64
+        requires { HasPlace self.now.live.next self.now.live.prev at }
+    {
+        let node = self.node(at);
+        let before = self.node(node.prev as usize);
+        let behind = self.node(node.next as usize);
+        u64::from(before.next) ^ u64::from(behind.next)
     }
 
     /// Takes a node out of the ring.
@@ -206,6 +195,7 @@ impl<N: Copy, const MARKS: usize> PastRing<N, MARKS> {
     }
 
     /// Links a node to the one behind it.
+    #[inline(always)]
     fn set_next(&mut self, at: usize, to: usize)
         requires within { at < length self.old.live.next }
         requires link { to < length self.old.live.next }
@@ -225,6 +215,7 @@ impl<N: Copy, const MARKS: usize> PastRing<N, MARKS> {
     }
 
     /// Links a node to the one before it.
+    #[inline(always)]
     fn set_prev(&mut self, at: usize, to: usize)
         requires within { at < length self.old.live.next }
         requires link { to < length self.old.live.next }
@@ -244,6 +235,7 @@ impl<N: Copy, const MARKS: usize> PastRing<N, MARKS> {
     }
 
     /// Links a node to the one behind it and the one before it, and notes something of its slot.
+    #[inline(always)]
     fn set_node(&mut self, at: usize, next: usize, prev: usize, note: N)
         requires within { at < length self.old.live.next }
         requires next { next < length self.old.live.next }

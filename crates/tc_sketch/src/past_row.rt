@@ -47,6 +47,13 @@ impl PastRow {
         lanes::lane(self.words.get(place / LANES), place % LANES)
     }
 
+    /// Reads what a raise of the counter at a place writes. What that comes to says nothing.
+    pub(crate) fn read(&self, place: usize) -> u64
+        requires { place < length self.now.live }
+    {
+        self.words.get(place / LANES)
+    }
+
     /// Adds one to the counter at a place, if it is below 15.
     pub(crate) fn raise(&mut self, place: usize)
         requires { place < length self.old.live }

@@ -57,6 +57,7 @@ impl PastSketch {
     }
 
     /// Records that a key with this hash was seen.
+    #[inline(always)]
     pub fn record(&mut self, hash: u64)
         ensures recorded { self.new ≡ live_with (recorded self.old.live hash) self.old }
         ensures counting { CountsRecords self.new.live }
@@ -77,6 +78,17 @@ impl PastSketch {
         } else {
             self.count.set(count);
         }
+    }
+
+    /// Reads what a record of this hash writes, so that several wait for memory together. What that comes
+    /// to says nothing.
+    pub fn read(&self, hash: u64) -> u64 {
+        let width = self.width;
+        let word0 = self.row0.read(place(width, MULTIPLIER_0, hash));
+        let word1 = self.row1.read(place(width, MULTIPLIER_1, hash));
+        let word2 = self.row2.read(place(width, MULTIPLIER_2, hash));
+        let word3 = self.row3.read(place(width, MULTIPLIER_3, hash));
+        (word0 ^ word1) ^ (word2 ^ word3)
     }
 
     /// How often a key with this hash was seen of late: the least of its four counters, 0 to 15.

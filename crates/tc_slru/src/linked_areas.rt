@@ -158,9 +158,12 @@ impl LinkedAreas {
         self.nodes.slots()
     }
 
-    /// Reads what a move of a slot writes. What that comes to says nothing.
-    pub fn read(&self, slot: Slot) -> u64 {
-        self.nodes.read(slot)
+    /// Reads what a move of a held slot writes. What that comes to says nothing.
+    pub fn read(&self, slot: Slot) -> u64
+        requires { holds slot.0 self.now.live.areas ≡ true }
+    {
+        let at = self.nodes.place(slot);
+        self.nodes.read(at)
     }
 
     /// Whether the slot stands in a list.
@@ -232,7 +235,18 @@ impl LinkedAreas {
         self.nodes.node(at).note.area.unwrap()
     }
 
+    /// What a held slot weighs.
+    pub fn weight_of(&self, slot: Slot) -> u32
+        requires { holds slot.0 self.now.live.areas ≡ true }
+        ensures { result + total weigh (without_slot slot.0 self.now.live.areas)
+            ≡ total weigh self.now.live.areas }
+    {
+        let at = self.nodes.place(slot);
+        self.nodes.node(at).note.weight
+    }
+
     /// Moves a slot to the front of a list, maybe its own.
+    #[inline(always)]
     pub fn move_to(&mut self, area: Area, held: Held)
         requires held { holds held.slot.0 self.old.live.areas ≡ true }
         requires fits { total weigh (without_slot held.slot.0 self.old.live.areas) + held.weight

@@ -113,9 +113,11 @@ impl Lists {
         self.limits.main
     }
 
-    /// Reads what an access of a slot writes, so that several wait for memory together. What that comes to
-    /// says nothing.
-    pub fn read(&self, slot: Slot) -> u64 {
+    /// Reads what an access of a held slot writes, so that several wait for memory together. What that comes
+    /// to says nothing.
+    pub fn read(&self, slot: Slot) -> u64
+        requires { holds slot.0 self.now.live.areas ≡ true }
+    {
         self.areas.read(slot)
     }
 
@@ -136,6 +138,15 @@ impl Lists {
             probation: sizes.probation.weight,
             protected: sizes.protected.weight,
         }
+    }
+
+    /// What a held slot weighs.
+    pub fn weight_of(&self, slot: Slot) -> u64
+        requires { holds slot.0 self.now.live.areas ≡ true }
+        ensures { result + total weigh (without_slot slot.0 self.now.live.areas)
+            ≡ total weigh self.now.live.areas }
+    {
+        u64::from(self.areas.weight_of(slot))
     }
 
     /// The slots of a list, front to back.
@@ -167,6 +178,7 @@ impl Lists {
 
     /// An access: the slot weighs `weight` from now on, and goes to the front of its list, from
     /// probation to the front of protected, which is then held to its limit.
+    #[inline(always)]
     pub fn access(&mut self, slot: Slot, weight: u64)
         requires held { holds slot.0 self.old.live.areas ≡ true }
         requires light { weight ≤ self.old.live.limits.main }
