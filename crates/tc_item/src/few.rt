@@ -108,17 +108,20 @@ impl<T> Few<T> {
 }
 
 impl<T: TryCopy> Few<T> {
-    /// No items, with room for so many.
-    pub fn with_capacity(alloc: Global, count: usize) -> Result<Few<T>, NoMemory>
-        ensures { IfOk result (λ few. few ≡ []) }
+    /// The items of a list, which are not copied.
+    pub fn from_vec(alloc: Global, mut items: Vec<T>) -> Result<Few<T>, NoMemory>
+        ensures { IfOk result (λ few. few ≡ items.items) }
     {
-        if count < 2 {
-            return Ok(Few::new());
+        if items.len() > 1 {
+            let shared = Arc::new(alloc, items)?;
+            return Ok(Few {
+                held: Held::Many(shared),
+            });
         }
-        let shared = Arc::new(alloc, Vec::with_capacity(alloc, count)?)?;
-        Ok(Few {
-            held: Held::Many(shared),
-        })
+        match items.pop() {
+            Some(item) => Ok(Few::one(item)),
+            None => Ok(Few::new()),
+        }
     }
 
     /// The items of a list, which are not copied.

@@ -1,6 +1,6 @@
 -- Keys that are looked up, and noted where they were found.
 use Rattle.std.specs.Prelude.{max, map, nat_lt, option_map, option_to_list}
-use Rattle.std.proofs.Common.{◌≡◌, ℕ, zero, suc, ◌+◌, ◌≤◌, Bool, true, false, cond, List, [], ◌∷◌, ◌++◌, length, get_or, Option}
+use Rattle.std.proofs.Common.{◌≡◌, ℕ, zero, suc, ◌+◌, ◌<◌, ◌≤◌, Bool, true, false, cond, List, [], ◌∷◌, ◌++◌, length, get_or, Option}
 use Rattle.std.proofs.Common.{Some, None, refl, sym, ◌∙◌, ap, subst, append_assoc, append-nil, arith}
 use Rattle.tc_item.specs.declared.slot.Slot.{Slot}
 use Rattle.tc_readbuf.specs.declared.noted.Noted.{Noted}
@@ -171,6 +171,37 @@ waits_room (suc k) n h =
     at : (b : Bool) → nat_lt (n + k) places ≡ b → cond b (n + k + 1) 1 ≡ n + suc k
     at true e = omega arith
     at false e = absurd (grind (arith, e, h))
+
+waits_more : (n : ℕ) → n < places → waits_next n ≡ n + 1
+waits_more n h = at (nat_lt n places) refl
+  where
+    at : (b : Bool) → nat_lt n places ≡ b → cond b (n + 1) 1 ≡ n + 1
+    at true e = refl
+    at false e = absurd (grind (arith, e, h))
+
+waits_full : (n : ℕ) → n ≡ places → waits_next n ≡ 1
+waits_full n h = at (nat_lt n places) refl
+  where
+    at : (b : Bool) → nat_lt n places ≡ b → cond b (n + 1) 1 ≡ 1
+    at true e = absurd (grind (arith, e, h))
+    at false e = refl
+
+-- how many wait where there is room for these alone, but not behind the others
+pub waits_behind : (k n : ℕ) → n ≤ places → k ≤ places → places < n + k → waits_after k n + places ≡ n + k
+waits_behind zero n hn hk h = absurd (omega arith)
+waits_behind (suc k) n hn hk h = at (nat_lt places (n + k)) refl (λ more. waits_behind k n hn (omega arith) more)
+  where
+    at : (b : Bool) → nat_lt places (n + k) ≡ b → (places < n + k → waits_after k n + places ≡ n + k)
+        → waits_next (waits_after k n) + places ≡ n + suc k
+    at true e rest =
+        let before : waits_after k n + places ≡ n + k = rest (grind (arith, e)) in
+        let next : waits_next (waits_after k n) ≡ waits_after k n + 1 = waits_more (waits_after k n) (omega arith) in
+        omega arith
+    at false e rest =
+        let le : n + k ≤ places = grind (arith, e) in
+        let before : waits_after k n ≡ n + k = waits_room k n le in
+        let next : waits_next (waits_after k n) ≡ 1 = waits_full (waits_after k n) (omega arith) in
+        omega arith
 
 pub alone : (keys : List (List ℕ)) (d : List ℕ) → length keys ≡ 1 → get_or keys 0 d ∷ [] ≡ keys
 alone [] d e = absurd (omega (arith, e))

@@ -1,10 +1,12 @@
 -- The hits of keys that are looked up one after another, by what each held before.
-use Rattle.std.specs.Prelude.{filter, option_map, option_to_list, is_some, not, ◌&&◌, ◌||◌}
+use Rattle.std.specs.Prelude.{filter, option_map, option_to_list, is_some, count_by, not, ◌&&◌, ◌||◌}
 use Rattle.std.specs.Str.{bytes_eq}
 use Rattle.std.specs.List.{list_any}
 use Rattle.std.proofs.Common.{◌≡◌, ℕ, ◌≤◌, ◌<◌, ◌+◌, Bool, true, false, cond, List, [], ◌∷◌, ◌++◌, length, get_or, take, Option}
 use Rattle.std.proofs.Common.{Some, None, refl, sym, ◌∙◌, ap, subst, append_assoc, arith}
+use Rattle.std.proofs.Math.ListN.{drop}
 use Rattle.std.proofs.lemmas.List.{append-nil, take_more}
+use Rattle.std.proofs.lemmas.List.Sums.{sum_by-drop_more}
 use Rattle.std.proofs.lemmas.Slice.Eq.{bytes_eq-Decides}
 use Rattle.tc_model.specs.Areas.{Areas, accessed, raised}
 use Rattle.tc_model.proofs.Every.{Every, Every-filter, EveryIn, EveryIn-accessed, EveryIn-weaker}
@@ -18,7 +20,7 @@ use Rattle.tc_plain.specs.Entries.{weight, lives, has_key, hit_of, with_item}
 use Rattle.tc_plain.specs.EvictionState.{EvictionState, held, entries_of, kept, no_entries, is_flush_due, at_moment}
 use Rattle.tc_plain.specs.Placing.{seen, at_front, put_in, without_key, placed, used}
 use Rattle.tc_plain.specs.Doing.{looked_up, all_looked_up}
-use Rattle.tc_plain.specs.AreaLists.{change_of, is_due}
+use Rattle.tc_plain.specs.AreaLists.{change_of, is_due, found_in}
 use Rattle.tc_plain.specs.Soundness.{AreSound, count_under}
 use Rattle.tc_plain.proofs.Sound.{sound_at_moment, once_put, sound_hit}
 use Rattle.tc_plain.proofs.Held.{found, all_of}
@@ -272,3 +274,32 @@ hits_next due m keys i d key asked gone l hits new lt sound e f g h same =
     ++ option_to_list
     (cond (is_due due m && list_any (λ k. bytes_eq k q) (take i keys)) None (option_map hit_of (held q j.areas)))) g
     ∙ sym (hits-take_more due (is_due due m) keys i d j lt there (lasting_at due m l))
+
+shown_alone : (change : Item → Item) (o : Option Entry) (key : List ℕ) (l : EvictionState)
+    → option_to_list (option_map hit_of o) ≡ (looked_up change key o l).0 ++ []
+shown_alone change None key l = refl
+shown_alone change (Some e) key l = refl
+
+-- what is shown of one key alone
+pub hits_alone : (due : Option Due) (m : ℕ) (keys : List (List ℕ)) (o : Option Entry) (l : EvictionState) → length keys ≡ 1
+    → o ≡ get_or (found_in m keys l) 0 None
+    → option_to_list (option_map hit_of o) ≡ (all_looked_up (change_of due) keys (at_moment m l)).0
+hits_alone due m [] o l e same = absurd (omega (arith, e))
+hits_alone due m (k ∷ []) o l e same =
+    let j : EvictionState = at_moment m l in
+    ap (λ z. option_to_list (option_map hit_of z)) same ∙ shown_alone (change_of due) (held k j.areas) k j
+hits_alone due m (k ∷ q ∷ keys) o l e same = absurd (omega (arith, e))
+
+-- how many of the rest hold something, once one more was found or not
+pub fewer_left : (entries : List (Option Entry)) (i n : ℕ) → i < length entries
+    → count_by is_some entries ≤ n + count_by is_some (drop i entries)
+    → (count_by is_some entries ≤ n + 1 + count_by is_some (drop (i + 1) entries))
+    × (get_or entries i None ≡ None → count_by is_some entries ≤ n + count_by is_some (drop (i + 1) entries))
+fewer_left entries i n lt h =
+    let one : Option Entry → ℕ = λ o. cond (is_some o) 1 0 in
+    let more = sum_by-drop_more one entries i None lt in
+    (omega (arith, more, h, at_most (get_or entries i None)), λ none. omega (arith, more, h, ap one none))
+  where
+    at_most : (o : Option Entry) → cond (is_some o) 1 0 ≤ 1
+    at_most None = omega arith
+    at_most (Some e) = omega arith

@@ -43,7 +43,7 @@ pub fn command(alloc: Global, stream: &str) -> Result<Command, Fail> {
 }
 
 /// A hit.
-fn hit(alloc: Global, name: &str, data: &str, flags: u32, cas: u64) -> Result<Hit, Fail> {
+pub fn hit(alloc: Global, name: &str, data: &str, flags: u32, cas: u64) -> Result<Hit, Fail> {
     let key = Key::new(alloc, name.as_bytes())?;
     let blob = Blob::new(alloc, Vec::from_slice(alloc, data.as_bytes())?)?;
     Ok(Hit {

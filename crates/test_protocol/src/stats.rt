@@ -1,7 +1,7 @@
 //! What no clause says of outcomes, hits and counters: the rows of `stats`, counts by hand, and
 //! each call with memory to spare.
 
-use crate::fixtures::{Found, command, expect_bytes, expect_number, hits, push_hit};
+use crate::fixtures::{Found, command, expect_bytes, expect_number, hit, hits, push_hit};
 use std::alloc::Global;
 use std::process::Abort;
 use std::test::Fail;
@@ -48,20 +48,13 @@ fn a_hit_pushed_after_a_copy_is_not_in_the_copy(rt: HostRuntime) -> Result<(), F
     Ok(())
 }
 
-/// Pushes the three hits where there was room for so many.
-fn pushed_with_room(alloc: Global, room: usize) -> Result<Hits, Fail> {
-    let mut found = Hits::with_capacity(alloc, room)?;
-    for hit in &FOUND {
-        push_hit(alloc, &mut found, hit)?;
-    }
-    Ok(found)
-}
-
 #[test]
-fn hits_stand_in_the_order_pushed_whatever_room_was_made(rt: HostRuntime) -> Result<(), Fail> {
-    for room in &[0, 1, 2, 50] {
-        expect_three(&rt, &pushed_with_room(rt.alloc(), *room)?)?;
+fn hits_stand_as_in_the_list_that_they_were_in(rt: HostRuntime) -> Result<(), Fail> {
+    let mut found = Vec::new(rt.alloc());
+    for (name, data, flags, cas) in &FOUND {
+        found.push(hit(rt.alloc(), name, data, *flags, *cas)?)?;
     }
+    expect_three(&rt, &Hits::from_vec(rt.alloc(), found)?)?;
     Ok(())
 }
 

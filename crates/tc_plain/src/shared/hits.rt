@@ -1,6 +1,6 @@
 //! The hits of keys.
-ghost use Rattle.std.specs.Prelude.{◌≡◌, ◌<◌, ◌++◌, ◌&&◌, cond, List, length, slice_index_or, Option, None, option_map};
-ghost use Rattle.std.specs.Prelude.{option_to_list, IfOk, OnOk};
+ghost use Rattle.std.specs.Prelude.{◌≡◌, ◌+◌, ◌<◌, ◌≤◌, ◌++◌, ◌&&◌, cond, false, List, length, slice_index_or, count_by};
+ghost use Rattle.std.specs.Prelude.{Option, None, is_some, option_map, option_to_list, vec_capacity, IfOk, OnOk};
 ghost use Rattle.std.specs.Option.{option_copied};
 ghost use Rattle.std.specs.Str.{bytes_eq};
 ghost use Rattle.std.specs.List.{list_any};
@@ -14,7 +14,7 @@ ghost use Rattle.tc_plain.specs.Soundness.{AreSound};
 use crate::Entry;
 use std::alloc::Global;
 use tc_item::{Due, Key, Moment, NoMemory};
-use tc_stats::Hits;
+use tc_stats::{Hit, Hits};
 
 /// What keys were found to hold, in the order asked, however a cache keeps it.
 pub trait FoundEntries {
@@ -26,9 +26,10 @@ pub trait FoundEntries {
         requires { i < length (entries self.now) }
         ensures { option_copied result ≡ slice_index_or (entries self.now) i None };
 
-    /// Whether it was found to hold something.
+    /// Whether it may have been found to hold something.
     fn is_found(&self, i: usize) -> bool
         requires { i < length (entries self.now) }
+        ensures { result ≡ false → slice_index_or (entries self.now) i None ≡ None }
     {
         self.entry(i).is_some()
     }
@@ -51,37 +52,54 @@ fn is_asked(keys: &[Key], key: &Key) -> bool
     keys.iter().any(|asked| asked == key)
 }
 
-/// Adds the hit of what a key was found to hold, if it was not among those asked before, or is not
-/// gone since then.
+/// The hit of what one key was found to hold.
+pub fn show_one(alloc: Global, found: Option<&Entry>) -> Result<Hits, NoMemory>
+    ensures { IfOk result (λ hits. hits
+        ≡ option_to_list (option_map hit_of (option_copied found.entry))) }
+{
+    match found {
+        Some(entry) => Ok(Hits::one(entry.show(alloc)?)),
+        None => Ok(Hits::new()),
+    }
+}
+
+/// Adds the hit of what a key was found to hold, for which there is room, if it was not among those
+/// asked before, or is not gone since then.
 fn add_next(
     alloc: Global,
     asked: &[Key],
     key: &Key,
     found: Option<&Entry>,
     gone: bool,
-    hits: &mut Hits,
+    hits: &mut Vec<Hit>,
 ) -> Result<(), NoMemory>
-    ensures { OnOk result (hits.new ≡ hits.old
+    requires { length hits.old.items + cond (is_some (option_copied found)) 1 0
+        ≤ vec_capacity hits.old }
+    ensures hits { OnOk result (hits.new.items ≡ hits.old.items
         ++ option_to_list (cond (gone && list_any (λ k. bytes_eq k key.now) asked.now) None
         (option_map hit_of (option_copied found.entry)))) }
+    ensures capacity { vec_capacity hits.new ≡ vec_capacity hits.old }
+    ensures long { length hits.new.items
+        ≤ length hits.old.items + cond (is_some (option_copied found.entry)) 1 0 }
 {
     if gone && is_asked(asked, key) {
         return Ok(());
     }
     if let Some(entry) = found {
-        hits.push(alloc, entry.show(alloc)?)?;
+        hits.push_reserved(entry.show(alloc)?);
     }
     Ok(())
 }
 
-/// How many of so many keys, where there are several, were found to hold something.
+/// How many of so many keys may have been found to hold something.
 fn count_found<F: FoundEntries>(found: &F, keys: usize) -> usize
     requires { length (F.entries found.now) ≡ keys }
+    ensures { count_by is_some (F.entries found.now) ≤ result }
 {
-    let mut count = 0usize;
-    if keys > 1 {
-        for i in 0..keys {
-            count = count.saturating_add(usize::from(found.is_found(i)));
+    let mut count = 0;
+    for i in 0..keys {
+        if found.is_found(i) {
+            count += 1;
         }
     }
     count
@@ -102,10 +120,13 @@ pub fn show_all<F: FoundEntries>(
         → F.entries found.now ≡ found_in moment keys.now l
         → hits ≡ (all_looked_up (change_of due) keys.now (at_moment moment l)).0) }
 {
+    if keys.len() == 1 {
+        return show_one(alloc, found.entry(0));
+    }
     let gone = is_due(due, moment);
-    let mut hits = Hits::with_capacity(alloc, count_found(found, keys.len()))?;
+    let mut hits = Vec::with_capacity(alloc, count_found(found, keys.len()))?;
     for (i, key) in keys.iter().enumerate() {
         add_next(alloc, &keys[..i], key, found.entry(i), gone, &mut hits)?;
     }
-    Ok(hits)
+    Hits::from_vec(alloc, hits)
 }
