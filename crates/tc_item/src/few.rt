@@ -124,22 +124,6 @@ impl<T: TryCopy> Few<T> {
         }
     }
 
-    /// The items of a list, which are not copied.
-    pub fn from_vec(alloc: Global, mut items: Vec<T>) -> Result<Few<T>, NoMemory>
-        ensures { IfOk result (λ few. few ≡ items.items) }
-    {
-        if items.len() > 1 {
-            let shared = Arc::new(alloc, items)?;
-            return Ok(Few {
-                held: Held::Many(shared),
-            });
-        }
-        match items.pop() {
-            Some(item) => Ok(Few::one(item)),
-            None => Ok(Few::new()),
-        }
-    }
-
     /// Puts an item at the end. Where memory is refused the items are as they were.
     pub fn push(&mut self, alloc: Global, item: T) -> Result<(), NoMemory>
         ensures pushed { OnOk result (self.new ≡ self.old ++ item ∷ []) }
