@@ -11,12 +11,24 @@ use crate::tokens::Tokens;
 use std::alloc::Global;
 use tc_item::{Key, Keys, NoMemory};
 
+/// A key has mostly at least so many bytes, with the space before it.
+const USUAL_WORD: usize = 9;
+
+/// Gives up the room of a list that has more than twice what it needs.
+fn fit(keys: &mut Vec<Key>)
+    ensures { keys.new.items ≡ keys.old.items }
+{
+    if keys.capacity() / 2 > keys.len() {
+        keys.shrink_to(0);
+    }
+}
+
 /// A key, and those that follow up to the line's end.
 fn read_more_keys(alloc: Global, first: Key, mut tokens: Tokens) -> Result<Option<Keys>, NoMemory>
     requires { is_key first ≡ true }
     ensures { IfOk result (λ keys. keys ≡ keys_of (first ∷ tokens.entry)) }
 {
-    let mut keys = Vec::with_capacity(alloc, 1 + tokens.count_spaced())?;
+    let mut keys = Vec::with_capacity(alloc, 1 + tokens.bytes_left() / USUAL_WORD)?;
     keys.push(first)?;
     while let Some(word) = tokens.next_word() {
         if !word.is_key {
@@ -24,6 +36,7 @@ fn read_more_keys(alloc: Global, first: Key, mut tokens: Tokens) -> Result<Optio
         }
         keys.push(Key::from_key_bytes(alloc, word.bytes)?)?;
     }
+    fit(&mut keys);
     Ok(Some(Keys::from_vec(alloc, keys)?))
 }
 

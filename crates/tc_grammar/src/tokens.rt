@@ -1,5 +1,5 @@
 //! The tokens of a line, read from its front.
-ghost use Rattle.std.specs.Prelude.{◌≡◌, ◌≤◌, ◌<◌, ◌∷◌, ◌^◌, [], drop, length, MatchOption, IsTrue};
+ghost use Rattle.std.specs.Prelude.{◌≡◌, ◌≤◌, ◌<◌, ◌∷◌, [], drop, length, MatchOption, IsTrue};
 ghost use Rattle.std.specs.List.{prefix_len};
 ghost use Rattle.tc_item.specs.KeyRule.{is_key, is_key_byte};
 ghost use Rattle.tc_grammar.specs.Tokens.{tokens};
@@ -81,17 +81,9 @@ impl<'a> Tokens<'a> {
         self.rest.is_empty()
     }
 
-    /// How many tokens are left behind spaces.
-    pub fn count_spaced(&self) -> usize
-        ensures { result < 2 ^ 63 }
-    {
-        let Some((_, behind)) = self.rest.split_first() else {
-            return 0
-        };
-        let neighbours = self.rest.iter().zip(behind.iter());
-        neighbours
-            .filter(|(byte, next)| **byte == b' ' && **next != b' ')
-            .count()
+    /// How many bytes are left, spaces among them.
+    pub fn bytes_left(&self) -> usize {
+        self.rest.len()
     }
 
     /// Takes the next token, and says whether it is a key. Most words are of bytes that may stand in a key,

@@ -9,7 +9,7 @@ use tc_plain::{Cache, LeftOver};
 
 /// Once commands of this cost were done under a lock that is kept, it is given back, after some tenths
 /// of a millisecond, or later where one command is long: others who wait have their turn.
-const MOST: usize = 1_024;
+const MOST: usize = 2_048;
 
 /// What a command costs, by its keys.
 fn cost_of(command: &Command) -> usize {

@@ -17,4 +17,4 @@ returns c =
     let all = all_read c.loop-word.keys.items c.loop-word.tokens whole c.loop-word.invariant.all c.in_default.ensures.0 in
     let good : list_all is_key c.args.tokens ≡ true =
     sym c.loop-word.invariant.good ∙ ap (list_all is_key) c.in_default.ensures.0 in
-    ap Some (c.in_ok-from_vec.ensures ∙ all) ∙ sym (keys_of-all c.args.first c.args.tokens whole refl c.requires good)
+    ap Some (c.in_ok-from_vec.ensures ∙ (c.fit.ensures ∙ all)) ∙ sym (keys_of-all c.args.first c.args.tokens whole refl c.requires good)
