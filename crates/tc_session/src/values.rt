@@ -27,9 +27,6 @@ pub(crate) const LINE_END: &[u8] = b"\r\n";
 /// What stands behind the last hit.
 pub(crate) const END: &[u8] = b"END\r\n";
 
-/// What a text is put over.
-static BLANK: [u8; 4_096] = [0; 4_096];
-
 /// Puts a number at the end of bytes that have room for it.
 pub(crate) fn append_number(to: &mut Vec<u8>, number: u64)
     requires { vec_len to.old + 20 ≤ vec_capacity to.old }
@@ -118,7 +115,6 @@ pub(crate) fn room_to_compose(hits: &[Hit]) -> Option<usize>
     Some(room)
 }
 
-<<<<<<< HEAD
 /// Puts all hits at the end, and END, for which there is room.
 pub(crate) fn compose(to: &mut Vec<u8>, room: usize, form: Form, hits: &[Hit])
     requires room { room ≡ room_of hits.now }
@@ -131,21 +127,6 @@ pub(crate) fn compose(to: &mut Vec<u8>, room: usize, form: Form, hits: &[Hit])
     let _ = to.resize(start + room, 0);
     let end = put_hits(to.as_mut_slice(), start, form, hits);
     to.truncate(end);
-=======
-/// Puts so many bytes at the end, for which there is room.
-fn lengthen(to: &mut Vec<u8>, count: usize)
-    requires { vec_len to.old + count ≤ vec_capacity to.old }
-    ensures front { take (length to.old.items) to.new.items ≡ to.old.items }
-    ensures longer { vec_len to.new ≡ vec_len to.old + count }
-    ensures capacity { vec_capacity to.old ≤ vec_capacity to.new }
-{
-    let mut left = count;
-    while left > 0 {
-        let part = left.min(BLANK.len());
-        let _ = to.extend_from_slice(&BLANK[..part]);
-        left -= part;
-    }
->>>>>>> bd86e3963b3425ba08d059ef2a732ad815d5d086
 }
 
 /// Puts all hits at the end, and END, with room for them. A refusal changes nothing.
@@ -161,13 +142,7 @@ pub(crate) fn append_composed(
     ensures capacity { vec_capacity to.old ≤ vec_capacity to.new }
 {
     to.reserve(room)?;
-<<<<<<< HEAD
     compose(to, room, form, hits);
-=======
-    lengthen(to, room);
-    let end = put_hits(to.as_mut_slice(), start, form, hits);
-    to.truncate(end);
->>>>>>> bd86e3963b3425ba08d059ef2a732ad815d5d086
     Ok(())
 }
 
