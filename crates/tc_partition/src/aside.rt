@@ -117,11 +117,7 @@ pub fn turn(held: &mut Slots, aside: &mut Aside, gone: &mut Option<Tables>) -> O
 
 /// The same, where tables may be set aside.
 #[inline(never)]
-fn turn_aside(
-    held: &mut Slots,
-    aside: &mut Aside,
-    gone: &mut Option<Tables>,
-) -> Option<Vec<Change>>
+fn turn_aside(held: &mut Slots, aside: &mut Aside, gone: &mut Option<Tables>) -> Option<Vec<Change>>
     ensures areas { held.new.areas ≡ held.old.areas }
     ensures limits { held.new.limits ≡ held.old.limits }
     ensures slots { held.new.slots ≡ held.old.slots }
