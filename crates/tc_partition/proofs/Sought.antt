@@ -5,13 +5,9 @@ use Rattle.std.proofs.Common.{Bool, true, false, cond, Some, refl, arith}
 use Rattle.std.specs.Str.{bytes_eq}
 use Rattle.std.proofs.lemmas.Slice.Eq.{bytes_eq-Decides}
 use Rattle.tc_item.specs.declared.slot.Slot.{Slot}
-use Rattle.tc_model.specs.Areas.{Areas}
 use Rattle.tc_plain.specs.declared.shared.entry.Entry.{Entry}
-use Rattle.tc_plain.specs.declared.shared.plans.Plan.{Plan}
-use Rattle.tc_plain.specs.declared.shared.plans.Plan.TheVariants.{Ends, Changes}
 use Rattle.tc_plain.specs.EvictionState.{EvictionState, held, at_moment, advanced}
 use Rattle.tc_plain.specs.AreaLists.{found_in}
-use Rattle.tc_plain.specs.Plans.{IsUnder}
 use Rattle.tc_item.specs.declared.item.Item.{Item}
 use Rattle.tc_plain.specs.Entries.{lives, with_item}
 use Rattle.tc_plain.specs.Doing.{looked_up}
@@ -19,7 +15,7 @@ use Rattle.tc_plain.specs.Soundness.{AreSound}
 use Rattle.tc_plain.proofs.Asked.{held-used}
 use Rattle.tc_plain.proofs.Used.{held_key}
 use Rattle.tc_partition.specs.Deferred.{Lazy, IsLazy, peeked, settled, raised_to, deferred}
-use Rattle.tc_partition.specs.LiveSlots.{live_of, IsFree}
+use Rattle.tc_partition.specs.LiveSlots.{live_of}
 use Rattle.tc_partition.specs.declared.live_slots.LiveSlots.{LiveSlots}
 use Rattle.tc_partition.specs.WaitingSlots.{SeeksSlot, AreSought, placed_in}
 use Rattle.tc_partition.proofs.Deferral.{look_answer, noted_lazy, raised_settled, raised_lazy}
@@ -91,8 +87,3 @@ held_then f now m q h e =
 -- a look-up that waits changes nothing that a key holds
 pub held_noted : (f : Lazy) (key q : List ℕ) → IsLazy f → held q (settled (deferred f key)).areas ≡ held q (settled f).areas
 held_noted f key q h = look_answer (deferred f key) q (noted_lazy f key h) ∙ sym (look_answer f q h)
-
--- a plan under a key that holds nothing
-pub free_under : (key : List ℕ) (a : Areas Entry) (plan : Plan) → held key a ≡ None → IsUnder key plan → IsFree a plan
-free_under key a (Ends end) none same = tt
-free_under key a (Changes end under draft) none same = ap (λ k. held k a) same ∙ none

@@ -18,14 +18,15 @@ ghost use Rattle.tc_partition.specs.Held.{IsFound};
 ghost use Rattle.tc_partition.specs.Deferred.{Miss, hit, do_note, peeked};
 ghost use Rattle.tc_partition.specs.WaitingSlots.{SeeksSlot, placed_in, IsPlaced};
 ghost use Rattle.tc_readbuf.specs.declared.noted.Noted.{Noted};
-ghost use Rattle.tc_partition.specs.LiveSlots.{live_of, then_live, seen_of, plan_of, IsKeyed, IsFree};
+ghost use Rattle.tc_partition.specs.LiveSlots.{live_of, then_live, seen_of, plan_of};
+ghost use Rattle.tc_partition.specs.Working.{is_new, is_vacant, IsTarget, IsAimed};
 
 use crate::aside::{Aside, set_aside, shed, turn};
 use crate::hints::Hints;
 use crate::slots::Slots;
 use crate::tables::Tables;
 use crate::wanted::Wanted;
-use crate::work::Work;
+use crate::work::{Target, Work};
 use std::alloc::Global;
 use tc_item::{Due, Key, Moment, NoMemory, Slot, alive};
 use tc_plain::{Areas, Change, End, Entry, EvictionState, Limits};
@@ -109,14 +110,6 @@ impl LiveSlots {
         self.held.make_log_room(dues)?;
         self.advance(now);
         Ok(())
-    }
-
-    /// Where what a key will hold at the moment is.
-    pub(crate) fn seek(&self, key: &Key, moment: Moment) -> Option<Slot>
-        requires { AreSound self.now.held.limits self.now.held.areas }
-        ensures { SeeksSlot result moment key.now self.now }
-    {
-        self.seek_from(self.wanted(key).hint, key, moment)
     }
 
     /// What is known of a key before it is sought.
@@ -257,48 +250,47 @@ impl LiveSlots {
         self.sketch.record(hash);
     }
 
-    /// Puts an entry in the place of what its key holds, which was found at this place or holds
-    /// nothing.
-    fn use_new(&mut self, place: Option<Slot>, key: Key, entry: Entry)
+    /// Puts an entry in the place of what its key holds, or into a vacant slot. Where it is not alive, its
+    /// key holds nothing from now on.
+    fn use_new(&mut self, target: Target, key_hash: u64, entry: Entry)
         requires spare { 2 ≤ self.old.held.spare }
-        requires key { key ≡ entry.key }
-        requires missed { place ≡ None → held entry.key self.old.held.areas ≡ None }
+        requires hashed { key_hash ≡ hash entry.key }
+        requires target { IsTarget target entry.key self.old.held }
         requires light { weight entry ≤ self.old.held.limits.main }
         requires weight { total weight self.old.held.areas + weight entry < 2 ^ 64 }
-        requires room { self.old.held.has_room ≡ true }
+        requires room { is_vacant target ≡ true → self.old.held.has_room ≡ true }
         ensures live { live_of self.new ≡ used entry (live_of self.old) }
         ensures then { then_live self.new ≡ then_live self.old }
     {
-        let hash = hash(key.as_bytes());
-        self.sketch.record(hash);
+        self.sketch.record(key_hash);
         let alive = alive(&entry.item, self.moment);
-        match self.held.find_again(place, &key) {
-            Some(slot) => {
+        match target {
+            Target::Occupied(slot) => {
                 if alive {
                     self.held.replace(slot, entry);
-                    self.hints.note(hash, slot);
+                    self.hints.note(key_hash, slot);
                 } else {
                     self.held.empty(slot);
                 }
             }
-            None => {
+            Target::Vacant(key) => {
                 if alive {
                     let slot = self.held.fill(Area::Window, key, entry);
-                    self.hints.note(hash, slot);
+                    self.hints.note(key_hash, slot);
                 }
             }
         }
     }
 
-    /// Puts an entry in the place of what its key holds, which was found at this place or holds
-    /// nothing, and brings each area within its limit; each entry that is dropped is counted.
-    fn change(&mut self, place: Option<Slot>, key: Key, entry: Entry, evictions: u64) -> u64
+    /// Puts an entry in the place of what its key holds, or into a vacant slot, and brings each area within
+    /// its limit; each entry that is dropped is counted.
+    fn change(&mut self, target: Target, key_hash: u64, entry: Entry, evictions: u64) -> u64
         requires spare { 2 ≤ self.old.held.spare }
-        requires key { key ≡ entry.key }
-        requires missed { place ≡ None → held entry.key self.old.held.areas ≡ None }
+        requires hashed { key_hash ≡ hash entry.key }
+        requires target { IsTarget target entry.key self.old.held }
         requires light { weight entry ≤ self.old.held.limits.main }
         requires weight { total weight self.old.held.areas + weight entry < 2 ^ 64 }
-        requires room { self.old.held.has_room ≡ true }
+        requires room { is_vacant target ≡ true → self.old.held.has_room ≡ true }
         ensures live { live_of self.new ≡ record (used entry (live_of self.old)) {
           areas =
               (settle weight (frequency (used entry (live_of self.old))) self.old.held.limits
@@ -309,17 +301,21 @@ impl LiveSlots {
             (live_of self.old)).areas).dropped) }
         ensures then { then_live self.new ≡ then_live self.old }
     {
-        self.use_new(place, key, entry);
+        self.use_new(target, key_hash, entry);
         self.held.settle(&self.sketch, evictions)
     }
 
-    /// Room for one more entry. A refusal changes nothing.
-    pub(crate) fn make_room(&mut self) -> Result<(), NoMemory>
+    /// Room for some work. A refusal changes nothing.
+    pub(crate) fn make_room(&mut self, work: &Work) -> Result<(), NoMemory>
         ensures live { live_of self.new ≡ live_of self.old }
-        ensures room { OnOk result (self.new.held.has_room ≡ true) }
+        ensures slots { self.new.held.slots ≡ self.old.held.slots }
+        ensures room { OnOk result (is_new work.now ≡ true → self.new.held.has_room ≡ true) }
         ensures spare { OnOk result (2 ≤ self.new.held.spare) }
         ensures then { then_live self.new ≡ then_live self.old }
     {
+        if !work.is_new() {
+            return self.held.make_log_room(2);
+        }
         self.held.make_room()?;
         self.hints.fit(self.held.count());
         Ok(())
@@ -410,23 +406,15 @@ impl LiveSlots {
         self.aside.opened(alloc, &self.held)
     }
 
-    /// Carries work out on a key that was found at this place or holds nothing, for which there is
-    /// room: a draft gets the next cas number after `last`, and each entry that is dropped for it
-    /// is counted.
-    pub(crate) fn carry_out(
-        &mut self,
-        place: Option<Slot>,
-        work: Work,
-        last: &mut u64,
-        counters: &mut Counters,
-    ) -> End
+    /// Carries work out, for which there is room: a draft gets the next cas number after `last`, and each
+    /// entry that is dropped for it is counted.
+    pub(crate) fn carry_out(&mut self, work: Work, last: &mut u64, counters: &mut Counters) -> End
         requires spare { 2 ≤ self.old.held.spare }
         requires weight { total weight self.old.held.areas < 2 ^ 63 }
         requires light { IsLightPlan self.old.held.limits (plan_of work) }
         requires main { self.old.held.limits.main < 2 ^ 63 }
-        requires room { self.old.held.has_room ≡ true }
-        requires keyed { IsKeyed work }
-        requires missed { place ≡ None → IsFree self.old.held.areas (plan_of work) }
+        requires room { is_new work ≡ true → self.old.held.has_room ≡ true }
+        requires aimed { IsAimed work self.old.held }
         ensures outcome { (k : UserCache) → k.live ≡ live_of self.old → k.last ≡ last.old
             → outcome_of result ≡ (planned k (plan_of work)).0 }
         ensures state { (k : UserCache) → k.live ≡ live_of self.old → k.last ≡ last.old
@@ -435,16 +423,22 @@ impl LiveSlots {
             ≡ record k { live = live_of self.new; last = last.new; counters = counters.new } }
         ensures then { then_live self.new ≡ then_live self.old }
     {
-        let (end, copy, key, draft) = match work {
+        let (end, target, hash, key, draft) = match work {
             Work::Ends(end) => return end,
-            Work::Changes(end, copy, key, draft) => (end, copy, key, draft),
+            Work::Changes {
+                end,
+                target,
+                hash,
+                key,
+                draft,
+            } => (end, target, hash, key, draft),
         };
         let Some(cas) = last.checked_add(1) else {
             return End::CasWorn;
         };
         *last = cas;
         let item = draft.numbered(cas);
-        counters.evictions = self.change(place, copy, Entry { key, item }, counters.evictions);
+        counters.evictions = self.change(target, hash, Entry { key, item }, counters.evictions);
         end
     }
 }

@@ -72,6 +72,7 @@ pub fn plan_count(alloc: Global, entry: &Entry, way: Way, by: u64) -> Result<Pla
         → planned k plan ≡ counted_under way by (Some entry.now) k) }
     ensures light { IfOk result (λ plan. (limits : Limits)
         → weight_of entry.now.key 20 ≤ limits.main → IsLightPlan limits plan) }
+    ensures key { IfOk result (IsUnder entry.now.key) }
 {
     let Some(number) = tc_counter::read(entry.item.blob.as_slice()) else {
         return Ok(Plan::Ends(End::NotNumeric));

@@ -1,4 +1,3 @@
-use Rattle.std.specs.Prelude.{max}
 use Rattle.std.proofs.Common.{◌+◌, refl, sym, ◌∙◌, ap, subst}
 use Rattle.std.proofs.lemmas.Result.{IfOk-weaker}
 use Rattle.tc_model.specs.Areas.{Limits}
@@ -9,7 +8,6 @@ use Rattle.tc_plain.proofs.Advances.{limits-at_moment}
 use Rattle.tc_plain.proofs.Planning.{stored_by}
 use Rattle.tc_partition.specs.SlotCaches.{cache_of}
 use Rattle.tc_partition.specs.WaitingSlots.{SeeksSlot}
-use Rattle.tc_partition.proofs.Sought.{free_under}
 use Rattle.tc_partition.proofs.slot_cache.SlotCache.plan_store.Goals as goal
 
 pub returns-in-Refused-clause-plan : goal.returns-in-Refused-clause-plan
@@ -44,12 +42,3 @@ pub returns-in-Offered-clause-light : goal.returns-in-Offered-clause-light
 returns-in-Offered-clause-light c =
     IfOk-weaker c.plan_item.result _ _ (λ plan h. h (cache_of c.args.self.now).live.limits (sym c.heaviest-main.ensures))
     c.plan_item.ensures.light
-
-pub returns-in-Offered-clause-missed : goal.returns-in-Offered-clause-missed
-returns-in-Offered-clause-missed c = λ none.
-    let key = c.args.head.now.key in
-    let k = cache_of c.args.self.now in
-    let live = c.args.self.now.live in
-    IfOk-weaker c.plan_item.result _ _ (λ plan h.
-    free_under key (advance k c.args.now).live.areas plan
-    (subst (λ place. SeeksSlot place (max live.moment c.args.now) key live) none c.requires.place) h) c.plan_item.ensures.key
