@@ -10,7 +10,7 @@ use Rattle.tc_partition.specs.LiveSlots.{live_of}
 use Rattle.tc_partition.specs.Deferred.{peeked}
 use Rattle.tc_partition.specs.declared.live_slots.LiveSlots.{LiveSlots}
 use Rattle.tc_partition.specs.declared.work.Target.{Target}
-use Rattle.tc_partition.specs.declared.work.Target.TheVariants.{Held as HeldTarget, Free as FreeTarget}
+use Rattle.tc_partition.specs.declared.work.Target.TheVariants.{Occupied, Vacant}
 use Rattle.tc_partition.specs.declared.work.Work.{Work}
 use Rattle.tc_partition.specs.declared.work.Work.TheVariants.{Ends as EndsWork, Changes as ChangesWork}
 use Rattle.tc_partition.specs.Working.{SeeksTarget, IsSought, IsTarget, IsAimed}
@@ -25,7 +25,7 @@ module _ (s r : LiveSlots) (now : ℕ) (sound : AreSound s.held.limits s.held.ar
     → slice_index_or r.held.slots n None ≡ Some e)
   where
     targeted : (target : Target) (key : List ℕ) → SeeksTarget target (max s.moment now) key s → IsTarget target key r.held
-    targeted (HeldTarget slot) key at =
+    targeted (Occupied slot) key at =
         let t = max s.moment now in
         let e : Entry = at.0 in
         let still = stays_one (live_of s) e t t sound (owns slot.0 e at.1)
@@ -37,7 +37,7 @@ module _ (s r : LiveSlots) (now : ℕ) (sound : AreSound s.held.limits s.held.ar
           own = at.2;
           held = subst (λ k. held k r.held.areas ≡ Some e) at.2 (owns_then slot.0 e there);
         }
-    targeted (FreeTarget copy) key at =
+    targeted (Vacant copy) key at =
         let none : held key r.held.areas ≡ None = ap (λ (l : EvictionState). held key l.areas) come ∙ at.1 in
         (at.0, (none, without_key-missed key r.held.areas none))
 

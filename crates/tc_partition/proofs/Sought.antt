@@ -5,13 +5,9 @@ use Rattle.std.proofs.Common.{Bool, true, false, cond, Some, refl, arith}
 use Rattle.std.specs.Str.{bytes_eq}
 use Rattle.std.proofs.lemmas.Slice.Eq.{bytes_eq-Decides}
 use Rattle.tc_item.specs.declared.slot.Slot.{Slot}
-use Rattle.tc_model.specs.Areas.{Areas}
 use Rattle.tc_plain.specs.declared.shared.entry.Entry.{Entry}
-use Rattle.tc_plain.specs.declared.shared.plans.Plan.{Plan}
-use Rattle.tc_plain.specs.declared.shared.plans.Plan.TheVariants.{Ends, Changes}
 use Rattle.tc_plain.specs.EvictionState.{EvictionState, held, at_moment, advanced}
 use Rattle.tc_plain.specs.AreaLists.{found_in}
-use Rattle.tc_plain.specs.Plans.{IsUnder}
 use Rattle.tc_item.specs.declared.item.Item.{Item}
 use Rattle.tc_plain.specs.Entries.{lives, with_item}
 use Rattle.tc_plain.specs.Doing.{looked_up}

@@ -6,29 +6,29 @@ use Rattle.tc_partition.specs.Held.{Held, FindsSlot}
 use Rattle.tc_partition.specs.WaitingSlots.{SeeksSlot}
 use Rattle.tc_partition.specs.declared.live_slots.LiveSlots.{LiveSlots}
 use Rattle.tc_partition.specs.declared.work.Target.{Target}
-use Rattle.tc_partition.specs.declared.work.Target.TheVariants.{Held as HeldTarget, Free as FreeTarget}
+use Rattle.tc_partition.specs.declared.work.Target.TheVariants.{Occupied, Vacant}
 use Rattle.tc_partition.specs.declared.work.Work.{Work}
 use Rattle.tc_partition.specs.declared.work.Work.TheVariants.{Ends as EndsWork, Changes as ChangesWork}
 
 -- where the entry of a key goes, which was found at this place, or holds nothing
 abbrev pub target_of : Option Slot → List ℕ → Target
-target_of None key = FreeTarget key
-target_of (Some slot) key = HeldTarget slot
+target_of None key = Vacant key
+target_of (Some slot) key = Occupied slot
 
--- its key holds nothing
-abbrev pub is_free : Target → Bool
-is_free (HeldTarget slot) = false
-is_free (FreeTarget copy) = true
+-- its slot is vacant
+abbrev pub is_vacant : Target → Bool
+is_vacant (Occupied slot) = false
+is_vacant (Vacant copy) = true
 
--- it fills a slot that is free
+-- it fills a vacant slot
 abbrev pub is_new : Work → Bool
 is_new (EndsWork end) = false
-is_new (ChangesWork end target h key draft) = is_free target
+is_new (ChangesWork end target h key draft) = is_vacant target
 
 -- where a key will hold something at a moment, or nowhere
 abbrev pub SeeksTarget : Target → ℕ → List ℕ → LiveSlots → Type 0
-SeeksTarget (HeldTarget slot) t key s = SeeksSlot (Some slot) t key s
-SeeksTarget (FreeTarget copy) t key s = (copy ≡ key) × SeeksSlot None t key s
+SeeksTarget (Occupied slot) t key s = SeeksSlot (Some slot) t key s
+SeeksTarget (Vacant copy) t key s = (copy ≡ key) × SeeksSlot None t key s
 
 -- so is the target of some work, whose key has the hash that it says
 abbrev pub IsSought : ℕ → Work → LiveSlots → Type 0
@@ -37,8 +37,8 @@ IsSought t (ChangesWork end target h key draft) s = (h ≡ hash key) × SeeksTar
 
 -- what a key holds is in this slot, or nothing is held under it
 abbrev pub IsTarget : Target → List ℕ → Held → Type 0
-IsTarget (HeldTarget slot) key h = FindsSlot (Some slot) key h
-IsTarget (FreeTarget copy) key h = (copy ≡ key) × FindsSlot None key h
+IsTarget (Occupied slot) key h = FindsSlot (Some slot) key h
+IsTarget (Vacant copy) key h = (copy ≡ key) × FindsSlot None key h
 
 -- so it is of some work, whose key has the hash that it says
 abbrev pub IsAimed : Work → Held → Type 0

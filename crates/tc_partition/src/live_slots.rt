@@ -19,7 +19,7 @@ ghost use Rattle.tc_partition.specs.Deferred.{Miss, hit, do_note, peeked};
 ghost use Rattle.tc_partition.specs.WaitingSlots.{SeeksSlot, placed_in, IsPlaced};
 ghost use Rattle.tc_readbuf.specs.declared.noted.Noted.{Noted};
 ghost use Rattle.tc_partition.specs.LiveSlots.{live_of, then_live, seen_of, plan_of};
-ghost use Rattle.tc_partition.specs.Working.{is_free, is_new, IsTarget, IsAimed};
+ghost use Rattle.tc_partition.specs.Working.{is_new, is_vacant, IsTarget, IsAimed};
 
 use crate::aside::{Aside, set_aside, shed, turn};
 use crate::hints::Hints;
@@ -252,22 +252,22 @@ impl LiveSlots {
         self.sketch.record(hash);
     }
 
-    /// Puts an entry where its key holds something, or into a free slot; that is gone again where it is
-    /// not alive.
+    /// Puts an entry in the place of what its key holds, or into a vacant slot. Where it is not alive, its
+    /// key holds nothing from now on.
     fn use_new(&mut self, target: Target, key_hash: u64, entry: Entry)
         requires spare { 2 ≤ self.old.held.spare }
         requires hashed { key_hash ≡ hash entry.key }
         requires target { IsTarget target entry.key self.old.held }
         requires light { weight entry ≤ self.old.held.limits.main }
         requires weight { total weight self.old.held.areas + weight entry < 2 ^ 64 }
-        requires room { is_free target ≡ true → self.old.held.has_room ≡ true }
+        requires room { is_vacant target ≡ true → self.old.held.has_room ≡ true }
         ensures live { live_of self.new ≡ used entry (live_of self.old) }
         ensures then { then_live self.new ≡ then_live self.old }
     {
         self.sketch.record(key_hash);
         let alive = alive(&entry.item, self.moment);
         match target {
-            Target::Held(slot) => {
+            Target::Occupied(slot) => {
                 if alive {
                     self.held.replace(slot, entry);
                     self.hints.note(key_hash, slot);
@@ -275,7 +275,7 @@ impl LiveSlots {
                     self.held.empty(slot);
                 }
             }
-            Target::Free(key) => {
+            Target::Vacant(key) => {
                 if alive {
                     let slot = self.held.fill(Area::Window, key, entry);
                     self.hints.note(key_hash, slot);
@@ -284,15 +284,15 @@ impl LiveSlots {
         }
     }
 
-    /// Puts an entry where its key holds something, or into a free slot, and brings each area within its
-    /// limit; each entry that is dropped is counted.
+    /// Puts an entry in the place of what its key holds, or into a vacant slot, and brings each area within
+    /// its limit; each entry that is dropped is counted.
     fn change(&mut self, target: Target, key_hash: u64, entry: Entry, evictions: u64) -> u64
         requires spare { 2 ≤ self.old.held.spare }
         requires hashed { key_hash ≡ hash entry.key }
         requires target { IsTarget target entry.key self.old.held }
         requires light { weight entry ≤ self.old.held.limits.main }
         requires weight { total weight self.old.held.areas + weight entry < 2 ^ 64 }
-        requires room { is_free target ≡ true → self.old.held.has_room ≡ true }
+        requires room { is_vacant target ≡ true → self.old.held.has_room ≡ true }
         ensures live { live_of self.new ≡ record (used entry (live_of self.old)) {
           areas =
               (settle weight (frequency (used entry (live_of self.old))) self.old.held.limits

@@ -15,9 +15,9 @@ use tc_plain::{Draft, End, Plan};
 #[derive(Drop)]
 pub enum Target {
     /// Into this slot, in the place of what its key holds there.
-    Held(Slot),
-    /// Into a slot that is free, since its key holds nothing: this is a copy of that key, for the index.
-    Free(Key),
+    Occupied(Slot),
+    /// Into a vacant slot, since its key holds nothing: this is a copy of that key, for the index.
+    Vacant(Key),
 }
 
 /// What a command will do: end so at once, or use a draft under a key, with the next cas number,
@@ -40,8 +40,8 @@ fn aim(alloc: Global, place: Option<Slot>, key: &Key) -> Result<Target, NoMemory
     ensures { IfOk result (λ t. t ≡ target_of place key.now) }
 {
     match place {
-        Some(slot) => Ok(Target::Held(slot)),
-        None => Ok(Target::Free(key.copy(alloc)?)),
+        Some(slot) => Ok(Target::Occupied(slot)),
+        None => Ok(Target::Vacant(key.copy(alloc)?)),
     }
 }
 
@@ -68,13 +68,13 @@ impl Work {
         }
     }
 
-    /// Whether it fills a slot that is free.
+    /// Whether it fills a slot that is vacant.
     pub fn is_new(&self) -> bool
         ensures { result ≡ is_new self.now }
     {
         match self {
             Work::Ends(_) => false,
-            Work::Changes { target, .. } => matches!(target, Target::Free(_)),
+            Work::Changes { target, .. } => matches!(target, Target::Vacant(_)),
         }
     }
 }

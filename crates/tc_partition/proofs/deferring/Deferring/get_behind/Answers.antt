@@ -1,11 +1,11 @@
-use Rattle.std.specs.Prelude.{length, drop}
-use Rattle.std.proofs.Common.{◌≡◌, ◌+◌, ◌-◌, [], ◌∙◌, ap, arith}
+use Rattle.std.specs.Prelude.{length}
+use Rattle.std.proofs.Common.{◌≡◌, ◌+◌, ◌-◌, ◌∙◌, ap, arith}
 use Rattle.std.proofs.lemmas.List.{length-drop}
 use Rattle.tc_readbuf.specs.Places.{places}
 use Rattle.tc_plain.specs.UserCache.{UserCache, advance}
 use Rattle.tc_plain.specs.Doing.{with_live, all_looked_up}
 use Rattle.tc_partition.specs.WaitingSlots.{waiting_of}
-use Rattle.tc_partition.specs.Delayed.{Delayed, waits_after, settled_in}
+use Rattle.tc_partition.specs.Delayed.{Delayed, waits_after}
 use Rattle.tc_partition.proofs.OneLook.{waits_room, waits_behind}
 use Rattle.tc_partition.proofs.Tally.{length_map}
 use Rattle.tc_partition.proofs.deferring.Deferring.get_behind.Goals as goal

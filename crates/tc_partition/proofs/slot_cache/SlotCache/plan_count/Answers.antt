@@ -1,4 +1,4 @@
-use Rattle.std.proofs.Common.{◌≡◌, ◌≤◌, max, None, sym, ◌∙◌, ap, subst, length, arith}
+use Rattle.std.proofs.Common.{◌≡◌, ◌≤◌, max, ap, subst, length, arith}
 use Rattle.std.proofs.lemmas.Result.{IfOk-weaker}
 use Rattle.tc_model.specs.Areas.{Limits}
 use Rattle.tc_item.specs.Weight.{weight_of}
@@ -6,8 +6,6 @@ use Rattle.tc_plain.specs.EvictionState.{limits_of, at_moment}
 use Rattle.tc_plain.specs.Plans.{IsUnder}
 use Rattle.tc_plain.proofs.Used.{held_key}
 use Rattle.tc_partition.specs.LiveSlots.{live_of}
-use Rattle.tc_partition.specs.Deferred.{peeked}
-use Rattle.tc_partition.specs.WaitingSlots.{SeeksSlot}
 use Rattle.tc_partition.specs.SlotCaches.{cache_of}
 use Rattle.tc_partition.proofs.slot_cache.SlotCache.plan_count.Goals as goal
 
