@@ -3,6 +3,7 @@
 ghost use Rattle.std.specs.Prelude.{◌≡◌, ◌≤◌, true, OnOk};
 ghost use Rattle.tc_session.specs.Replies.{can_end};
 
+mod later;
 mod shared;
 mod table;
 

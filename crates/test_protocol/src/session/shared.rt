@@ -24,7 +24,7 @@ fn hit(alloc: Global, name: &str, size: usize) -> Result<Hit, Fail> {
 }
 
 /// What a look-up comes to that finds so many bytes under each of these keys.
-fn found(alloc: Global, names: &[&str], size: usize) -> Result<Outcome, Fail> {
+pub(super) fn found(alloc: Global, names: &[&str], size: usize) -> Result<Outcome, Fail> {
     let mut hits = Hits::new();
     for name in names {
         hits.push(alloc, hit(alloc, name, size)?)?;

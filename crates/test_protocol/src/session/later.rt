@@ -1,0 +1,56 @@
+//! Replies that are written later. Texts are by hand from the protocol's text.
+ghost use Rattle.std.specs.Prelude.{◌≤◌};
+
+use super::shared::found;
+use super::{expect_out, expect_wanted, next, opened, push, wanted};
+use crate::fixtures::users;
+use crate::session::table::Wanted;
+use std::alloc::Global;
+use std::process::Abort;
+use std::test::Fail;
+use tc_item::NoMemory;
+use tc_session::{Session, Want, can_end};
+use tc_stats::Outcome;
+use tc_users::Users;
+
+/// Answers the next request later, if it is a command that can come to this outcome.
+fn answer_next_later(
+    alloc: Global,
+    session: &mut Session,
+    users: &Users,
+    outcome: Outcome,
+) -> Result<(), NoMemory> {
+    let Want::Call(_, command) = next(alloc, session, users)? else {
+        return Ok(());
+    };
+    if can_end(&command, &outcome) {
+        session.answer_later(&command, outcome)?;
+    }
+    Ok(())
+}
+
+#[test]
+fn replies_that_are_written_later_keep_their_order(rt: HostRuntime) -> Result<(), Fail> {
+    let users = users(rt.alloc())?;
+    let mut session = opened(rt.alloc(), &users, true)?;
+    push(&mut session, b"get k\r\ngets l\r\nno\r\n")?;
+    answer_next_later(rt.alloc(), &mut session, &users, found(rt.alloc(), &["k"], 1)?)?;
+    answer_next_later(rt.alloc(), &mut session, &users, found(rt.alloc(), &["l"], 2)?)?;
+    assert!(rt; session.has_out() && session.parts().is_empty());
+    let said = wanted(rt.alloc(), &mut session, &users)?;
+    expect_wanted(&rt, said, Wanted::Said, "no");
+    let out = b"VALUE k 7 1\r\nd\r\nEND\r\nVALUE l 7 2 1\r\ndd\r\nEND\r\nERROR\r\n";
+    expect_out(&rt, &session, out, "written");
+    Ok(())
+}
+
+#[test]
+fn a_reply_that_is_written_later_waits_to_be_sent(rt: HostRuntime) -> Result<(), Fail> {
+    let users = users(rt.alloc())?;
+    let mut session = opened(rt.alloc(), &users, true)?;
+    push(&mut session, b"get k\r\n")?;
+    answer_next_later(rt.alloc(), &mut session, &users, found(rt.alloc(), &["k"], 1)?)?;
+    session.settle();
+    expect_out(&rt, &session, b"VALUE k 7 1\r\nd\r\nEND\r\n", "settled");
+    Ok(())
+}
