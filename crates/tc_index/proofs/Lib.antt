@@ -1,0 +1,5 @@
+pub mod Writes
+pub mod Chained
+pub mod Walked
+pub mod Placed
+pub mod Filled
