@@ -1,5 +1,6 @@
 -- Chains from high slots to low ones, once a slot came to a bucket or left it.
-use Rattle.std.proofs.Common.{◌≡◌, ◌==◌, ℕ, ◌+◌, ◌<◌, ◌≤◌, Bool, true, false, cond, Option, Some, None, refl, sym, ◌∙◌, ap, subst, arith}
+use Rattle.std.proofs.Common.{◌≡◌, ◌==◌, ℕ, ◌+◌, ◌<◌, ◌≤◌, Bool, true, false}
+use Rattle.std.proofs.Common.{cond, Option, Some, None, refl, sym, ◌∙◌, ap, subst, arith}
 use Rattle.std.proofs.lemmas.Bool.{eqb-true, eqb-false, leb-true, leb-false}
 use Rattle.std.specs.Prelude.{nat_le}
 use Rattle.std.proofs.Common.{eq-eqb}
@@ -116,8 +117,8 @@ module _ (B : ℕ → Option ℕ) (s b : ℕ) (stood : B s ≡ Some b) where
 leads_same : {B : ℕ → Option ℕ} {b c k l v : ℕ} → b ≡ c → k ≡ l → LeadsOn B b k v → LeadsOn B c l v
 leads_same {B} {b} {c} {k} {l} {v} e f h = subst (λ z. LeadsOn B c z v) f (subst (λ z. LeadsOn B z k v) e h)
 
-module _ (B : ℕ → Option ℕ) (H N : ℕ → ℕ) (m n : ℕ) (h : AreChained B H N m n) (below : (k c : ℕ) → B k ≡ Some c → k < n) (s b v : ℕ)
-    (slot : s < n) (bucket : b < m) (low : v ≤ s + 1) where
+module _ (B : ℕ → Option ℕ) (H N : ℕ → ℕ) (m n : ℕ) (h : AreChained B H N m n) (below : (k c : ℕ) → B k ≡ Some c → k < n)
+    (s b v : ℕ) (slot : s < n) (bucket : b < m) (low : v ≤ s + 1) where
   -- a slot comes
 
   module _ (nowhere : B s ≡ None) where

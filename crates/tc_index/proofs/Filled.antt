@@ -1,10 +1,12 @@
 -- An index in which no slot stands, and one that is filled from another, slot by slot.
 use Rattle.std.specs.Prelude.{slice_index, slice_index_or, slice_set, map, replicate, option_map, nat_le}
-use Rattle.std.proofs.Common.{◌≡◌, ◌==◌, ℕ, zero, suc, ◌+◌, ◌-◌, ◌<◌, ◌≤◌, Bool, true, false, List, [], ◌∷◌, ◌++◌, length, Option, Some, None, refl, take}
+use Rattle.std.proofs.Common.{◌≡◌, ◌==◌, ℕ, zero, suc, ◌+◌, ◌-◌, ◌<◌, ◌≤◌, Bool, true}
+use Rattle.std.proofs.Common.{false, List, [], ◌∷◌, ◌++◌, length, Option, Some, None, refl, take}
 use Rattle.std.proofs.Common.{sym, ◌∙◌, ap, arith}
 use Rattle.std.proofs.Math.ListN.{length-set}
 use Rattle.std.proofs.lemmas.Bool.{eqb-true, eqb-false, leb-true, leb-false}
-use Rattle.std.proofs.lemmas.List.{get_or-set_same, get_or-set_other, ext_get_or, length-replicate, length-append, get_or-append_right, take_all}
+use Rattle.std.proofs.lemmas.List.{get_or-set_same, get_or-set_other, ext_get_or}
+use Rattle.std.proofs.lemmas.List.{length-replicate, length-append, get_or-append_right, take_all}
 use Rattle.tc_index.specs.Tags.{tag_in, grown}
 use Rattle.tc_index.specs.Links.{tag_of, tags_of}
 use Rattle.tc_index.specs.Chains.{AreChains, bucket_at, bucket_of}
@@ -21,7 +23,7 @@ read_same (suc n) x (suc k) = read_same n x k
 
 -- links that stand nowhere
 abbrev free : Link
-free = record { next = 4294967295; tag = 0 }
+free = record { next = 4294967295; tag = record { 0 = 0 } }
 
 pub tags_free : (n : ℕ) (links : List Link) → links ≡ replicate n free → tags_of links ≡ replicate n None
 tags_free n links e = ap tags_of e ∙ map-replicate tag_of n free
@@ -73,8 +75,8 @@ filled_on slot n o other self lt is h = record {
   where
     same : (k : ℕ) → k < slot + 1 → (t : Bool) → (k == slot) ≡ t → tag_in (slice_set self slot o) k ≡ tag_in other k
     same k less true t =
-        ap (tag_in (slice_set self slot o)) (eqb-true k slot t) ∙ get_or-set_same self slot o None (omega (arith, lt, h.long)) ∙ is
-        ∙ ap (tag_in other) (sym (eqb-true k slot t))
+        ap (tag_in (slice_set self slot o)) (eqb-true k slot t) ∙ get_or-set_same self slot o None (omega (arith, lt, h.long))
+        ∙ is ∙ ap (tag_in other) (sym (eqb-true k slot t))
     same k less false t =
         get_or-set_other self slot k o None (eqb-false k slot t) ∙ h.same k (omega (arith, less, eqb-false k slot t))
 

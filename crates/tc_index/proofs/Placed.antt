@@ -1,6 +1,7 @@
 -- Chains as they are kept, once a slot came under a tag or left it.
 use Rattle.std.specs.Prelude.{slice_index, slice_index_or, slice_set, option_map}
-use Rattle.std.proofs.Common.{◌≡◌, ◌==◌, ℕ, ◌+◌, ◌<◌, Bool, true, false, cond, List, length, Option, Some, None, refl, sym, ◌∙◌, ap, subst, arith}
+use Rattle.std.proofs.Common.{◌≡◌, ◌==◌, ℕ, ◌+◌, ◌<◌, Bool, true, false, cond, List}
+use Rattle.std.proofs.Common.{length, Option, Some, None, refl, sym, ◌∙◌, ap, subst, arith}
 use Rattle.std.proofs.Math.ListN.{length-set}
 use Rattle.std.proofs.lemmas.Bool.{eqb-true, eqb-false}
 use Rattle.std.proofs.lemmas.List.{get_or-set_same, get_or-set_other, length-map}
@@ -112,8 +113,8 @@ module _ (heads : List ℕ) (links : List Link) (h : AreChains heads links) (slo
           (omega (arith, q_in, nexts_long links, length-set (nexts_of links) slot number)))
           ∙ ap (λ z. slice_index z) (sym en))
           refl refl
-          (inserted_behind (bucket_at heads links) (slice_index heads) (slice_index (nexts_of links)) (length heads) (length links)
-          h.chained below slot b number within bucket p.lower free q p.reached.0 p.reached.1 (p.higher q refl))
+          (inserted_behind (bucket_at heads links) (slice_index heads) (slice_index (nexts_of links)) (length heads)
+          (length links) h.chained below slot b number within bucket p.lower free q p.reached.0 p.reached.1 (p.higher q refl))
 
   -- a slot left its tag
   pub chains_removed : (mid : List Link) (mark : ℕ) → bucket_at heads links slot ≡ Some b

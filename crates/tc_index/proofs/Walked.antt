@@ -1,6 +1,7 @@
 -- What is known of a chain at a place of it.
 use Rattle.std.specs.Prelude.{IsSome, is_some, slice_index, slice_index_or, option_map}
-use Rattle.std.proofs.Common.{◌≡◌, ◌==◌, ℕ, zero, suc, ◌+◌, ◌<◌, ◌≤◌, Bool, true, false, List, [], ◌∷◌, length, Option, Some, None, refl, sym}
+use Rattle.std.proofs.Common.{◌≡◌, ◌==◌, ℕ, zero, suc, ◌+◌, ◌<◌, ◌≤◌, Bool, true}
+use Rattle.std.proofs.Common.{false, List, [], ◌∷◌, length, Option, Some, None, refl, sym}
 use Rattle.std.proofs.Common.{◌∙◌, ap, subst, arith}
 use Rattle.std.proofs.lemmas.Bool.{eqb-true, eqb-false, leb-true, leb-false}
 use Rattle.std.proofs.lemmas.List.{length-map}
@@ -52,11 +53,12 @@ place_leads heads links h (Some p) number b lt r =
 -- the number of a slot of a bucket, or the end; all slots from it on under the tag are not right
 pub record IsWalked (post : Slot → Bool → Type 0) (tag number : ℕ) (heads : List ℕ) (links : List Link) : Type 0 where
   pub stands : (slot : ℕ) → number ≡ slot + 1 → bucket_at heads links slot ≡ Some (bucket_of (length heads) tag)
-  pub passed : (right : ℕ → Bool) → Tells post right → (slot : ℕ) → number ≤ slot → tag_at links slot ≡ Some tag → right slot ≡ false
+  pub passed : (right : ℕ → Bool) → Tells post right → (slot : ℕ) → number ≤ slot → tag_at links slot ≡ Some tag
+      → right slot ≡ false
 
 -- one step of a walk, past a slot that is not the right one under the tag
-pub walk_on : (post : Slot → Bool → Type 0) (tag number slot next : ℕ) (heads : List ℕ) (links : List Link) → AreChains heads links
-    → number ≡ slot + 1 → next ≡ slice_index (nexts_of links) slot → IsWalked post tag number heads links
+pub walk_on : (post : Slot → Bool → Type 0) (tag number slot next : ℕ) (heads : List ℕ) (links : List Link)
+    → AreChains heads links → number ≡ slot + 1 → next ≡ slice_index (nexts_of links) slot → IsWalked post tag number heads links
     → ((right : ℕ → Bool) → Tells post right → tag_at links slot ≡ Some tag → right slot ≡ false)
     → IsWalked post tag next heads links
 walk_on post tag number slot next heads links h at on w miss = record {

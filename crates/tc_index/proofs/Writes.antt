@@ -20,14 +20,15 @@ pub tag_put : (next tag : ℕ) → next < 4294967295 → cond (next == 429496729
 tag_put next tag lt = ap (λ b. cond b None (Some tag)) (number_marks_not next lt)
 
 -- the tag that is read at a place
-pub tag_read : (ls : List Link) (slot : ℕ) (d : Link) → slot < length ls → tag_of (slice_index_or ls slot d) ≡ tag_in (tags_of ls) slot
+pub tag_read : (ls : List Link) (slot : ℕ) (d : Link) → slot < length ls
+    → tag_of (slice_index_or ls slot d) ≡ tag_in (tags_of ls) slot
 tag_read ls slot d small = sym (get_or-map tag_of ls slot d None small)
 
 -- a link that stands stays under its tag where it leads to another number
-tag_kept : (l : Link) (m : ℕ) → IsSome (tag_of l) → m < 4294967295 → cond (m == 4294967295) None (Some l.tag) ≡ tag_of l
-tag_kept l m stands lt = tag_put m l.tag lt ∙ go (l.next == 4294967295) stands
+tag_kept : (l : Link) (m : ℕ) → IsSome (tag_of l) → m < 4294967295 → cond (m == 4294967295) None (Some l.tag.0) ≡ tag_of l
+tag_kept l m stands lt = tag_put m l.tag.0 lt ∙ go (l.next == 4294967295) stands
   where
-    go : (b : Bool) → is_some (cond b None (Some l.tag)) ≡ true → Some l.tag ≡ cond b None (Some l.tag)
+    go : (b : Bool) → is_some (cond b None (Some l.tag.0)) ≡ true → Some l.tag.0 ≡ cond b None (Some l.tag.0)
     go true s = absurd (cc (s))
     go false s = refl
 
@@ -45,12 +46,12 @@ next_read ls slot d small = sym (get_or-map (λ l. l.next) ls slot d 0 small)
 
 -- the tag of a link whose slot stands
 pub tag_stands : (ls : List Link) (slot : ℕ) (d : Link) → slot < length ls → IsSome (tag_in (tags_of ls) slot)
-    → tag_in (tags_of ls) slot ≡ Some (slice_index_or ls slot d).tag
+    → tag_in (tags_of ls) slot ≡ Some (slice_index_or ls slot d).tag.0
 tag_stands ls slot d small stands = go (slice_index_or ls slot d) (tag_read ls slot d small)
   where
-    go : (l : Link) → tag_of l ≡ tag_in (tags_of ls) slot → tag_in (tags_of ls) slot ≡ Some l.tag
+    go : (l : Link) → tag_of l ≡ tag_in (tags_of ls) slot → tag_in (tags_of ls) slot ≡ Some l.tag.0
     go l e = at (l.next == 4294967295) e
       where
-        at : (b : Bool) → cond b None (Some l.tag) ≡ tag_in (tags_of ls) slot → tag_in (tags_of ls) slot ≡ Some l.tag
+        at : (b : Bool) → cond b None (Some l.tag.0) ≡ tag_in (tags_of ls) slot → tag_in (tags_of ls) slot ≡ Some l.tag.0
         at true e = absurd (cc (ap is_some e, stands))
         at false e = sym e

@@ -1,5 +1,6 @@
 -- Chains of slots, one for each bucket, from high slots to low ones. Source: this project's own.
-use Rattle.std.specs.Prelude.{◌≡◌, ℕ, ◌+◌, ◌-◌, ◌<◌, ◌≤◌, ◌^◌, List, length, Option, Some, None, option_map, slice_index, slice_set}
+use Rattle.std.specs.Prelude.{◌≡◌, ℕ, ◌+◌, ◌-◌, ◌<◌, ◌≤◌, ◌^◌}
+use Rattle.std.specs.Prelude.{List, length, Option, Some, None, option_map, slice_index, slice_set}
 use Rattle.std.specs.Int.Bits.{bit_and}
 use Rattle.tc_index.specs.Tags.{tag_in}
 use Rattle.tc_index.specs.Links.{tags_of, nexts_of}
@@ -14,6 +15,7 @@ bucket_of buckets tag = bit_and tag (buckets - 1)
 abbrev pub bucket_in : ℕ → List (Option ℕ) → ℕ → Option ℕ
 bucket_in buckets tags slot = option_map (bucket_of buckets) (tag_in tags slot)
 
+-- the bucket of each slot, by heads and links
 abbrev pub bucket_at : List ℕ → List Link → ℕ → Option ℕ
 bucket_at heads links slot = bucket_in (length heads) (tags_of links) slot
 

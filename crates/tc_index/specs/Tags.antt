@@ -1,5 +1,6 @@
 -- Slots under tags: the tag under which each slot stands, or nothing where it stands nowhere. Source: this project's own.
-use Rattle.std.specs.Prelude.{◌≡◌, ℕ, ◌-◌, ◌<◌, ◌^◌, Bool, true, false, List, ◌++◌, length, Option, Some, None, replicate, slice_index_or}
+use Rattle.std.specs.Prelude.{◌≡◌, ℕ, ◌-◌, ◌<◌, ◌^◌, Bool, true, false}
+use Rattle.std.specs.Prelude.{List, ◌++◌, length, Option, Some, None, replicate, slice_index_or}
 use Rattle.tc_item.specs.declared.slot.Slot.{Slot}
 
 -- the tag under which a slot stands

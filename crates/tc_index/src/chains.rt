@@ -1,10 +1,11 @@
 //! A chain of slots for each bucket.
-ghost use Rattle.std.specs.Prelude.{◌≡◌, ℕ, ◌+◌, ◌-◌, ◌<◌, ◌≤◌, ◌^◌, Bool, true, false, length, slice_set, Option, Some, None, IsSome};
+ghost use Rattle.std.specs.Prelude.{◌≡◌, ℕ, ◌+◌, ◌-◌, ◌<◌, ◌≤◌, ◌^◌, Bool};
+ghost use Rattle.std.specs.Prelude.{true, false, length, slice_set, Option, Some, None, IsSome};
 ghost use Rattle.tc_index.specs.Tags.{Tells, FindsRight};
 ghost use Rattle.tc_index.specs.Links.{tags_of, nexts_of, tag_at};
 ghost use Rattle.tc_index.specs.Chains.{AreChains, IsPlace, bucket_of, bucket_at, heads_led, nexts_led};
 
-use crate::links::{Link, free, lead, next, put};
+use crate::links::{Link, Tag, free, lead, next, put};
 use tc_item::Slot;
 
 /// Where a slot stands in a chain, or would: the slot before it, if it isn't the first, and the number there.
@@ -15,24 +16,24 @@ struct Place {
 }
 
 /// The bucket of a tag.
-fn bucket(heads: &[u32], tag: u32) -> usize
+fn bucket(heads: &[u32], tag: Tag) -> usize
     requires { 0 < length heads.now }
-    ensures value { result ≡ bucket_of (length heads.now) tag }
+    ensures value { result ≡ bucket_of (length heads.now) tag.0 }
     ensures within { result < length heads.now }
 {
-    tag as usize & (heads.len() - 1)
+    tag.0 as usize & (heads.len() - 1)
 }
 
 /// Whether a slot stands under this tag and is the right one.
-fn is_sought<F>(links: &[Link], slot: usize, tag: u32, is_right: &F) -> bool
+fn is_sought<F>(links: &[Link], slot: usize, tag: Tag, is_right: &F) -> bool
 where
     F: Fn(Slot) -> bool,
     requires callable { F.IsAlwaysCallable is_right.now }
     requires stands { IsSome (tag_at links.now slot) }
     ensures found { result ≡ true → (right : ℕ → Bool) → Tells (F.post is_right.now) right
-        → (tag_at links.now slot ≡ Some tag) × (right slot ≡ true) }
+        → (tag_at links.now slot ≡ Some tag.0) × (right slot ≡ true) }
     ensures passed { result ≡ false → (right : ℕ → Bool) → Tells (F.post is_right.now) right
-        → tag_at links.now slot ≡ Some tag → right slot ≡ false }
+        → tag_at links.now slot ≡ Some tag.0 → right slot ≡ false }
 {
     if links[slot].tag != tag {
         return false;
@@ -41,13 +42,13 @@ where
 }
 
 /// A slot under this tag that is the right one.
-pub(crate) fn find<F>(heads: &[u32], links: &[Link], tag: u32, is_right: &F) -> Option<Slot>
+pub(crate) fn find<F>(heads: &[u32], links: &[Link], tag: Tag, is_right: &F) -> Option<Slot>
 where
     F: Fn(Slot) -> bool,
     requires chains { AreChains heads.now links.now }
     requires callable { F.IsAlwaysCallable is_right.now }
     ensures { (right : ℕ → Bool) → Tells (F.post is_right.now) right
-        → FindsRight result tag right (tags_of links.now) }
+        → FindsRight result tag.0 right (tags_of links.now) }
 {
     if links.is_empty() {
         return None;
@@ -101,12 +102,12 @@ fn lead_to(
 }
 
 /// Puts a slot that stands nowhere under a tag.
-pub(crate) fn insert(heads: &mut [u32], links: &mut [Link], slot: usize, tag: u32)
+pub(crate) fn insert(heads: &mut [u32], links: &mut [Link], slot: usize, tag: Tag)
     requires chains { AreChains heads.old links.old }
     requires within { slot < length links.old }
     requires free { tag_at links.old slot ≡ None }
     ensures chains { AreChains heads.new links.new }
-    ensures tags { tags_of links.new ≡ slice_set (tags_of links.old) slot (Some tag) }
+    ensures tags { tags_of links.new ≡ slice_set (tags_of links.old) slot (Some tag.0) }
 {
     let bucket = bucket(heads, tag);
     let Place { before, number } = place_of(heads, links, bucket, slot);

@@ -1,8 +1,9 @@
 //! The index.
-ghost use Rattle.std.specs.Prelude.{◌≡◌, ℕ, ◌<◌, Bool, length, slice_set, Some, None, [], IsSome, IfOk, is_ok, ◌≤◌, if◌then◌else◌, replicate};
+ghost use Rattle.std.specs.Prelude.{◌≡◌, ℕ, ◌<◌, Bool, length, slice_set, Some, None};
+ghost use Rattle.std.specs.Prelude.{[], IsSome, option_map, IfOk, is_ok, ◌≤◌, if◌then◌else◌, replicate};
 ghost use Rattle.tc_index.specs.Tags.{Tells, FindsRight, tag_in, grown};
 
-use crate::links::{FREE, Link};
+use crate::links::{FREE, Link, Tag};
 use crate::{chains, links};
 use std::alloc::Global;
 use std::marker::Model;
@@ -57,11 +58,11 @@ impl Index {
     }
 
     /// The tag under which a slot stands.
-    pub fn tag(&self, slot: Slot) -> Option<u32>
+    pub fn tag(&self, slot: Slot) -> Option<Tag>
         requires { slot.0 < length self.now }
-        ensures { result ≡ tag_in self.now slot.0 }
+        ensures { option_map (λ tag. tag.0) result ≡ tag_in self.now slot.0 }
     {
-        links::tag(&self.links, slot.0)
+        links::under(&self.links, slot.0)
     }
 
     /// Puts the slots of another index under their tags here, where none stands.
@@ -110,19 +111,19 @@ impl Index {
     }
 
     /// A right slot under this tag, if there is one.
-    pub fn find<F: Fn(Slot) -> bool>(&self, tag: u32, is_right: F) -> Option<Slot>
+    pub fn find<F: Fn(Slot) -> bool>(&self, tag: Tag, is_right: F) -> Option<Slot>
         requires { F.IsAlwaysCallable is_right }
         ensures { (right : ℕ → Bool) → Tells (F.post is_right) right
-            → FindsRight result tag right self.now }
+            → FindsRight result tag.0 right self.now }
     {
         chains::find(&self.heads, &self.links, tag, &is_right)
     }
 
     /// Puts a slot that stands nowhere under a tag.
-    pub fn insert(&mut self, slot: Slot, tag: u32)
+    pub fn insert(&mut self, slot: Slot, tag: Tag)
         requires room { slot.0 < length self.old }
         requires free { tag_in self.old slot.0 ≡ None }
-        ensures { self.new ≡ slice_set self.old slot.0 (Some tag) }
+        ensures { self.new ≡ slice_set self.old slot.0 (Some tag.0) }
     {
         chains::insert(&mut self.heads, &mut self.links, slot.0, tag);
     }

@@ -16,4 +16,5 @@ mod index;
 mod links;
 
 pub use index::Index;
+pub use links::Tag;
 pub use tc_item::Slot;

@@ -1,22 +1,26 @@
 //! What leads from one slot to the next, and under which tag each stands.
-ghost use Rattle.std.specs.Prelude.{◌≡◌, ℕ, ◌<◌, ◌-◌, ◌^◌, length, slice_index_or, slice_set, Some, None, IsSome};
+ghost use Rattle.std.specs.Prelude.{◌≡◌, ℕ, ◌<◌, ◌-◌, ◌^◌, length, slice_index_or, slice_set, Some, None, IsSome, option_map};
 ghost use Rattle.tc_index.specs.Links.{tags_of, nexts_of, next_at, tag_at};
 
 /// The next number of a slot that stands nowhere.
 pub(crate) const NOWHERE: u32 = u32::MAX;
+
+/// 32 bits of a hash.
+#[derive(Clone, Copy, Debug, PartialEq, Eq)]
+pub struct Tag(pub u32);
 
 /// A slot: the number of the next one in its chain, which is its slot and 1, or 0 where it is the last; and the
 /// tag under which it stands.
 #[derive(Clone, Copy)]
 pub struct Link {
     pub next: u32,
-    pub tag: u32,
+    pub tag: Tag,
 }
 
 /// A slot that stands nowhere.
 pub(crate) const FREE: Link = Link {
     next: NOWHERE,
-    tag: 0,
+    tag: Tag(0),
 };
 
 /// The number of the slot that follows one, and 0 behind the last.
@@ -28,9 +32,9 @@ pub(crate) fn next(links: &[Link], slot: usize) -> usize
 }
 
 /// The tag under which a slot stands.
-pub(crate) fn tag(links: &[Link], slot: usize) -> Option<u32>
+pub(crate) fn under(links: &[Link], slot: usize) -> Option<Tag>
     requires { slot < length links.now }
-    ensures { result ≡ tag_at links.now slot }
+    ensures { option_map (λ tag. tag.0) result ≡ tag_at links.now slot }
 {
     let link = links[slot];
     if link.next == NOWHERE {
@@ -40,11 +44,11 @@ pub(crate) fn tag(links: &[Link], slot: usize) -> Option<u32>
 }
 
 /// Puts a slot under a tag, before the one of this number.
-pub(crate) fn put(links: &mut [Link], slot: usize, next: usize, tag: u32)
+pub(crate) fn put(links: &mut [Link], slot: usize, next: usize, tag: Tag)
     requires within { slot < length links.old }
     requires next { next < 2 ^ 32 - 1 }
     ensures nexts { nexts_of links.new ≡ slice_set (nexts_of links.old) slot next }
-    ensures tags { tags_of links.new ≡ slice_set (tags_of links.old) slot (Some tag) }
+    ensures tags { tags_of links.new ≡ slice_set (tags_of links.old) slot (Some tag.0) }
 {
     links[slot] = Link {
         next: next as u32,

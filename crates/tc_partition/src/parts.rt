@@ -1,8 +1,7 @@
 //! Steps on index, entries, lists and wheel, each of which is told what it needs of the others.
 ghost use Rattle.std.specs.Prelude.{◌≡◌, ℕ, true, IfOk, OnOk, IsSome, length, option_to_list, ◌++◌, ◌∷◌, [], ◌+◌, ◌<◌, ◌≤◌, Some, None};
 ghost use Rattle.std.specs.Option.{option_copied};
-ghost use Rattle.std.specs.Str.{bytes_eq};
-ghost use Rattle.indexmap.specs.IndexMap.{get as index_get, spare};
+ghost use Rattle.tc_index.specs.Tags.{tag_in};
 ghost use Rattle.slab.specs.Slab.{get as slab_get, slab_len, HasRoomFor};
 ghost use Rattle.tc_past.specs.Told.{IsSamePage};
 ghost use Rattle.tc_slru.specs.SlotLists.{DropsNext};
@@ -10,17 +9,17 @@ ghost use Rattle.tc_plain.specs.Entries.{weight, with_item, with_due};
 ghost use Rattle.tc_plain.specs.declared.shared.entry.Entry.{Entry};
 ghost use Rattle.tc_wheel.specs.Dues.{due_at};
 ghost use Rattle.tc_plain.specs.BySlot.{entries_at};
-ghost use Rattle.tc_partition.specs.Agreement.{set_at, due_by};
+ghost use Rattle.tc_partition.specs.Agreement.{set_at, due_by, tag_of, is_of};
 ghost use Rattle.tc_partition.specs.Held.{seen_by, IsVacated, IsTaken, HasRoom, IsSameThen};
 ghost use Rattle.tc_partition.specs.Undoing.{at_slots, undo, undo_one, was_in, AreBelow, IsNoted, AreNoted, Notes};
 
 use crate::log::Log;
 use crate::reading::have_read;
-use indexmap::IndexMap;
 use slab::Slab;
 use std::alloc::Global;
-use std::hash::RandomState;
+use std::hash::{BuildHasher, RandomState};
 use std::mem;
+use tc_index::{Index, Tag};
 use tc_item::{Due, KeptDue, Key, MOMENT_LIMIT, Moment, NoMemory, Slot};
 use tc_plain::{Change, Entry, Was};
 use tc_sketch::{PastSketch, hash};
@@ -72,71 +71,59 @@ fn swap_due(entries: &mut Slab<Entry>, slot: Slot, due: Due) -> KeptDue
     }
 }
 
-/// Puts an entry into a free slot, and its key into the index, and notes it.
+/// The tag of a key: the upper half of its keyed hash.
+pub fn key_tag(hasher: &RandomState, key: &Key) -> Tag
+    ensures { result.0 ≡ tag_of hasher.now key.now }
+{
+    Tag((hasher.hash_one(key) >> 32) as u32)
+}
+
+/// Whether a slot holds an entry of this key.
+pub fn is_of(entries: &Slab<Entry>, slot: Slot, key: &Key) -> bool
+    ensures { result ≡ is_of key.now (slab_get entries.now slot.0) }
+{
+    match entries.get(slot.0) {
+        Some(entry) => entry.key == *key,
+        None => false,
+    }
+}
+
+/// Puts an entry into a free slot, and the slot under the tag of its key, and notes it.
 pub fn take_in(
-    index: &mut IndexMap<Key, Slot, RandomState>,
+    index: &mut Index,
+    hasher: &RandomState,
     entries: &mut Slab<Entry>,
     log: &mut Log,
-    key: Key,
     entry: Entry,
 ) -> Slot
-    requires index { 0 < spare index.old }
+    requires index { entries.old.capacity ≤ length index.old }
+    requires free { (n : ℕ) → slab_get entries.old n ≡ None → tag_in index.old n ≡ None }
     requires entries { HasRoomFor entries.old 1 }
     requires log { length log.old.since < log.old.capacity }
-    requires key { key ≡ entry.key }
-    ensures taken { IsTaken entry result.0 index.old index.new entries.old entries.new }
+    ensures taken { IsTaken hasher.now entry result.0 index.old index.new entries.old entries.new }
     ensures noted { IsNoted result.0 log.old log.new entries.old entries.new }
     ensures len { slab_len entries.new ≡ slab_len entries.old + 1 }
 {
+    let tag = key_tag(hasher, &entry.key);
     let slot = Slot(entries.insert_reserved(entry));
-    let _fits = index.insert(key, slot);
+    index.insert(slot, tag);
     note_held(log, slot, None);
     slot
 }
 
-/// Takes a slot's entry out, and its key out of the index, and notes it.
-pub fn vacate(
-    index: &mut IndexMap<Key, Slot, RandomState>,
-    entries: &mut Slab<Entry>,
-    log: &mut Log,
-    slot: Slot,
-)
+/// Takes a slot's entry out, and the slot from under its tag, and notes it.
+pub fn vacate(index: &mut Index, entries: &mut Slab<Entry>, log: &mut Log, slot: Slot)
     requires held { IsSome (slab_get entries.old slot.0) }
+    requires stands { IsSome (tag_in index.old slot.0) }
     requires log { length log.old.since + slab_len entries.old ≤ log.old.capacity }
     ensures gone { (e : Entry) → slab_get entries.old slot.0 ≡ Some e
         → IsVacated e slot.0 index.old index.new entries.old entries.new }
     ensures noted { IsNoted slot.0 log.old log.new entries.old entries.new }
 {
     if let Some(entry) = entries.try_remove(slot.0) {
-        let _slot = index.swap_remove(&entry.key);
+        index.remove(slot);
         note_held(log, slot, Some(entry));
     }
-}
-
-/// Takes what a key holds out of index and entries, notes it, and says in which slot it was.
-pub fn take_out(
-    index: &mut IndexMap<Key, Slot, RandomState>,
-    entries: &mut Slab<Entry>,
-    log: &mut Log,
-    key: &Key,
-) -> Option<Slot>
-    requires held { (slot : Slot) → index_get bytes_eq index.old key.now ≡ Some slot
-        → IsSome (slab_get entries.old slot.0) }
-    requires log { length log.old.since + slab_len entries.old ≤ log.old.capacity }
-    ensures found { result ≡ index_get bytes_eq index.old key.now }
-    ensures missed { result ≡ None → index.new.entries ≡ index.old.entries }
-    ensures kept { result ≡ None → (entries.new ≡ entries.old) × (log.new ≡ log.old) }
-    ensures spare { spare index.old ≤ spare index.new }
-    ensures gone { (slot : Slot) (e : Entry) → result ≡ Some slot
-        → slab_get entries.old slot.0 ≡ Some e → e.key ≡ key.now
-        → IsVacated e slot.0 index.old index.new entries.old entries.new }
-    ensures noted { (slot : Slot) → result ≡ Some slot
-        → IsNoted slot.0 log.old log.new entries.old entries.new }
-{
-    let slot = index.swap_remove(key)?;
-    let held = entries.try_remove(slot.0);
-    note_held(log, slot, held);
-    Some(slot)
 }
 
 /// The moment of a due that a moment can reach.
@@ -197,12 +184,12 @@ pub fn drop_next(lists: &mut Lists, entries: &Slab<Entry>, sketch: &PastSketch) 
 
 /// Room for one more entry.
 pub fn grow(
-    index: &mut IndexMap<Key, Slot, RandomState>,
+    index: &mut Index,
     entries: &mut Slab<Entry>,
     lists: &mut Lists,
     wheel: &mut Wheel,
 ) -> Result<(), NoMemory>
-    ensures index { index.new.entries ≡ index.old.entries }
+    ensures index { (n : ℕ) → tag_in index.new n ≡ tag_in index.old n }
     ensures slots { entries.new.slots ≡ entries.old.slots }
     ensures areas { lists.new.live.areas ≡ lists.old.live.areas }
     ensures limits { lists.new.live.limits ≡ lists.old.live.limits }
@@ -211,9 +198,9 @@ pub fn grow(
     ensures long { length wheel.old.dues ≤ length wheel.new.dues }
     ensures room { OnOk result (HasRoom index.new entries.new lists.new.live wheel.new) }
 {
-    index.reserve(1)?;
     entries.reserve(1)?;
     let slots = entries.capacity();
+    index.reserve(slots)?;
     lists.reserve(slots)?;
     wheel.reserve(slots)?;
     Ok(())

@@ -1,20 +1,23 @@
-//! The entries of one user's cache, by slot: an index by key, the entries, the lists and the wheel.
+//! The entries of one user's cache, by slot: the entries, an index by tags of keys, the lists and the wheel.
 //!
-//! Terms: a slot is a number. It is filled with an entry and emptied again. The index gives a key's
-//! slot, the lists hold slots with what they weigh, front to back, and the wheel holds slots with a
-//! due.
+//! Terms: a slot is a number. It is filled with an entry and emptied again. The index has slots under
+//! the tags of their keys, the lists hold slots with what they weigh, front to back, and the wheel
+//! holds slots with a due.
 //!
 //! What is always true (`AreSlots` in `specs/Held.antt`):
-//! 1. `agree`: the four agree (`Agree` in `specs/Agreement.antt`), which is to say:
-//!    1. `indexed`: the slot that the index gives for a key holds an entry of that key.
-//!    2. `found`: the index gives the slot of each entry for its key.
+//! 1. `agree`: no key is held twice, and entries, lists and wheel agree (`Agree` in
+//!    `specs/Agreement.antt`), which is to say:
+//!    1. `indexed`: where a key is, an entry of that key is held.
+//!    2. `found`: and in no other slot.
 //!    3. `listed`: a slot that holds an entry stands once in the lists, and every other nowhere.
 //!    4. `weighed`: each place in the lists has the weight of its entry.
 //!    5. `timed`: the wheel holds the slots whose entries have a due that a moment can reach, until
 //!       that due.
-//! 2. `within`: each slot that holds an entry has a place in the wheel.
+//! 2. `tagged`: each slot that holds an entry stands in the index under the tag of its key, and every
+//!    other nowhere.
+//! 3. `within`: each slot that holds an entry has a place in the wheel.
 //!
-//! So no key is held twice, and what the lists stand for under a key is what the index finds.
+//! So what the lists stand for under a key is what is found under its tag.
 ghost use Rattle.std.specs.Prelude.{◌≡◌, ℕ, true, false, IfOk, length, ◌+◌, ◌<◌, ◌≤◌, ◌^◌, Some, None, is_some, IsSome, OnOk, OnErr};
 ghost use Rattle.std.specs.Prelude.{slice_index_or, slice_set};
 ghost use Rattle.tc_model.specs.Areas.{Limits as AreaLimits, total, settle, accessed};
@@ -33,15 +36,15 @@ ghost use Rattle.tc_partition.specs.Held.{filled, IsFound, FindsSlot, DropsEntry
 use crate::log::Log;
 use crate::opened::copy_areas;
 use crate::parts::{
-    copy_at, copy_then, drop_next, empty_all, grow, put, put_due, reached, reached_by, take_in,
-    take_out, time, vacate, weight_at,
+    copy_at, copy_then, drop_next, empty_all, grow, is_of, key_tag, put, put_due, reached,
+    reached_by, take_in, time, vacate, weight_at,
 };
 use crate::tables::Tables;
-use indexmap::IndexMap;
 use slab::Slab;
 use std::alloc::Global;
 use std::hash::RandomState;
 use std::marker::Model;
+use tc_index::Index;
 use tc_item::{Due, Key, Moment, NoMemory, Slot};
 use tc_plain::{Areas, Change, Entry, Limits};
 use tc_sketch::PastSketch;
@@ -67,7 +70,8 @@ const MOST_MOVED: usize = 16_384;
 /// The entries of one partition.
 #[derive(Drop)]
 pub struct Slots {
-    index: IndexMap<Key, Slot, RandomState>,
+    index: Index,
+    hasher: RandomState,
     entries: Slab<Entry>,
     lists: Lists,
     wheel: Wheel,
@@ -99,7 +103,8 @@ impl Slots {
         let lists = Lists::new(alloc, limits.window, limits.main, limits.protected)?;
         let wheel = Wheel::new(alloc)?;
         Ok(Slots {
-            index: IndexMap::with_hasher(alloc, hasher),
+            index: Index::new(alloc),
+            hasher,
             entries: Slab::new(alloc),
             lists,
             wheel,
@@ -115,7 +120,7 @@ impl Slots {
         ensures page { IfOk result (λ s. s.then.page ≡ no_entries) }
         ensures next { IfOk result (λ s. s.then.next ≡ no_entries) }
     {
-        Slots::new(alloc, *self.index.hasher(), limits)
+        Slots::new(alloc, self.hasher, limits)
     }
 
     /// Whether the tables have places for many slots, few of these hold an entry, and the entries can be put
@@ -131,6 +136,7 @@ impl Slots {
     {
         let Slots {
             index,
+            hasher: _,
             entries,
             lists,
             wheel,
@@ -190,20 +196,16 @@ impl Slots {
     pub fn find(&self, key: &Key) -> Option<Slot>
         ensures { FindsSlot result key.now self.now }
     {
-        match self.index.get(key) {
-            Some(slot) => Some(*slot),
-            None => None,
-        }
+        let tag = key_tag(&self.hasher, key);
+        self.index.find(tag, |slot| is_of(&self.entries, slot, key))
     }
 
     /// Whether a slot holds an entry of this key.
     fn is_of(&self, slot: Slot, key: &Key) -> bool
         ensures { result ≡ true → IsFound key.now slot.0 self.now }
     {
-        match self.entries.get(slot.0) {
-            Some(entry) => entry.key == *key,
-            None => false,
-        }
+        let _ = &self.index;
+        is_of(&self.entries, slot, key)
     }
 
     /// The slot of what a key holds; the index is asked only where that isn't this place.
@@ -314,9 +316,9 @@ impl Slots {
         let due = reached_by(&entry);
         let slot = take_in(
             &mut self.index,
+            &self.hasher,
             &mut self.entries,
             &mut self.log,
-            key,
             entry,
         );
         self.lists.push(area, slot, weight);
@@ -429,23 +431,31 @@ impl Slots {
         ensures then { self.new.then ≡ self.old.then }
         ensures spare { self.old.spare ≤ self.new.spare }
     {
-        match take_out(&mut self.index, &mut self.entries, &mut self.log, key) {
-            Some(found) => {
-                self.lists.remove(found);
-                self.wheel.remove(found);
+        match self.find(key) {
+            Some(slot) => {
+                self.empty(slot);
                 true
             }
             None => false,
         }
     }
 
-    /// A slot that holds an entry; the last that the index has.
-    fn last(&self) -> Option<Slot>
-        ensures { (slot : Slot) → result ≡ Some slot
-            → IsSome (slice_index_or self.now.slots slot.0 None) }
+    /// Takes the entries of a list out one by one, if there is memory to tell them.
+    fn empty_area(&mut self, area: Area)
+        ensures limits { self.new.limits ≡ self.old.limits }
+        ensures room { self.old.has_room ≡ true → self.new.has_room ≡ true }
+        ensures then { self.new.then ≡ self.old.then }
+        ensures spare { self.old.spare ≤ self.new.spare }
     {
-        let (_, slot) = self.index.get_index(self.index.len().checked_sub(1)?)?;
-        Some(*slot)
+        let alloc = self.index.allocator();
+        let Ok(slots) = self.lists.slots_in(alloc, area) else {
+            return;
+        };
+        for slot in &slots {
+            if self.entry(*slot).is_some() {
+                self.empty(*slot);
+            }
+        }
     }
 
     /// Takes entries out one by one.
@@ -455,12 +465,9 @@ impl Slots {
         ensures then { self.new.then ≡ self.old.then }
         ensures spare { self.old.spare ≤ self.new.spare }
     {
-        for _ in 0..self.entries.len() {
-            let Some(slot) = self.last() else {
-                return;
-            };
-            self.empty(slot);
-        }
+        self.empty_area(Area::Window);
+        self.empty_area(Area::Probation);
+        self.empty_area(Area::Protected);
     }
 
     /// Takes all entries out, each of the four in one pass.

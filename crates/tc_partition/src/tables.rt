@@ -1,8 +1,6 @@
 //! Tables that are done with.
-use indexmap::IndexMap;
 use slab::Slab;
-use std::hash::RandomState;
-use tc_item::{Key, Slot};
+use tc_index::Index;
 use tc_plain::Entry;
 use tc_slru::Lists;
 use tc_wheel::Wheel;
@@ -10,7 +8,7 @@ use tc_wheel::Wheel;
 /// Tables that are in use no more and tell nothing any more, each of which may be some 60 MiB.
 #[derive(Drop)]
 pub struct Tables {
-    index: Option<IndexMap<Key, Slot, RandomState>>,
+    index: Option<Index>,
     entries: Option<Slab<Entry>>,
     lists: Option<Lists>,
     wheel: Option<Wheel>,
@@ -18,12 +16,7 @@ pub struct Tables {
 
 impl Tables {
     /// These tables.
-    pub fn of(
-        index: IndexMap<Key, Slot, RandomState>,
-        entries: Slab<Entry>,
-        lists: Lists,
-        wheel: Wheel,
-    ) -> Tables {
+    pub fn of(index: Index, entries: Slab<Entry>, lists: Lists, wheel: Wheel) -> Tables {
         Tables {
             index: Some(index),
             entries: Some(entries),

@@ -20,9 +20,9 @@ returns-clause-chains c =
     let place = c.place_of-before in
     let bucket = c.bucket-bucket.result in
     let within = tag_within links slot c.requires.stands in
-    let free : Link = record { next = 0; tag = 0 } in
+    let free : Link = record { next = 0; tag = record { 0 = 0 } } in
     let behind = next_read links slot free within in
-    let stood = tag_bucket heads links slot (slice_index_or links slot free).tag
+    let stood = tag_bucket heads links slot (slice_index_or links slot free).tag.0
     (tag_stands links slot free within c.requires.stands) in
     chains_removed heads links c.requires.chains slot bucket place.result.number place.result.before within
     c.bucket-bucket.ensures.within place.ensures c.lead_to.new.heads c.free.new.links c.lead_to.new.links 4294967295

@@ -12,4 +12,4 @@ pub returns-clause-tags : goal.returns-clause-tags
 returns-clause-tags c =
     map-set tag_of c.args.links.now c.args.slot _
     ∙ ap (λ (o : Option ℕ). slice_set (tags_of c.args.links.now) c.args.slot o)
-    (tag_put c.args.next c.args.tag (omega (arith, c.requires.next)))
+    (tag_put c.args.next c.args.tag.0 (omega (arith, c.requires.next)))

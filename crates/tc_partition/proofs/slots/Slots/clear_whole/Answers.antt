@@ -1,9 +1,9 @@
 use Rattle.std.specs.Prelude.{length}
 use Rattle.std.proofs.Common.{◌∙◌, ap, arith}
 use Rattle.tc_partition.specs.Held.{Held}
-use Rattle.tc_partition.proofs.Cleared.{slots_cleared, slots_cleared_areas, within_cleared, room_cleared}
+use Rattle.tc_partition.proofs.Cleared.{tags_cleared, slots_cleared, slots_cleared_areas, within_cleared, room_cleared}
 use Rattle.std.specs.Prelude.{count_by, is_some}
-use Rattle.std.proofs.Common.{List, Option, None, subst}
+use Rattle.std.proofs.Common.{List, ℕ, Option, None, subst}
 use Rattle.std.proofs.lemmas.List.{length-replicate}
 use Rattle.slab.specs.Slab.{slab_len}
 use Rattle.tc_wheel.specs.Dues.{Dues}
@@ -21,10 +21,12 @@ invariant_of-self c =
     record {
       agree =
           slots_cleared c.clear.new.self c.clear-2.new.self i.lists.live c.clear-3.new.self.live i.wheel c.clear-4.new.self
-          c.clear.ensures.empty c.clear-2.ensures.empty (ap (λ (t : Told SlotLists). t.live) c.clear-3.ensures) c.clear-4.ensures;
+          c.clear-2.ensures.empty (ap (λ (t : Told SlotLists). t.live) c.clear-3.ensures) c.clear-4.ensures;
+      tagged =
+          tags_cleared i.hasher (length i.index) c.clear.new.self c.clear-2.new.self c.clear.ensures c.clear-2.ensures.empty;
       within =
           within_cleared c.clear.new.self c.clear-2.new.self i.lists.live c.clear-3.new.self.live i.wheel c.clear-4.new.self
-          c.clear.ensures.empty c.clear-2.ensures.empty (ap (λ (t : Told SlotLists). t.live) c.clear-3.ensures)
+          c.clear-2.ensures.empty (ap (λ (t : Told SlotLists). t.live) c.clear-3.ensures)
           c.clear-4.ensures (length c.clear-4.new.self.dues);
       logged =
           logged_all (length i.wheel.dues) (length c.clear-4.new.self.dues) (length i.wheel.dues) 0
@@ -45,15 +47,14 @@ pub returns-clause-areas : goal.returns-clause-areas
 returns-clause-areas c =
     let i = c.self.inside in
     slots_cleared_areas c.clear.new.self c.clear-2.new.self i.lists.live c.clear-3.new.self.live i.wheel c.clear-4.new.self
-    c.clear.ensures.empty c.clear-2.ensures.empty (ap (λ (t : Told SlotLists). t.live) c.clear-3.ensures) c.clear-4.ensures
+    c.clear-2.ensures.empty (ap (λ (t : Told SlotLists). t.live) c.clear-3.ensures) c.clear-4.ensures
 
 pub returns-clause-room : goal.returns-clause-room
 returns-clause-room c = λ h.
     let i = c.self.inside in
     room_cleared c.clear.new.self c.clear-2.new.self i.lists.live c.clear-3.new.self.live i.wheel c.clear-4.new.self
-    c.clear.ensures.empty
     c.clear-2.ensures.empty (ap (λ (t : Told SlotLists). t.live) c.clear-3.ensures) c.clear-4.ensures i.index i.entries
-    c.clear.ensures.capacity
+    (ap (λ (ts : List (Option ℕ)). length ts) c.clear.ensures ∙ length-replicate {A = Option ℕ} (length i.index) None)
     (c.clear-2.ensures.capacity ∙ c.empty_all.ensures.capacity) (ap (λ (z : Held). z.has_room) c.self.view_is ∙ h)
 
 pub returns-clause-spare : goal.returns-clause-spare

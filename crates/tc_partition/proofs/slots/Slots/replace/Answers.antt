@@ -1,3 +1,4 @@
+use Rattle.tc_partition.proofs.Tagged.{tagged_put}
 use Rattle.std.specs.Prelude.{slice_index_or, is_some}
 use Rattle.std.proofs.Common.{◌≡◌, Some, None, length, sym, ◌∙◌, ap, subst, arith}
 use Rattle.slab.specs.Slab.{get as slab_get}
@@ -50,6 +51,9 @@ invariant_of-self c =
           c.time.new.wheel (due_again i.wheel c.remove.new.self c.time.new.wheel c.args.slot.0 _ c.remove.ensures
           (λ k. c.time.ensures.dues k
           ∙ ap (λ o. set_at c.args.slot.0 o (due_at c.remove.new.self.dues) k) c.reached_by-due.ensures));
+      tagged =
+          tagged_put i.hasher i.index (slab_get i.entries) (slab_get c.put.new.entries) c.args.slot.0
+          c.self.invariant.tagged f.entry c.args.entry at f.own c.put.ensures.entries;
       within =
           subst (λ n. AreWithin n (slab_get c.put.new.entries))
           (sym (c.time.ensures.long ∙ long_cleared i.wheel c.remove.new.self c.args.slot.0 c.remove.ensures))

@@ -1,8 +1,8 @@
 use Rattle.std.proofs.Common.{◌≡◌, ◌≤◌, true}
-use Rattle.tc_partition.proofs.slots.Slots.empty_each.Given as goal
+use Rattle.tc_partition.proofs.slots.Slots.empty_area.Given as goal
 
-abbrev pub invariant-loop : goal.invariant-loop
-invariant-loop l = record {
+abbrev pub invariant-loop-slot : goal.invariant-loop-slot
+invariant-loop-slot l = record {
   limits : l.self.limits ≡ l.fn.self.limits;
   room : l.fn.self.has_room ≡ true → l.self.has_room ≡ true;
   then : l.self.then ≡ l.fn.self.then;
