@@ -23,11 +23,17 @@ enum Move {
 fn make(rt: &impl Abort, index: &mut Index, step: &Move, place: usize) -> Result<(), NoMemory> {
     match step {
         Move::Insert(slot, tag) => {
-            assert!(rt; *slot < index.slots() && index.tag(Slot(*slot)).is_none(), "move {place}");
+            assert!(rt;
+                *slot < index.slots() && index.tag(Slot(*slot)).is_none(),
+                "move {place}"
+            );
             index.insert(Slot(*slot), Tag(*tag));
         }
         Move::Remove(slot) => {
-            assert!(rt; *slot < index.slots() && index.tag(Slot(*slot)).is_some(), "move {place}");
+            assert!(rt;
+                *slot < index.slots() && index.tag(Slot(*slot)).is_some(),
+                "move {place}"
+            );
             index.remove(Slot(*slot));
         }
         Move::Reserve(slots) => index.reserve(*slots)?,

@@ -34,8 +34,18 @@ fn replies_that_are_written_later_keep_their_order(rt: HostRuntime) -> Result<()
     let users = users(rt.alloc())?;
     let mut session = opened(rt.alloc(), &users, true)?;
     push(&mut session, b"get k\r\ngets l\r\nno\r\n")?;
-    answer_next_later(rt.alloc(), &mut session, &users, found(rt.alloc(), &["k"], 1)?)?;
-    answer_next_later(rt.alloc(), &mut session, &users, found(rt.alloc(), &["l"], 2)?)?;
+    answer_next_later(
+        rt.alloc(),
+        &mut session,
+        &users,
+        found(rt.alloc(), &["k"], 1)?,
+    )?;
+    answer_next_later(
+        rt.alloc(),
+        &mut session,
+        &users,
+        found(rt.alloc(), &["l"], 2)?,
+    )?;
     assert!(rt; session.has_out() && session.parts().is_empty());
     let said = wanted(rt.alloc(), &mut session, &users)?;
     expect_wanted(&rt, said, Wanted::Said, "no");
@@ -49,7 +59,12 @@ fn a_reply_that_is_written_later_waits_to_be_sent(rt: HostRuntime) -> Result<(),
     let users = users(rt.alloc())?;
     let mut session = opened(rt.alloc(), &users, true)?;
     push(&mut session, b"get k\r\n")?;
-    answer_next_later(rt.alloc(), &mut session, &users, found(rt.alloc(), &["k"], 1)?)?;
+    answer_next_later(
+        rt.alloc(),
+        &mut session,
+        &users,
+        found(rt.alloc(), &["k"], 1)?,
+    )?;
     session.settle();
     expect_out(&rt, &session, b"VALUE k 7 1\r\nd\r\nEND\r\n", "settled");
     Ok(())
