@@ -3,7 +3,7 @@
 //! The definition is `specs/TextProtocol.antt`, an instance of the protocol of tc_model: what a request of
 //! an unbound and of a bound connection asks for. Reply texts are `specs/Replies.antt`. A `Session` is
 //! seen as its endpoint (phase and reader), the bytes that wait to be sent, and the room for more.
-//! `next` and `answer` equal the definition, for both outcomes.
+//! `next`, `answer` and `answer_later` equal the definition, for both outcomes.
 #![tactic(auto)]
 
 mod answering;
