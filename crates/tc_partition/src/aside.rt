@@ -3,6 +3,8 @@
 //! Where large tables have become mostly empty, they are set aside whole, and smaller ones with the same
 //! entries take their place. What was held then is still told by those set aside, until the next page is
 //! prepared; from then on they tell what the page began with alone, and its turn is done with them.
+//!
+//! Where the journal is off, nobody asks what they tell: they are gone at once, and only proofs know of them.
 ghost use Rattle.std.specs.Prelude.{◌≡◌, ◌<◌, ◌^◌, true, IfOk};
 ghost use Rattle.tc_model.specs.Areas.{Areas as AreasOf, total};
 ghost use Rattle.tc_plain.specs.AreaLists.{areas_of};
@@ -10,8 +12,10 @@ ghost use Rattle.tc_plain.specs.Entries.{weight};
 ghost use Rattle.tc_plain.specs.Soundness.{AreSound};
 ghost use Rattle.tc_plain.specs.Then.{Then};
 ghost use Rattle.tc_plain.specs.declared.shared.entry.Entry.{Entry};
-ghost use Rattle.tc_partition.specs.Aside.{then_of};
+ghost use Rattle.tc_partition.specs.Aside.{then_of, IsFree};
 
+use crate::journal::Journal;
+use crate::seen_past::Past;
 use crate::slots::Slots;
 use crate::tables::Tables;
 use std::alloc::Global;
@@ -28,6 +32,8 @@ pub enum Aside {
     Both(Slots),
     /// For what the page began with alone.
     Page(Slots),
+    /// Some were that are gone, since nobody asks.
+    Seen(Past),
 }
 
 impl Aside {
@@ -37,7 +43,40 @@ impl Aside {
     {
         match self {
             Aside::Nothing => true,
+            Aside::Both(_) | Aside::Page(_) | Aside::Seen(_) => false,
+        }
+    }
+
+    /// Whether tables can be set aside.
+    fn is_free(&self) -> bool
+        ensures { result ≡ true → IsFree self.now }
+    {
+        match self {
+            Aside::Nothing => true,
             Aside::Both(_) | Aside::Page(_) => false,
+            Aside::Seen(past) => past.tells_all(),
+        }
+    }
+
+    /// These tables are set aside, unless others tell all.
+    fn keep(&mut self, slots: Slots)
+        requires { IsFree self.old }
+        ensures { (t : Then (AreasOf Entry)) → then_of self.new t ≡ then_of self.old slots.then }
+    {
+        match self {
+            Aside::Nothing => *self = Aside::Both(slots),
+            Aside::Both(_) | Aside::Page(_) | Aside::Seen(_) => {}
+        }
+    }
+
+    /// The same, where only proofs know of the tables from now on.
+    fn see(&mut self, slots: &Slots)
+        requires { IsFree self.old }
+        ensures { (t : Then (AreasOf Entry)) → then_of self.new t ≡ then_of self.old slots.now.then }
+    {
+        match self {
+            Aside::Nothing => *self = Aside::Seen(Past::of(slots)),
+            Aside::Both(_) | Aside::Page(_) | Aside::Seen(_) => {}
         }
     }
 
@@ -62,24 +101,52 @@ impl Aside {
         match mem::replace(self, Aside::Nothing) {
             Aside::Nothing => {}
             Aside::Both(slots) | Aside::Page(slots) => *self = Aside::Page(slots),
+            Aside::Seen(mut past) => {
+                past.prepare();
+                *self = Aside::Seen(past);
+            }
         }
     }
 
     /// The entries when the page began, in their lists, over the same data; `held` are the tables in use.
+    /// Where the journal is off it is refused.
     pub fn opened(&self, alloc: Global, held: &Slots) -> Result<Areas, NoMemory>
         ensures { IfOk result (λ areas. areas_of areas ≡ (then_of self.now held.now.then).page) }
     {
         match self {
             Aside::Nothing => held.opened(alloc),
             Aside::Both(slots) | Aside::Page(slots) => slots.opened(alloc),
+            Aside::Seen(_) => Err(NoMemory),
+        }
+    }
+}
+
+/// Sets these tables aside, in whose place others are in use; where the journal is off, they are gone.
+fn put_aside(held: &mut Slots, aside: &mut Aside, gone: &mut Option<Tables>, large: Slots)
+    requires { IsFree aside.old }
+    ensures held { held.new ≡ held.old }
+    ensures then { (t : Then (AreasOf Entry)) → then_of aside.new t
+        ≡ then_of aside.old large.then }
+{
+    match large.journal() {
+        Journal::On => aside.keep(large),
+        Journal::Off => {
+            aside.see(&large);
+            *gone = Some(large.retire(held));
         }
     }
 }
 
 /// Sets large tables aside where they are mostly empty and none are set aside, and says whether it did:
 /// smaller ones with the same entries are in use from then on. Where memory for those is refused, all stays
-/// as it was.
-pub fn set_aside(alloc: Global, held: &mut Slots, aside: &mut Aside, limits: Limits) -> bool
+/// as it was. Where the journal is off, those that were large are gone.
+pub fn set_aside(
+    alloc: Global,
+    held: &mut Slots,
+    aside: &mut Aside,
+    gone: &mut Option<Tables>,
+    limits: Limits,
+) -> bool
     requires same { limits ≡ held.old.limits }
     requires small { limits.main < 2 ^ 32 }
     requires sound { AreSound held.old.limits held.old.areas }
@@ -88,13 +155,14 @@ pub fn set_aside(alloc: Global, held: &mut Slots, aside: &mut Aside, limits: Lim
     ensures limits { held.new.limits ≡ held.old.limits }
     ensures then { then_of aside.new held.new.then ≡ then_of aside.old held.old.then }
 {
-    if !held.are_sparse() || !aside.is_nothing() {
+    if !held.are_sparse() || !aside.is_free() {
         return false;
     }
     let Ok(rebuilt) = held.rebuilt(alloc, limits) else {
         return false;
     };
-    *aside = Aside::Both(mem::replace(held, rebuilt));
+    let large = mem::replace(held, rebuilt);
+    put_aside(held, aside, gone, large);
     true
 }
 
@@ -136,6 +204,13 @@ fn turn_aside(held: &mut Slots, aside: &mut Aside, gone: &mut Option<Tables>) ->
         Aside::Page(slots) => {
             let given = held.turn();
             *gone = Some(slots.retire(held));
+            given
+        }
+        Aside::Seen(mut past) => {
+            let given = held.turn();
+            if past.turn() {
+                *aside = Aside::Seen(past);
+            }
             given
         }
     }

@@ -386,6 +386,14 @@ impl LiveSlots {
         turn(&mut self.held, &mut self.aside, &mut self.gone)
     }
 
+    /// Gives memory back that is done with: of one table, and of at most so many entries that were taken out.
+    pub(crate) fn let_go(&mut self, most: usize)
+        ensures { self.new ≡ record self.old { gone = self.new.gone } }
+    {
+        shed(&mut self.gone);
+        self.held.let_go(most);
+    }
+
     /// Has smaller tables in use where large ones are mostly empty. The limits are those that it has.
     pub(crate) fn renew(&mut self, alloc: Global, limits: Limits)
         requires same { limits ≡ self.old.held.limits }
@@ -395,13 +403,15 @@ impl LiveSlots {
         ensures live { live_of self.new ≡ live_of self.old }
         ensures then { then_live self.new ≡ then_live self.old }
     {
-        if set_aside(alloc, &mut self.held, &mut self.aside, limits) {
+        let (held, aside, gone) = (&mut self.held, &mut self.aside, &mut self.gone);
+        if set_aside(alloc, held, aside, gone, limits) {
             self.hints = Hints::new(alloc);
             self.hints.fit(self.held.count());
         }
     }
 
-    /// The entries when the page began, in their lists, over the same data.
+    /// The entries when the page began, in their lists, over the same data. Where the journal is off it is
+    /// refused.
     pub(crate) fn opened(&self, alloc: Global) -> Result<Areas, NoMemory>
         ensures { IfOk result (λ areas. areas_of areas ≡ (then_live self.now).page.areas) }
     {

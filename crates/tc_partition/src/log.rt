@@ -1,194 +1,58 @@
-//! What slots held before they changed, since a page began.
+//! What slots held before they changed, since a page began: kept, or known to proofs alone.
 //!
-//! Terms: a change is noted by its slot and what that held, and undone by putting that back. What slots
-//! held when the page began is what they hold with all of the log undone, the last change first (`undo`
-//! in `specs/Undoing.antt`). The log has two parts: what came before the next page was prepared, which a
-//! turn lets go of, and what came since.
-//!
-//! The first change of a slot is noted alone. A slot is marked where its due is noted since, and where all that
-//! it held is, which then comes back whole whatever is done to it later. So what changes over and over is kept
-//! once. A mark has the number of the part that it is of, so that a new part begins with no slot marked.
-//!
-//! What is always true (`IsLog` in `specs/Undoing.antt`):
-//! 1. `whole`: all that a slot held is noted since, where it has this part's mark for that.
-//! 2. `told`: a change of a slot is noted since, where it has any mark of this part.
-//! 3. `past`: no mark is of a later part.
-ghost use Rattle.std.specs.Prelude.{◌≡◌, ◌+◌, ◌<◌, ◌≤◌, ◌∷◌, ◌++◌, ◌==◌, [], true, ℕ, ◌⊎◌, ◌^◌, length, slice_index_or, vec_capacity, OnOk, OnErr};
-ghost use Rattle.tc_partition.specs.Undoing.{level_by, Notes};
+//! Where the journal is on, changes are kept, as `KeptLog` says. Where it is off, nobody reads them, and each
+//! goes as it is noted, but those of a clear, which go later.
+ghost use Rattle.std.specs.Prelude.{◌≡◌, ◌+◌, ◌<◌, ◌≤◌, ◌++◌, [], length, IfOk, OnOk, OnErr};
+ghost use Rattle.tc_partition.specs.Undoing.{Notes};
 
+use crate::journal::Journal;
+use crate::kept_log::KeptLog;
+use crate::unkept_log::UnkeptLog;
 use std::alloc::Global;
 use std::marker::Model;
-use std::mem;
 use tc_item::NoMemory;
-use tc_plain::{Change, Was};
+use tc_plain::Change;
 
-/// How many changes a turn gives out of those that it lets go of, and how many of those that wait for that.
-const FEW: usize = 1024;
-
-/// From this mark on the next part begins with no marks at all.
-const LAST: u32 = 4_294_967_290;
+/// A log that keeps changes, or one that keeps none.
+#[derive(Drop)]
+pub enum Either {
+    Kept(KeptLog),
+    Unkept(UnkeptLog),
+}
 
 /// What slots held before they changed, the oldest change first.
 #[derive(Drop)]
 pub struct Log {
-    /// Before the next page was prepared, if it was.
-    before: Vec<Change>,
-    /// And since.
-    since: Vec<Change>,
-    /// Of an earlier page, where those were many: some go with each turn.
-    gone: Vec<Change>,
-    /// What a turn moves changes to that it gives out, where it is prepared.
-    out: Option<Vec<Change>>,
-    /// By slot, what of it is noted: `told` or more.
-    marks: Vec<u32>,
-    /// The mark of a slot of which a change is noted in this part. The next number is that of one of which
-    /// all is noted.
-    told: u32,
+    either: Either,
 }
 
 impl Model for Log {
-    ghost use Rattle.std.specs.Prelude.{vec_capacity};
     ghost use Rattle.tc_partition.specs.Undoing.{Noted};
 
     ghost Value = { Noted };
 
-    ghost view = { λ l. record {
-      before = l.before.items;
-      since = l.since.items;
-      capacity = vec_capacity l.since;
-    } };
+    ghost use Rattle.tc_partition.specs.Logs.{noted_of};
 
-    ghost use Rattle.tc_partition.specs.Undoing.{IsLog};
-
-    ghost invariant = { λ l. IsLog l.marks.items l.told l.since.items };
-}
-
-/// Room for marks of so many slots. A refusal changes nothing.
-fn cover(marks: &mut Vec<u32>, slots: usize) -> Result<(), NoMemory>
-    ensures { (s : ℕ) → slice_index_or marks.new.items s 0 ≡ slice_index_or marks.old.items s 0 }
-{
-    if slots > marks.len() {
-        marks.resize(slots, 0)?;
-    }
-    Ok(())
-}
-
-/// A slot's mark.
-fn mark_of(marks: &[u32], slot: usize) -> u32
-    ensures { result ≡ slice_index_or marks.now slot 0 }
-{
-    match marks.get(slot) {
-        Some(mark) => *mark,
-        None => 0,
-    }
-}
-
-/// The mark of a slot of which this is noted.
-fn level_of(part: u32, was: &Was) -> u32
-    requires { part + 1 < 2 ^ 32 }
-    ensures { result ≡ level_by part was.now }
-{
-    match was {
-        Was::Held(_) => part + 1,
-        Was::Due(_) => part,
-    }
-}
-
-/// Marks a slot.
-fn mark(marks: &mut Vec<u32>, slot: usize, level: u32)
-    requires { slice_index_or marks.old.items slot 0 < level }
-    ensures { (s : ℕ) → (slice_index_or marks.new.items s 0 ≡ slice_index_or marks.old.items s 0)
-        ⊎ (((slot == s) ≡ true) × (slice_index_or marks.new.items s 0 ≡ level)) }
-{
-    if slot < marks.len() {
-        marks[slot] = level;
-    }
-}
-
-/// The mark of the next part, which no slot has.
-fn next_part(marks: &mut Vec<u32>, told: u32) -> u32
-    requires { (s : ℕ) → slice_index_or marks.old.items s 0 ≤ told + 1 }
-    ensures none { (s : ℕ) → slice_index_or marks.new.items s 0 < result }
-    ensures fits { result + 1 < 2 ^ 32 }
-{
-    if told < LAST {
-        return told + 2;
-    }
-    marks.clear();
-    2
-}
-
-/// Puts changes behind those before them, and leaves room for so many. A refusal changes nothing.
-fn join(before: &mut Vec<Change>, since: &mut Vec<Change>, room: usize) -> Result<(), NoMemory>
-    ensures before { OnOk result (before.new.items ≡ before.old.items ++ since.old.items) }
-    ensures since { OnOk result (since.new.items ≡ []) }
-    ensures room { OnOk result (room ≤ vec_capacity since.new) }
-    ensures before_on_err { OnErr result (before.new.items ≡ before.old.items) }
-    ensures since_on_err { OnErr result (since.new.items ≡ since.old.items) }
-    ensures room_on_err { OnErr result (vec_capacity since.new ≡ vec_capacity since.old) }
-{
-    if before.is_empty() {
-        before.reserve(room)?;
-        mem::swap(before, since);
-        return Ok(());
-    }
-    before.reserve(since.len())?;
-    since.reserve(room)?;
-    before.append(since)?;
-    Ok(())
-}
-
-/// Moves changes to where there is room for them, the last first.
-fn move_some(from: &mut Vec<Change>, to: &mut Vec<Change>) {
-    for _ in 0..FEW {
-        if to.len() == to.capacity() {
-            return;
-        }
-        let Some(change) = from.pop() else {
-            return;
-        };
-        to.push_reserved(change);
-    }
-}
-
-/// Gives changes that a turn lets go of, so that it costs little to drop them: few are moved out, and their
-/// block serves again. Many go to those that are `gone`, some of which go with each turn, and the last with
-/// their block; where some are there, many are given at once.
-fn give_out(before: &mut Vec<Change>, gone: &mut Vec<Change>, mut out: Vec<Change>) -> Vec<Change> {
-    if before.len() > FEW && gone.is_empty() {
-        mem::swap(before, gone);
-    } else if before.len() > FEW || out.append(before).is_err() {
-        mem::swap(before, &mut out);
-    }
-    if gone.len() > FEW {
-        move_some(gone, &mut out);
-    } else if !gone.is_empty() && gone.append(&mut out).is_ok() {
-        mem::swap(gone, &mut out);
-    }
-    out
-}
-
-/// Puts changes behind those that wait to be let go of; they go at once where there is no memory for that.
-fn put_behind(gone: &mut Vec<Change>, mut changes: Vec<Change>) {
-    if gone.is_empty() {
-        mem::swap(gone, &mut changes);
-    } else {
-        let _ = gone.append(&mut changes);
-    }
+    ghost view = { λ l. noted_of l.either };
 }
 
 impl Log {
-    /// No changes, and room for none.
-    pub fn new(alloc: Global) -> Log
+    /// No changes, and room for none. Where the journal is off, none will be kept.
+    pub fn new(alloc: Global, journal: Journal) -> Log
         ensures { result ≡ record { before = []; since = []; capacity = 0 } }
     {
-        Log {
-            before: Vec::new(alloc),
-            since: Vec::new(alloc),
-            gone: Vec::new(alloc),
-            out: None,
-            marks: Vec::new(alloc),
-            told: 2,
+        let either = match journal {
+            Journal::On => Either::Kept(KeptLog::new(alloc)),
+            Journal::Off => Either::Unkept(UnkeptLog::new(alloc)),
+        };
+        Log { either }
+    }
+
+    /// Whether changes are kept.
+    pub fn journal(&self) -> Journal {
+        match &self.either {
+            Either::Kept(_) => Journal::On,
+            Either::Unkept(_) => Journal::Off,
         }
     }
 
@@ -198,9 +62,13 @@ impl Log {
         ensures room { OnOk result (length self.new.since + count ≤ self.new.capacity) }
         ensures kept { self.old.capacity ≤ self.new.capacity }
     {
-        cover(&mut self.marks, slots)?;
-        self.since.reserve(count)?;
-        Ok(())
+        match &mut self.either {
+            Either::Kept(log) => log.reserve(count, slots),
+            Either::Unkept(log) => {
+                log.reserve(count);
+                Ok(())
+            }
+        }
     }
 
     /// Notes a change, unless what it tells comes back anyway.
@@ -208,12 +76,21 @@ impl Log {
         requires { length self.old.since < self.old.capacity }
         ensures { Notes change self.old self.new }
     {
-        let level = level_of(self.told, &change.was);
-        if mark_of(&self.marks, change.slot) >= level {
-            return;
+        match &mut self.either {
+            Either::Kept(log) => log.note(change),
+            Either::Unkept(log) => log.note(change),
         }
-        mark(&mut self.marks, change.slot, level);
-        self.since.push_reserved(change);
+    }
+
+    /// The same of one of many changes: what it tells doesn't go at once where it isn't kept.
+    pub fn note_of_many(&mut self, change: Change)
+        requires { length self.old.since < self.old.capacity }
+        ensures { Notes change self.old self.new }
+    {
+        match &mut self.either {
+            Either::Kept(log) => log.note(change),
+            Either::Unkept(log) => log.note_of_many(change),
+        }
     }
 
     /// What came since is before the next page from now on; there is room for so many changes since. A
@@ -224,48 +101,57 @@ impl Log {
         ensures room { OnOk result (room ≤ self.new.capacity) }
         ensures unchanged_on_err { OnErr result (self.new ≡ self.old) }
     {
-        let came = self.before.len().saturating_add(self.since.len());
-        let out = Vec::with_capacity(alloc, came.min(FEW) + self.gone.len().min(FEW))?;
-        join(&mut self.before, &mut self.since, room)?;
-        self.out = Some(out);
-        self.told = next_part(&mut self.marks, self.told);
-        Ok(())
+        match &mut self.either {
+            Either::Kept(log) => log.prepare(alloc, room),
+            Either::Unkept(log) => {
+                log.prepare(room);
+                Ok(())
+            }
+        }
     }
 
-    /// Lets go of what came before the next page, and gives it, or some of it where that is much.
+    /// Lets go of what came before the next page, and gives it, or some of it where that is much. Where the
+    /// journal is off, there is nothing to give.
     pub fn turn(&mut self) -> Option<Vec<Change>>
         ensures { self.new ≡ record self.old { before = [] } }
     {
-        let Some(out) = self.out.take() else {
-            self.before.clear();
-            return None;
-        };
-        let given = give_out(&mut self.before, &mut self.gone, out);
-        self.before.clear();
-        Some(given)
+        match &mut self.either {
+            Either::Kept(log) => log.turn(),
+            Either::Unkept(log) => {
+                log.turn();
+                None
+            }
+        }
     }
 
-    /// Lets go of all changes of another log, some with each turn where they are many.
+    /// Lets go of at most so many changes that wait for that where the journal is off.
+    pub fn let_go(&mut self, most: usize)
+        ensures { self.new ≡ self.old }
+    {
+        if let Either::Unkept(log) = &mut self.either {
+            log.let_go(most);
+        }
+    }
+
+    /// Lets go of all changes of another log, some with each turn where they are many. Where the journal is
+    /// off, some with each later change.
     pub fn take_over(&mut self, other: Log)
         ensures { self.new ≡ self.old }
     {
-        let Log {
-            before,
-            since,
-            gone,
-            out: _,
-            marks: _,
-            told: _,
-        } = other;
-        put_behind(&mut self.gone, gone);
-        put_behind(&mut self.gone, before);
-        put_behind(&mut self.gone, since);
+        match (&mut self.either, other.either) {
+            (Either::Kept(log), Either::Kept(other)) => log.take_over(other),
+            (Either::Unkept(log), Either::Unkept(other)) => log.take_over(other),
+            (Either::Kept(_), Either::Unkept(_)) | (Either::Unkept(_), Either::Kept(_)) => {}
+        }
     }
 
-    /// What came before the next page was prepared, and what came since.
-    pub fn parts(&self) -> (&[Change], &[Change])
-        ensures { (result.0.now ≡ self.now.before) × (result.1.now ≡ self.now.since) }
+    /// The log, where it keeps changes. Where the journal is off it is refused.
+    pub fn kept(&self) -> Result<&KeptLog, NoMemory>
+        ensures { IfOk result (λ log. log.now ≡ self.now) }
     {
-        (self.before.as_slice(), self.since.as_slice())
+        match &self.either {
+            Either::Kept(log) => Ok(log),
+            Either::Unkept(_) => Err(NoMemory),
+        }
     }
 }

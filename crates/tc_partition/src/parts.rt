@@ -299,7 +299,10 @@ fn take_noted(entries: &mut Slab<Entry>, log: &mut Log, slot: usize)
     ensures capacity { entries.new.capacity ≡ entries.old.capacity }
 {
     if let Some(entry) = entries.try_remove(slot) {
-        note_held(log, Slot(slot), Some(entry));
+        log.note_of_many(Change {
+            slot,
+            was: Was::Held(Some(entry)),
+        });
     }
 }
 
@@ -378,7 +381,7 @@ fn undo(alloc: Global, slots: &mut [Option<Entry>], changes: &[Change]) -> Resul
     Ok(())
 }
 
-/// What each slot held when the page began, over the same data.
+/// What each slot held when the page began, over the same data. Where the journal is off it is refused.
 pub fn copy_then(
     alloc: Global,
     entries: &Slab<Entry>,
@@ -391,8 +394,8 @@ pub fn copy_then(
     ensures { IfOk result (λ copied. at_slots copied.items
         ≡ undo log.now.before (undo log.now.since (slab_get entries.now))) }
 {
+    let (before, since) = log.kept()?.parts();
     let mut copied = copy_slots(alloc, entries, slots)?;
-    let (before, since) = log.parts();
     undo(alloc, &mut copied, since)?;
     undo(alloc, &mut copied, before)?;
     Ok(copied)

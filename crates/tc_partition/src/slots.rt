@@ -33,6 +33,7 @@ ghost use Rattle.tc_plain.specs.declared.shared.entry.Entry.{Entry};
 ghost use Rattle.tc_plain.specs.BySlot.{entry_or};
 ghost use Rattle.tc_partition.specs.Held.{filled, IsFound, FindsSlot, DropsEntry};
 
+use crate::journal::Journal;
 use crate::log::Log;
 use crate::opened::copy_areas;
 use crate::parts::{
@@ -93,7 +94,12 @@ impl Model for Slots {
 impl Slots {
     /// No entries, with room for none, under these limits. Takes memory for the marks of the lists and
     /// of the wheel.
-    pub fn new(alloc: Global, hasher: RandomState, limits: Limits) -> Result<Slots, NoMemory>
+    pub fn new(
+        alloc: Global,
+        hasher: RandomState,
+        limits: Limits,
+        journal: Journal,
+    ) -> Result<Slots, NoMemory>
         requires small { limits.main < 2 ^ 32 }
         ensures limits { IfOk result (λ s. s.limits ≡ limits) }
         ensures areas { IfOk result (λ s. s.areas ≡ no_entries) }
@@ -108,7 +114,7 @@ impl Slots {
             entries: Slab::new(alloc),
             lists,
             wheel,
-            log: Log::new(alloc),
+            log: Log::new(alloc, journal),
         })
     }
 
@@ -120,7 +126,12 @@ impl Slots {
         ensures page { IfOk result (λ s. s.then.page ≡ no_entries) }
         ensures next { IfOk result (λ s. s.then.next ≡ no_entries) }
     {
-        Slots::new(alloc, self.hasher, limits)
+        Slots::new(alloc, self.hasher, limits, self.journal())
+    }
+
+    /// Whether changes are kept.
+    pub fn journal(&self) -> Journal {
+        self.log.journal()
     }
 
     /// Whether the tables have places for many slots, few of these hold an entry, and the entries can be put
@@ -190,6 +201,13 @@ impl Slots {
         };
         self.log.reserve(room, self.entries.capacity())?;
         Ok(())
+    }
+
+    /// Lets go of at most so many changes that wait for that where the journal is off.
+    pub fn let_go(&mut self, most: usize)
+        ensures { self.new ≡ self.old }
+    {
+        self.log.let_go(most);
     }
 
     /// The slot of what a key holds.
@@ -473,7 +491,8 @@ impl Slots {
         self.empty_area(Area::Protected);
     }
 
-    /// Takes all entries out, each of the four in one pass.
+    /// Takes all entries out, each of the four in one pass. Where the journal is off, their memory is given
+    /// back later, few with each change.
     fn clear_whole(&mut self)
         ensures limits { self.new.limits ≡ self.old.limits }
         ensures areas { self.new.areas ≡ no_entries }
@@ -596,7 +615,8 @@ impl Slots {
         })
     }
 
-    /// The entries when the page began, in their lists, over the same data.
+    /// The entries when the page began, in their lists, over the same data. Where the journal is off it is
+    /// refused.
     pub fn opened(&self, alloc: Global) -> Result<Areas, NoMemory>
         ensures { IfOk result (λ areas. areas_of areas ≡ self.now.then.page) }
     {

@@ -5,8 +5,8 @@ use Rattle.tc_partition.proofs.parts.take_noted.Goals as goal
 
 pub returns-in-Some-clause-noted : goal.returns-in-Some-clause-noted
 returns-in-Some-clause-noted c =
-    let n = noted_held c.args.slot (Some c.in-Some.entry) None c.args.log.now c.note_held.new.log c.args.entries.now
-    c.try_remove.new.self c.in-Some.ensures.value c.note_held.ensures (updated _ _ _ _ c.in-Some.ensures.updates) in
+    let n = noted_held c.args.slot (Some c.in-Some.entry) None c.args.log.now c.note_of_many.new.self c.args.entries.now
+    c.try_remove.new.self c.in-Some.ensures.value c.note_of_many.ensures (updated _ _ _ _ c.in-Some.ensures.updates) in
     record {
       then = n.then;
       before = n.before;

@@ -3,7 +3,7 @@ use Rattle.std.proofs.Common.{◌≡◌, ℕ, List, true, sym, subst, ◌⊎◌}
 use Rattle.tc_plain.specs.declared.shared.change.Change.{Change}
 use Rattle.tc_partition.specs.Undoing.{IsLog}
 use Rattle.tc_partition.proofs.FirstChange.{log_noted}
-use Rattle.tc_partition.proofs.log.Log.note.Goals as goal
+use Rattle.tc_partition.proofs.kept_log.KeptLog.note.Goals as goal
 
 pub invariant_of-self : goal.invariant_of-self
 invariant_of-self c =

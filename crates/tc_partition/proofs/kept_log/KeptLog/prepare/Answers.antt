@@ -2,7 +2,7 @@ use Rattle.std.proofs.Common.{List, sym, subst}
 use Rattle.tc_plain.specs.declared.shared.change.Change.{Change}
 use Rattle.tc_partition.specs.Undoing.{IsLog}
 use Rattle.tc_partition.proofs.FirstChange.{log_begun}
-use Rattle.tc_partition.proofs.log.Log.prepare.Goals as goal
+use Rattle.tc_partition.proofs.kept_log.KeptLog.prepare.Goals as goal
 
 pub invariant_of-self-2 : goal.invariant_of-self-2
 invariant_of-self-2 c =
