@@ -1,20 +1,19 @@
-//! The vector, and the logs that lead back from what it holds to what it held.
+//! The vector, and what is remembered of what it held.
 //!
-//! What is always true (`IsPast` in `specs/Kept.antt`):
-//! 1. `room`, `since_room`: each log has room for all places.
-//! 2. `within`, `since_within`: each log notes of no other places.
+//! What is always true (`IsPast` in `specs/Kept.antt`), where the journal is on:
+//! 1. `since_room`, `before_room`: each log has room for all places.
+//! 2. `since_within`, `before_within`: each log notes of no other places.
 //! 3. `few`: 32 bits number all places.
-ghost use Rattle.std.specs.Prelude.{◌≡◌, ℕ, List, ◌<◌, ◌≤◌, ◌^◌, [], length, slice_index_or, slice_set, map};
+//!
+//! Where it is off, what contracts see of the past has as many places as there are.
+ghost use Rattle.std.specs.Prelude.{◌≡◌, List, ◌<◌, ◌≤◌, ◌^◌, [], length, slice_index_or, slice_set, map};
 ghost use Rattle.std.specs.Prelude.{is_ok, IfOk, OnErr, if◌then◌else◌};
-ghost use Rattle.tc_model.specs.Ring.{AreBelow};
-ghost use Rattle.tc_past.specs.Noted.{places, undone, noted};
-ghost use Rattle.tc_past.specs.Logs.{AreLogs};
 ghost use Rattle.tc_past.specs.Told.{Told, prepared, turned, live_with, grown, all_told};
 
-use crate::log::Log;
+use crate::journal::Journal;
+use crate::remembered::Remembered;
 use std::alloc::Global;
 use std::marker::Model;
-use std::mem;
 use tc_item::NoMemory;
 
 /// The most places, so that 32 bits number them.
@@ -24,17 +23,11 @@ const MOST_PLACES: usize = 1 << 32;
 #[derive(Drop)]
 pub struct Past<T> {
     live: Vec<T>,
-    /// What places held when the page to come was prepared, where that is no longer so.
-    since: Log<T>,
-    /// What places held when this page began, where that was no longer so when the next was prepared.
-    before: Log<T>,
+    remembered: Remembered<T>,
 }
 
 impl<T> Model for Past<T> {
     ghost use Rattle.std.specs.Prelude.{List};
-    ghost use Rattle.tc_model.specs.Ring.{AreBelow};
-    ghost use Rattle.tc_past.specs.Noted.{places, undone, noted};
-    ghost use Rattle.tc_past.specs.Logs.{AreLogs};
     ghost use Rattle.tc_past.specs.Told.{Told};
 
     ghost Value = { Told (List T) };
@@ -46,47 +39,14 @@ impl<T> Model for Past<T> {
     ghost invariant = { IsPast };
 }
 
-/// Joins two logs, of which `before` leads on from where `since` leads to: `since` then leads there
-/// at once, and `before` is empty. Costs what is noted in `since`, or nothing where `before` is empty.
-fn join_logs<T: Copy>(since: &mut Log<T>, before: &mut Log<T>)
-    requires { AreBelow before.old.room (places since.old.entries) }
-    ensures joined { before.new.entries ≡ [] }
-    ensures undone { (xs : List T) → undone since.new.entries xs
-        ≡ undone before.old.entries (undone since.old.entries xs) }
-    ensures kept { (n : ℕ) → AreLogs n since.old before.old → AreLogs n since.new before.new }
-{
-    if !before.is_empty() {
-        while let Some(entry) = since.pop() {
-            before.note(entry.place as usize, entry.was);
-        }
-        mem::swap(since, before);
-    }
-}
-
-/// Notes what a place holds, if nothing is noted of it. It is not read otherwise, so that a read need
-/// not wait for what was written there just before.
-#[inline(always)]
-fn note_held<T: Copy>(since: &mut Log<T>, live: &Vec<T>, at: usize)
-    requires within { at < length live.now.items }
-    requires room { at < since.old.room }
-    requires few { at < 2 ^ 32 }
-    ensures { (was : T) → was ≡ slice_index_or live.now.items at was
-        → since.new ≡ noted at was since.old }
-{
-    if !since.is_noted(at) {
-        since.add(at, live[at]);
-    }
-}
-
 impl<T: Copy> Past<T> {
-    /// No places.
-    pub fn new(alloc: Global) -> Past<T>
+    /// No places. With the journal off nothing is noted, and the past cannot be read.
+    pub fn new(alloc: Global, journal: Journal) -> Past<T>
         ensures { result ≡ all_told [] }
     {
         Past {
             live: Vec::new(alloc),
-            since: Log::new(alloc),
-            before: Log::new(alloc),
+            remembered: Remembered::new(alloc, journal),
         }
     }
 
@@ -111,7 +71,7 @@ impl<T: Copy> Past<T> {
         requires { at < length self.old.live }
         ensures { self.new ≡ live_with (slice_set self.old.live at to) self.old }
     {
-        note_held(&mut self.since, &self.live, at);
+        self.remembered.note_held(&self.live, at);
         self.live[at] = to;
     }
 
@@ -125,7 +85,7 @@ impl<T: Copy> Past<T> {
             × ((was ≡ slice_index_or self.old.live at was)
             × (self.new ≡ live_with (slice_set self.old.live at (g was)) self.old)) }
     {
-        note_held(&mut self.since, &self.live, at);
+        self.remembered.note_held(&self.live, at);
         let held = self.live[at];
         self.live[at] = f(held);
     }
@@ -140,9 +100,9 @@ impl<T: Copy> Past<T> {
             if places > MOST_PLACES {
                 return Err(NoMemory);
             }
-            self.since.reserve_to(places)?;
-            self.before.reserve_to(places)?;
+            self.remembered.reserve_to(places)?;
             self.live.resize(places, blank)?;
+            self.remembered.grow(places, blank);
         }
         Ok(())
     }
@@ -151,15 +111,14 @@ impl<T: Copy> Past<T> {
     pub fn prepare(&mut self)
         ensures { self.new ≡ prepared self.old }
     {
-        join_logs(&mut self.since, &mut self.before);
-        mem::swap(&mut self.since, &mut self.before);
+        self.remembered.prepare(&self.live);
     }
 
     /// Shows what was prepared, from now on. Where nothing was, it goes on showing what it did.
     pub fn turn(&mut self)
         ensures { self.new ≡ turned self.old }
     {
-        self.before.clear();
+        self.remembered.turn();
     }
 
     /// What is held now, in a list of its own.
@@ -172,16 +131,19 @@ impl<T: Copy> Past<T> {
         Ok(copied)
     }
 
-    /// What the page began with, in a list of its own.
+    /// What the page began with, in a list of its own. Where the journal is off it is refused.
     pub fn opened(&self, alloc: Global) -> Result<Vec<T>, NoMemory>
         ensures items { IfOk result (λ opened. opened.items ≡ self.now.opened) }
         ensures long { IfOk result (λ opened. length opened.items ≡ length self.now.live) }
     {
-        let mut opened = Vec::with_capacity(alloc, self.live.len())?;
-        opened.extend_from_slice(self.live.as_slice())?;
-        self.since.undo(&mut opened);
-        self.before.undo(&mut opened);
-        Ok(opened)
+        match &self.remembered {
+            Remembered::Logged(logs) => {
+                let mut opened = self.copy(alloc)?;
+                logs.undo(&mut opened);
+                Ok(opened)
+            }
+            Remembered::Unlogged(_) => Err(NoMemory),
+        }
     }
 
     /// Has each place hold what f makes of what it holds.

@@ -11,7 +11,7 @@ use crate::ring::{MOST_NODES, Node, Ring, alone};
 use std::alloc::Global;
 use std::marker::Model;
 use tc_item::{NoMemory, Slot};
-use tc_past::Past;
+use tc_past::{Journal, Past};
 
 /// All nodes, and what they were: the marks, and behind them those of slots.
 #[derive(Drop)]
@@ -34,11 +34,11 @@ impl<N, const MARKS: usize> Model for PastRing<N, MARKS> {
 
 impl<N: Copy, const MARKS: usize> PastRing<N, MARKS> {
     /// The marks alone, in their ring, now and in the past. `free` is what is noted of no slot.
-    pub fn new(alloc: Global, free: N) -> Result<PastRing<N, MARKS>, NoMemory>
+    pub fn new(alloc: Global, free: N, journal: Journal) -> Result<PastRing<N, MARKS>, NoMemory>
         requires { MARKS ≤ 2 ^ 32 }
         ensures { IfOk result (IsNew MARKS free) }
     {
-        let mut nodes = Past::new(alloc);
+        let mut nodes = Past::new(alloc, journal);
         nodes.reserve_to(
             MARKS,
             Node {
@@ -97,7 +97,7 @@ impl<N: Copy, const MARKS: usize> PastRing<N, MARKS> {
         self.nodes.turn();
     }
 
-    /// What the page began with, in a ring of its own.
+    /// What the page began with, in a ring of its own. Where the journal is off it is refused.
     pub fn opened(&self, alloc: Global) -> Result<Ring<N, MARKS>, NoMemory>
         ensures { IfOk result (λ ring. ring ≡ self.now.opened) }
     {

@@ -8,7 +8,7 @@ use crate::row::Row;
 use std::alloc::Global;
 use std::marker::Model;
 use tc_item::NoMemory;
-use tc_past::Past;
+use tc_past::{Journal, Past};
 
 /// A row of 2^b counters from 0 to 15, packed as those of `Row` are.
 #[derive(Drop)]
@@ -28,12 +28,12 @@ impl Model for PastRow {
 
 impl PastRow {
     /// 2^`width` counters of 0, now and in the past.
-    pub(crate) fn new(alloc: Global, width: u32) -> Result<PastRow, NoMemory>
+    pub(crate) fn new(alloc: Global, width: u32, journal: Journal) -> Result<PastRow, NoMemory>
         requires words_whole { 4 ≤ width }
         requires fits { width ≤ 22 }
         ensures { IfOk result (λ r. r ≡ all_told (replicate (2 ^ width) 0)) }
     {
-        let mut words = Past::new(alloc);
+        let mut words = Past::new(alloc, journal);
         words.reserve_to(1 << (width - 4), 0)?;
         Ok(PastRow { words })
     }
@@ -95,7 +95,7 @@ impl PastRow {
         Ok(Row::of(self.words.copy(alloc)?))
     }
 
-    /// The row that the page began with.
+    /// The row that the page began with. Where the journal is off it is refused.
     pub(crate) fn opened(&self, alloc: Global) -> Result<Row, NoMemory>
         ensures { IfOk result (λ r. r ≡ self.now.opened) }
     {

@@ -13,7 +13,7 @@ use crate::sketch::{
 use std::alloc::Global;
 use std::marker::Model;
 use tc_item::NoMemory;
-use tc_past::PastValue;
+use tc_past::{Journal, PastValue};
 
 /// How often each hash was recorded of late, and what that was: rows and count as those of `Sketch`.
 #[derive(Drop)]
@@ -41,17 +41,17 @@ impl Model for PastSketch {
 
 impl PastSketch {
     /// A sketch of 2^`width` counters a row, which has seen nothing, now and in the past.
-    pub fn new(alloc: Global, width: u32) -> Result<PastSketch, NoMemory>
+    pub fn new(alloc: Global, width: u32, journal: Journal) -> Result<PastSketch, NoMemory>
         requires at_least { 8 ≤ width }
         requires at_most { width ≤ 22 }
         ensures { IfOk result (λ s. s ≡ all_told (empty_sketch width)) }
     {
         Ok(PastSketch {
             width,
-            row0: PastRow::new(alloc, width)?,
-            row1: PastRow::new(alloc, width)?,
-            row2: PastRow::new(alloc, width)?,
-            row3: PastRow::new(alloc, width)?,
+            row0: PastRow::new(alloc, width, journal)?,
+            row1: PastRow::new(alloc, width, journal)?,
+            row2: PastRow::new(alloc, width, journal)?,
+            row3: PastRow::new(alloc, width, journal)?,
             count: PastValue::new(0),
         })
     }
@@ -137,7 +137,7 @@ impl PastSketch {
         Ok(Sketch::of(self.width, row0, row1, row2, row3, self.count.get()))
     }
 
-    /// The sketch that the page began with.
+    /// The sketch that the page began with. Where the journal is off it is refused.
     pub fn opened(&self, alloc: Global) -> Result<Sketch, NoMemory>
         ensures { IfOk result (λ s. s ≡ self.now.opened) }
     {

@@ -27,7 +27,7 @@ use crate::opened_areas::OpenedAreas;
 use std::alloc::Global;
 use std::marker::Model;
 use tc_item::{NoMemory, Slot};
-use tc_past::PastValue;
+use tc_past::{Journal, PastValue};
 use tc_ring::PastRing;
 
 /// A slot of a list, and what it weighs.
@@ -100,17 +100,17 @@ impl Model for LinkedAreas {
 
 impl LinkedAreas {
     /// Empty lists, with room for no slot.
-    pub fn new(alloc: Global) -> Result<LinkedAreas, NoMemory>
+    pub fn new(alloc: Global, journal: Journal) -> Result<LinkedAreas, NoMemory>
         ensures { IfOk result (λ l. l ≡ all_told (record { slots = 0; areas = no_areas })) }
     {
-        let nodes = PastRing::new(alloc, SlotNote::NONE)?;
+        let nodes = PastRing::new(alloc, SlotNote::NONE, journal)?;
         Ok(LinkedAreas {
             nodes,
             sizes: PastValue::new(Sizes::NONE),
         })
     }
 
-    /// The lists as the page began with them, of their own.
+    /// The lists as the page began with them, of their own. Where the journal is off it is refused.
     pub fn opened(&self, alloc: Global) -> Result<OpenedAreas, NoMemory>
         ensures { IfOk result (λ o. o ≡ self.now.opened) }
     {

@@ -14,6 +14,7 @@ use crate::settle::{Limits, drop_next, hold_protected};
 use std::alloc::Global;
 use std::marker::Model;
 use tc_item::{NoMemory, Slot};
+use tc_past::Journal;
 
 /// What each area weighs.
 #[derive(Clone, Copy, Debug, PartialEq, Eq)]
@@ -46,11 +47,17 @@ impl Model for Lists {
 impl Lists {
     /// Empty lists with room for no slot: the window may weigh `window`, probation and protected
     /// together `main`, and protected alone `protected`. Takes memory for its marks.
-    pub fn new(alloc: Global, window: u64, main: u64, protected: u64) -> Result<Lists, NoMemory>
+    pub fn new(
+        alloc: Global,
+        window: u64,
+        main: u64,
+        protected: u64,
+        journal: Journal,
+    ) -> Result<Lists, NoMemory>
         requires { main < 2 ^ 32 }
         ensures { IfOk result (λ l. l ≡ all_told (fresh window main protected)) }
     {
-        let areas = LinkedAreas::new(alloc)?;
+        let areas = LinkedAreas::new(alloc, journal)?;
         Ok(Lists {
             limits: Limits {
                 window,
@@ -61,7 +68,7 @@ impl Lists {
         })
     }
 
-    /// The lists as the page began with them, of their own.
+    /// The lists as the page began with them, of their own. Where the journal is off it is refused.
     pub fn opened(&self, alloc: Global) -> Result<OpenedAreas, NoMemory>
         ensures slots { IfOk result (λ o. o.slots ≡ self.now.opened.slots) }
         ensures areas { IfOk result (λ o. o.areas ≡ self.now.opened.areas) }

@@ -1,18 +1,11 @@
 use Rattle.std.specs.Prelude.{slice_set, slice_index_or}
-use Rattle.std.proofs.Common.{◌<◌, length, ap, ◌∙◌, arith}
+use Rattle.std.proofs.Common.{length, ap, ◌∙◌}
 use Rattle.std.proofs.lemmas.List.{length-set}
-use Rattle.tc_past.specs.Logs.{told}
 use Rattle.tc_past.specs.Told.{live_with}
-use Rattle.tc_past.proofs.Turns.{logs_noted, told_set}
 use Rattle.tc_past.proofs.past.Past.change.Goals as goal
 
 pub invariant_of-self : goal.invariant_of-self
-invariant_of-self g c =
-    let p = c.self.inside in
-    let small : c.args.at < length p.live.items =
-    omega (arith, c.requires.within, ap (λ t. length t.live) c.self.view_is) in
-    rw (length-set p.live.items c.args.at c.f.result, c.note_held.ensures c.index-held.result.now c.index-held.ensures)
-    (logs_noted (length p.live.items) c.args.at c.index-held.result.now p.since p.before small c.self.invariant)
+invariant_of-self g c = rw (length-set c.self.inside.live.items c.args.at c.f.result) c.note_held.ensures.covers
 
 pub returns-clause-long : goal.returns-clause-long
 returns-clause-long g c = length-set c.self.inside.live.items c.args.at c.f.result ∙ ap (λ t. length t.live) c.self.view_is
@@ -20,14 +13,11 @@ returns-clause-long g c = length-set c.self.inside.live.items c.args.at c.f.resu
 pub returns-clause-changed : goal.returns-clause-changed
 returns-clause-changed g c =
     λ h computes.
-    let p = c.self.inside in
     let was = c.index-held.result.now in (
       was,
       (
         c.index-held.ensures ∙ ap (λ t. slice_index_or t.live c.args.at was) c.self.view_is,
-        ap (λ l. told (slice_set p.live.items c.args.at c.f.result) l.entries p.before.entries)
-            (c.note_held.ensures was c.index-held.ensures)
-            ∙ told_set p.live.items p.since.entries p.before.entries c.args.at was c.f.result c.index-held.ensures
+        c.note_held.ensures.told c.f.result
             ∙ ap (λ t. live_with (slice_set t.live c.args.at c.f.result) t) c.self.view_is
             ∙ ap (λ y. live_with (slice_set c.args.self.now.live c.args.at y) c.args.self.now)
             (computes was c.f.result c.f.ensures),
