@@ -14,13 +14,13 @@ ghost use Rattle.tc_plain.specs.Then.{Then};
 ghost use Rattle.tc_plain.specs.declared.shared.entry.Entry.{Entry};
 ghost use Rattle.tc_partition.specs.Aside.{then_of, IsFree};
 
-use crate::journal::Journal;
 use crate::seen_past::Past;
 use crate::slots::Slots;
 use crate::tables::Tables;
 use std::alloc::Global;
 use std::mem;
 use tc_item::NoMemory;
+use tc_past::Journal;
 use tc_plain::{Areas, Change, Limits};
 
 /// Tables that were set aside, by what they are needed for.

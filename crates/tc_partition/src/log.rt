@@ -5,12 +5,12 @@
 ghost use Rattle.std.specs.Prelude.{◌≡◌, ◌+◌, ◌<◌, ◌≤◌, ◌++◌, [], length, IfOk, OnOk, OnErr};
 ghost use Rattle.tc_partition.specs.Undoing.{Notes};
 
-use crate::journal::Journal;
 use crate::kept_log::KeptLog;
 use crate::unkept_log::UnkeptLog;
 use std::alloc::Global;
 use std::marker::Model;
 use tc_item::NoMemory;
+use tc_past::Journal;
 use tc_plain::Change;
 
 /// A log that keeps changes, or one that keeps none.

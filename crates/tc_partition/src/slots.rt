@@ -33,7 +33,6 @@ ghost use Rattle.tc_plain.specs.declared.shared.entry.Entry.{Entry};
 ghost use Rattle.tc_plain.specs.BySlot.{entry_or};
 ghost use Rattle.tc_partition.specs.Held.{filled, IsFound, FindsSlot, DropsEntry};
 
-use crate::journal::Journal;
 use crate::log::Log;
 use crate::opened::copy_areas;
 use crate::parts::{
@@ -47,6 +46,7 @@ use std::hash::RandomState;
 use std::marker::Model;
 use tc_index::Index;
 use tc_item::{Due, Key, Moment, NoMemory, Slot};
+use tc_past::Journal;
 use tc_plain::{Areas, Change, Entry, Limits};
 use tc_sketch::PastSketch;
 use tc_slru::{Area, Lists};
@@ -93,7 +93,7 @@ impl Model for Slots {
 
 impl Slots {
     /// No entries, with room for none, under these limits. Takes memory for the marks of the lists and
-    /// of the wheel.
+    /// of the wheel. Where the journal is off, what was held before is not remembered.
     pub fn new(
         alloc: Global,
         hasher: RandomState,
@@ -106,7 +106,7 @@ impl Slots {
         ensures page { IfOk result (λ s. s.then.page ≡ no_entries) }
         ensures next { IfOk result (λ s. s.then.next ≡ no_entries) }
     {
-        let lists = Lists::new(alloc, limits.window, limits.main, limits.protected)?;
+        let lists = Lists::new(alloc, limits.window, limits.main, limits.protected, journal)?;
         let wheel = Wheel::new(alloc)?;
         Ok(Slots {
             index: Index::new(alloc),
