@@ -102,7 +102,8 @@ impl<T: Copy> Logs<T> {
     /// Has places hold what they held when the page began.
     pub(crate) fn undo(&self, xs: &mut Vec<T>)
         requires { AreLogs (length xs.old.items) self.now.since self.now.before }
-        ensures { xs.new.items ≡ undone self.now.before.entries (undone self.now.since.entries xs.old.items) }
+        ensures { xs.new.items
+            ≡ undone self.now.before.entries (undone self.now.since.entries xs.old.items) }
     {
         self.since.undo(xs);
         self.before.undo(xs);

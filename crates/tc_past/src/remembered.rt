@@ -62,7 +62,8 @@ impl<T: Copy> Remembered<T> {
         requires few { places ≤ 2 ^ 32 }
         requires room { HasRoom places self.old }
         ensures told { (xs : List T) → Covers (length xs) self.old
-            → told_with (lengthened places blank xs) self.new ≡ grown places blank (told_with xs self.old) }
+            → told_with (lengthened places blank xs) self.new
+            ≡ grown places blank (told_with xs self.old) }
         ensures covers { (n : ℕ) → n ≤ places → Covers n self.old → Covers places self.new }
     {
         match self {
@@ -74,7 +75,8 @@ impl<T: Copy> Remembered<T> {
     /// Fixes what the next page shows: what is held now.
     pub(crate) fn prepare(&mut self, live: &Vec<T>)
         requires { Covers (length live.now.items) self.old }
-        ensures told { told_with live.now.items self.new ≡ prepared (told_with live.now.items self.old) }
+        ensures told { told_with live.now.items self.new
+            ≡ prepared (told_with live.now.items self.old) }
         ensures covers { Covers (length live.now.items) self.new }
     {
         match self {

@@ -8,6 +8,7 @@ use std::alloc::Global;
 use std::process::Abort;
 use std::test::Fail;
 use tc_item::NoMemory;
+use tc_past::Journal;
 use tc_slru::{Area, Lists, Slot};
 
 /// Far below 2^64.
@@ -117,7 +118,7 @@ fn make_all(rt: &impl Abort, lists: &mut Lists, moves: &[Move]) {
     }
 }
 
-/// Makes moves on empty lists with these limits.
+/// Makes moves on empty lists with these limits, with the journal on and off.
 fn play(
     rt: &impl Abort,
     alloc: Global,
@@ -126,9 +127,11 @@ fn play(
     protected: u64,
     moves: &[Move],
 ) -> Result<(), Fail> {
-    let mut lists = Lists::new(alloc, window, u64::from(main), protected)?;
-    lists.reserve(5)?;
-    make_all(rt, &mut lists, moves);
+    for journal in &[Journal::On, Journal::Off] {
+        let mut lists = Lists::new(alloc, window, u64::from(main), protected, *journal)?;
+        lists.reserve(5)?;
+        make_all(rt, &mut lists, moves);
+    }
     Ok(())
 }
 
@@ -376,7 +379,7 @@ fn expect_room(rt: &impl Abort, lists: &mut Lists) {
 
 #[test]
 fn a_refused_reserve_changes_nothing(rt: HostRuntime) -> Result<(), Fail> {
-    let mut lists = Lists::new(rt.alloc(), 10, 100, 80)?;
+    let mut lists = Lists::new(rt.alloc(), 10, 100, 80, Journal::On)?;
     lists.reserve(2)?;
     expect_room(&rt, &mut lists);
     Ok(())
@@ -401,7 +404,7 @@ fn opened_window(
 
 #[test]
 fn a_page_shows_what_it_began_with_until_the_next_turns(rt: HostRuntime) -> Result<(), Fail> {
-    let mut lists = Lists::new(rt.alloc(), 100, 100, 80)?;
+    let mut lists = Lists::new(rt.alloc(), 100, 100, 80, Journal::On)?;
     lists.reserve(3)?;
     push(&rt, &mut lists, 0, 20);
     opened_window(&rt, rt.alloc(), &lists, &[])?;

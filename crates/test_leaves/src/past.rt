@@ -1,0 +1,88 @@
+//! What remembers a past, with the journal on and off.
+
+use std::alloc::Global;
+use std::process::Abort;
+use std::test::Fail;
+use tc_item::NoMemory;
+use tc_past::{Journal, Past};
+use tc_sketch::PastSketch;
+use tc_slru::Lists;
+
+/// Sets a place that is there.
+fn set(rt: &impl Abort, past: &mut Past<u8>, at: usize, to: u8) {
+    assert!(rt; at < past.len());
+    past.set(at, to);
+}
+
+/// Adds one to a place that is there.
+fn count(rt: &impl Abort, past: &mut Past<u8>, at: usize) {
+    assert!(rt; at < past.len());
+    past.change(at, |held| held.wrapping_add(1));
+}
+
+/// Whether the items are these.
+fn are_items(items: &[u8], want: &[u8]) -> bool {
+    items.len() == want.len()
+        && items
+            .iter()
+            .zip(want)
+            .all(|(item, wanted)| *item == *wanted)
+}
+
+/// Three places over a page: 7 7 7 when it begins, then 1 8 7 halved.
+fn write_page(rt: &impl Abort, past: &mut Past<u8>) -> Result<(), NoMemory> {
+    past.reserve_to(3, 7)?;
+    past.prepare();
+    set(rt, past, 0, 1);
+    past.turn();
+    count(rt, past, 1);
+    past.map_all(|held| held / 2);
+    Ok(())
+}
+
+/// What a vector holds, and what it held when its page began.
+fn expect_page(rt: &impl Abort, alloc: Global, journal: Journal) -> Result<(), NoMemory> {
+    let mut past = Past::new(alloc, journal);
+    write_page(rt, &mut past)?;
+    assert!(rt; are_items(past.copy(alloc)?.as_slice(), &[0, 4, 3]));
+    match past.opened(alloc) {
+        Ok(opened) => assert!(rt;
+            journal == Journal::On && are_items(opened.as_slice(), &[7, 7, 7])
+        ),
+        Err(NoMemory) => assert!(rt; journal == Journal::Off),
+    }
+    Ok(())
+}
+
+#[test]
+fn a_vector_is_alike_with_the_journal_off_and_its_past_is_refused(
+    rt: HostRuntime,
+) -> Result<(), Fail> {
+    expect_page(&rt, rt.alloc(), Journal::On)?;
+    expect_page(&rt, rt.alloc(), Journal::Off)?;
+    Ok(())
+}
+
+#[test]
+fn a_sketch_is_alike_with_the_journal_off_and_its_past_is_refused(
+    rt: HostRuntime,
+) -> Result<(), Fail> {
+    let mut sketch = PastSketch::new(rt.alloc(), 8, Journal::Off)?;
+    sketch.record(5);
+    sketch.prepare();
+    sketch.turn();
+    sketch.record(5);
+    assert!(rt; sketch.freq(5) == 2 && sketch.copy(rt.alloc())?.freq(5) == 2);
+    assert!(rt; sketch.opened(rt.alloc()).is_err());
+    Ok(())
+}
+
+#[test]
+fn with_the_journal_off_the_past_of_lists_is_refused(rt: HostRuntime) -> Result<(), Fail> {
+    let mut lists = Lists::new(rt.alloc(), 10, 100, 80, Journal::Off)?;
+    lists.reserve(2)?;
+    lists.prepare();
+    lists.turn();
+    assert!(rt; lists.slots() == 2 && lists.opened(rt.alloc()).is_err());
+    Ok(())
+}
