@@ -10,7 +10,7 @@ use std::hash::RandomState;
 use std::sync::Wait;
 use tc_grammar::Command;
 use tc_item::{Moment, NoMemory};
-use tc_kinds::{Kind, begin_all};
+use tc_kinds::{Journal, Kind, begin_all};
 use tc_locked::{Hall, Naming, Opened, Seat};
 use tc_plain::Cache;
 use tc_users::{Text, UserNo, UserSpec, Users};
@@ -47,7 +47,7 @@ pub(crate) fn begin<C: Kind>(
     ensures caches { IfOk result (λ begun. map C.settled begun.1.items
         ≡ map fresh_cache users.now) }
 {
-    let caches = begin_all::<C>(alloc, users, seed)?;
+    let caches = begin_all::<C>(alloc, users, seed, Journal::On)?;
     Ok((Opened::new(alloc)?, caches))
 }
 

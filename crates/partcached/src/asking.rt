@@ -156,7 +156,7 @@ fn command<'a>(alloc: Global) -> Result<Command<'a>, AllocError> {
         .about("Say what is wrong with settings, or what they come to")
         .arg(config_arg(alloc).required(true))?;
     Command::new(alloc, "partcached")
-        .version("1.6.0")
+        .version("1.7.0")
         .about("A memcached server in which each user has a partition of its own")
         .subcommand_required(true)
         .subcommand(run_command(alloc)?)?

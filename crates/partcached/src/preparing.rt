@@ -5,9 +5,9 @@ use std::alloc::AllocError;
 use std::hash::RandomState;
 use std::{fs, io};
 use tc_item::NoMemory;
-use tc_kinds::begin_all;
+use tc_kinds::{Journal, begin_all};
 use tc_locked::Opened;
-use tc_net::Beginning;
+use tc_net::{AtEnd, Beginning};
 use tc_partition::Fast;
 use tc_users::{Address, Settings, SettingsFault};
 
@@ -57,8 +57,21 @@ pub fn read_text(rt: &HostRuntime, source: &Source) -> Result<String, Unready> {
     }
 }
 
+/// The journal of a server's caches: what an audit at the end reads is kept, and nothing without one.
+fn journal_for(at_end: AtEnd) -> Journal {
+    match at_end {
+        AtEnd::Leaves => Journal::Off,
+        AtEnd::Audits => Journal::On,
+    }
+}
+
 /// Makes what the settings of this text ask for; a demo listens where its source says.
-pub fn prepare(rt: &HostRuntime, text: &str, source: &Source) -> Result<Beginning<Fast>, Unready> {
+pub fn prepare(
+    rt: &HostRuntime,
+    text: &str,
+    source: &Source,
+    at_end: AtEnd,
+) -> Result<Beginning<Fast>, Unready> {
     let alloc = rt.alloc();
     let mut settings = Settings::from_toml(alloc, text)?;
     if let Source::Demo(listen) = source {
@@ -67,7 +80,7 @@ pub fn prepare(rt: &HostRuntime, text: &str, source: &Source) -> Result<Beginnin
     let Ok(hasher) = RandomState::new(rt) else {
         return Err(Unready::NoMemory);
     };
-    let caches = begin_all::<Fast>(alloc, &settings.users, hasher)?;
+    let caches = begin_all::<Fast>(alloc, &settings.users, hasher, journal_for(at_end))?;
     let opened = Opened::new(alloc)?;
     Ok(Beginning {
         settings,

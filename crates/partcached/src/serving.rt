@@ -197,7 +197,7 @@ pub fn make_ready<'a>(rt: &'a HostRuntime, serving: &'a Serving) -> Result<Ready
     let source = &serving.source;
     let text = read_text(rt, source)?;
     warn_aside(rt, text.as_str())?;
-    let beginning = prepare(rt, text.as_str(), source)?;
+    let beginning = prepare(rt, text.as_str(), source, serving.at_end)?;
     let printing = Printing {
         rt,
         source,

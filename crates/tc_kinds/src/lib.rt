@@ -10,3 +10,4 @@ mod kind;
 
 pub use begin::begin_all;
 pub use kind::Kind;
+pub use tc_partition::Journal;

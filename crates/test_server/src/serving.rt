@@ -7,7 +7,7 @@ use std::net::{Net, TcpStream};
 use std::test::*;
 use std::thread;
 use std::time::{Clock, Duration};
-use tc_kinds::begin_all;
+use tc_kinds::{Journal, begin_all};
 use tc_locked::Opened;
 use tc_net::{Affinity, AtEnd, Audience, Beginning, Found, serve};
 use tc_partition::Fast;
@@ -62,7 +62,7 @@ fn ask<R: Net + Clock>(rt: &R) -> bool {
 /// A server of two workers on loopback.
 fn loopback(alloc: Global, hasher: RandomState) -> Result<Beginning<Fast>, Fail> {
     let settings = Settings::from_toml(alloc, SETTINGS)?;
-    let caches = begin_all::<Fast>(alloc, &settings.users, hasher)?;
+    let caches = begin_all::<Fast>(alloc, &settings.users, hasher, Journal::On)?;
     Ok(Beginning {
         settings,
         opened: Opened::new(alloc)?,

@@ -18,7 +18,7 @@ use std::thread::Threads;
 use std::time::Clock as Time;
 use tc_grammar::Command;
 use tc_item::Moment;
-use tc_kinds::{Kind, begin_all};
+use tc_kinds::{Journal, Kind, begin_all};
 use tc_locked::{Closed, Hall, Naming, Opened, Receipt, Seat};
 use tc_partition::Fast;
 use tc_plain::{Cache, PagedPlain};
@@ -109,7 +109,7 @@ fn two_users(alloc: Global, budget: u64) -> Result<Users, Fail> {
 /// Two users with empty caches of a kind and this budget.
 fn begin<C: Kind>(alloc: Global, hasher: RandomState, budget: u64) -> Result<Beginning<C>, Fail> {
     let users = two_users(alloc, budget)?;
-    let caches = begin_all(alloc, &users, hasher)?;
+    let caches = begin_all(alloc, &users, hasher, Journal::On)?;
     Ok(Beginning {
         opened: Opened::new(alloc)?,
         users,
