@@ -131,12 +131,13 @@ def run():
 # partcached serve
 
 class Server(Refusing):
-    def __init__(self, workers=1, until=1, **how):
+    def __init__(self, workers=1, until=1, audits=False, **how):
         self.settings = tempfile.NamedTemporaryFile("w", suffix=".toml")
         self.settings.write(SETTINGS.format(port=PORT, workers=workers))
         self.settings.flush()
         self.workers = workers
-        super().__init__([PROGRAM, "serve", "--config", self.settings.name, "--until", str(until)], **how)
+        words = [PROGRAM, "serve", "--config", self.settings.name, "--until", str(until)]
+        super().__init__(words + ["--audit"] * audits, **how)
 
     def ending(self):
         """What it ends with: its status, what standard error has, and what standard output says."""
@@ -145,7 +146,8 @@ class Server(Refusing):
         line = f"listening on 127.0.0.1:{PORT}, {self.workers} worker{several}, 1 user\n"
         said = {line: "listening", "out of memory\n": "out of memory",
                 f"cannot listen on 127.0.0.1:{PORT}: out of memory\n": "cannot listen"}
-        return status, err, said.get(out.decode(), out.decode())
+        told = "".join(line for line in out.decode().splitlines(True) if not line.startswith("audit of "))
+        return status, err, said.get(told, told)
 
 
 class Client:
@@ -276,7 +278,7 @@ def turning():
 
 
 def turn():
-    """One call on a full page of 16 entries, which turns it: answered and done; or answered out of
+    """One call on a full page of 16 entries of a server that keeps a journal, which turns it: answered and done; or answered out of
     memory, or not read and its connection closed, and undone, the turn too: another connection is then
     shown the data and the cas number from before."""
     key = b"k" * 42
@@ -299,7 +301,7 @@ def turn():
             other.close()
             is_ended(server)
             return {reply: "answered", REFUSED: "answered out of memory", b"": "closed"}[answer]
-        say(f"a `{name}` that turns a page", each_refusal(lambda n: Server(until=2, at=n, mark=1), judge))
+        say(f"a `{name}` that turns a page", each_refusal(lambda n: Server(until=2, audits=True, at=n, mark=1), judge))
 
 
 def request():
