@@ -7,7 +7,7 @@ use std::process::Abort;
 use std::test::Fail;
 use tc_grammar::Command;
 use tc_item::NoMemory;
-use tc_kinds::Kind;
+use tc_kinds::{Journal, Kind};
 use tc_partition::Fast;
 use tc_plain::Cache;
 
@@ -127,7 +127,7 @@ fn expect_waiting<C: Waiting>(
     hasher: RandomState,
     turns: &[Turn],
 ) -> Result<(), NoMemory> {
-    let mut cache = C::begin(alloc, 65_536, 1_048_576, hasher)?;
+    let mut cache = C::begin(alloc, 65_536, 1_048_576, hasher, Journal::On)?;
     expect_turns(rt, alloc, &mut cache, turns)
 }
 
