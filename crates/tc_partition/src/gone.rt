@@ -1,8 +1,7 @@
 //! What clears took out, where it isn't kept: it goes in pieces.
 //!
 //! To drop 900,000 entries takes some 70 ms, for which whoever clears would hold the cache. So they wait here,
-//! in blocks, and few go with each later change, with each maintenance and with each turn. Where some wait, the
-//! first block has some.
+//! in blocks, and few go with each later change, with each maintenance and with each turn.
 use std::alloc::Global;
 use std::mem;
 use tc_plain::{Change, Was};
@@ -65,7 +64,7 @@ impl Gone {
 
     /// Lets at most so many go, if any wait.
     pub fn let_go(&mut self, most: usize) {
-        if !self.first.is_empty() {
+        if !self.first.is_empty() || !self.others.is_empty() {
             self.let_some_go(most);
         }
     }
