@@ -16,7 +16,8 @@ another server runs beside it, and both are loaded in turns, so that what else t
 both; the ratios are this server's to the other's. Numbers are medians of the rounds. A bar on a ratio,
 as --bar 'million.cpu<=0.5', of rps, cpu, p50, p99, p999 or mib, ends a run that misses it with status 2.
 
-With --pages the same server runs with several journals in turns, and the table says what a request
+With --pages the same server runs with several journals in turns, and with --audit, without which no
+page is kept; the table says what a request
 costs by the entries of a page and by how many items are held.
 
 On a virtual machine the host may take processors away, which Linux counts as stolen. With --steal P a
@@ -246,7 +247,7 @@ def show_pages(asked):
         servers = []
         try:
             for journal in JOURNALS:
-                servers.append(Server(f"{asked.program} serve --config {{config}}", asked, journal))
+                servers.append(Server(f"{asked.program} serve --config {{config}} --until 1000000000 --audit", asked, journal))
             for call, words in CALLS.items():
                 runs = in_turns(f"{items:,} {call}", servers, f"{words} -k {items}", 1, asked)
                 row(f"{items:,}", call, *(f"{median(kept, 'cpu'):.2f} us, {median(kept, 'p99_us') / 1000:.1f} ms"

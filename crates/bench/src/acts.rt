@@ -7,6 +7,7 @@ use std::alloc::Global;
 use std::time::Instant;
 use tc_grammar::Command;
 use tc_item::Moment;
+use tc_kinds::Journal;
 use tc_plain::Cache;
 use tc_stats::Outcome;
 
@@ -30,14 +31,14 @@ fn evicted_in(outcome: &Outcome) -> u32 {
 
 /// How many hits an act shows.
 fn act<C: Cache>(alloc: Global, cache: &mut C, command: &Command) -> Result<u32, Fault> {
-    let (outcome, _kept) = cache.act(alloc, Moment::FIRST, command)?;
-    Ok(hits_of(&outcome))
+    let acted = cache.act(alloc, Moment::FIRST, command, Journal::Off)?;
+    Ok(hits_of(&acted.answer))
 }
 
 /// How many items a cache evicted so far.
 pub(crate) fn evicted<C: Cache>(alloc: Global, cache: &mut C) -> Result<u32, Fault> {
-    let (outcome, _kept) = cache.act(alloc, Moment::FIRST, &Command::Stats)?;
-    Ok(evicted_in(&outcome))
+    let acted = cache.act(alloc, Moment::FIRST, &Command::Stats, Journal::Off)?;
+    Ok(evicted_in(&acted.answer))
 }
 
 /// Does all commands so many times over. The sum is how many hits they show.

@@ -1,6 +1,7 @@
 //! What a call of a hall takes. `partition` has what the same `get`s take on a bare cache.
 ghost use Rattle.std.specs.Prelude.{◌≡◌, ◌<◌, map};
 ghost use Rattle.tc_fresh.specs.Beginning.{fresh_cache};
+ghost use Rattle.tc_past.specs.declared.journal.Journal.TheVariants.{On};
 
 use crate::calling::{begin, call, store_all, users_of};
 use crate::commands::{Ask, Span, commands};
@@ -16,7 +17,7 @@ use std::thread;
 use std::thread::Threads;
 use std::time::Instant;
 use tc_grammar::Command;
-use tc_kinds::Kind;
+use tc_kinds::{Journal, Kind};
 use tc_locked::{Entry, Hall, Naming, Opened, Seat};
 use tc_partition::Fast;
 use tc_plain::Cache;
@@ -174,6 +175,7 @@ fn call_hall<C: Cache + Send + Sync, N: Naming + Send + Sync, R: Threads + Wait 
     requires caches { map C.settled begun.1.items ≡ map fresh_cache asked.users.now }
     requires seats { (asked.shape.threads ≡ N.terms.seats) × (0 < asked.shape.threads) }
     requires journal { (asked.pages.journal ≡ N.terms.journal) × (0 < asked.pages.journal) }
+    requires keeps { On ≡ N.terms.keeps }
 {
     let Asked {
         users,
@@ -189,6 +191,7 @@ fn call_hall<C: Cache + Send + Sync, N: Naming + Send + Sync, R: Threads + Wait 
         caches,
         shape.threads,
         pages.journal,
+        Journal::On,
     )?;
     time_calls(rt, threads, &hall, seats, commands, pages)
 }

@@ -1,6 +1,7 @@
 //! How long the call of a hall takes that turns a page, on the average and at most.
 ghost use Rattle.std.specs.Prelude.{◌≡◌, ◌<◌, map};
 ghost use Rattle.tc_fresh.specs.Beginning.{fresh_cache};
+ghost use Rattle.tc_past.specs.declared.journal.Journal.TheVariants.{On};
 
 use crate::calling::{begin, call, store_all, users_of};
 use crate::fault::Fault;
@@ -11,7 +12,7 @@ use std::sync::Wait;
 use std::time::{Duration, Instant};
 use tc_grammar::Command;
 use tc_item::SMALLEST_BUDGET;
-use tc_kinds::Kind;
+use tc_kinds::{Journal, Kind};
 use tc_locked::{Hall, Naming, Opened, Seat};
 use tc_partition::Fast;
 use tc_plain::Cache;
@@ -134,9 +135,18 @@ fn turn_hall<C: Cache, N: Naming, R: Wait>(
     requires caches { map C.settled begun.1.items ≡ map fresh_cache users.now }
     requires seats { 1 ≡ N.terms.seats }
     requires journal { (load.journal ≡ N.terms.journal) × (0 < load.journal) }
+    requires keeps { On ≡ N.terms.keeps }
 {
     let (opened, caches) = begun;
-    let (hall, mut seats) = Hall::<C, N>::new(rt.alloc(), opened, users, caches, 1, load.journal)?;
+    let (hall, mut seats) = Hall::<C, N>::new(
+        rt.alloc(),
+        opened,
+        users,
+        caches,
+        1,
+        load.journal,
+        Journal::On,
+    )?;
     time_turns(rt, waiting, &hall, &mut seats, command, load)
 }
 

@@ -132,7 +132,7 @@ fn taken(budget: u64, data: u64) -> u64 {
     items.saturating_mul((KEY + TAKEN).saturating_add(data))
 }
 
-/// What the page of a user's journal can keep alive: so many stores of the largest item.
+/// What the page of a user's journal can keep alive with `--audit`: so many stores of the largest item.
 fn kept(row: &UserSpec, journal: usize) -> u64 {
     row.largest
         .saturating_add(ENTRY)
@@ -238,5 +238,7 @@ pub fn print_settings(rt: &HostRuntime, settings: &Settings) -> io::Result<()> {
     println!(rt;
         "budget in bytes; then MiB resident with budgets full of items of {SMALL} and of {LARGE} bytes,"
     )?;
-    println!(rt; "and beside that at most what the last {journal} commands of a user keep")
+    println!(rt;
+        "and with `--audit` at most what the last {journal} commands of a user keep beside that"
+    )
 }

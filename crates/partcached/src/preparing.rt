@@ -5,7 +5,7 @@ use std::alloc::AllocError;
 use std::hash::RandomState;
 use std::{fs, io};
 use tc_item::NoMemory;
-use tc_kinds::{Journal, begin_all};
+use tc_kinds::begin_all;
 use tc_locked::Opened;
 use tc_net::{AtEnd, Beginning};
 use tc_partition::Fast;
@@ -57,14 +57,6 @@ pub fn read_text(rt: &HostRuntime, source: &Source) -> Result<String, Unready> {
     }
 }
 
-/// The journal of a server's caches: what an audit at the end reads is kept, and nothing without one.
-fn journal_for(at_end: AtEnd) -> Journal {
-    match at_end {
-        AtEnd::Leaves => Journal::Off,
-        AtEnd::Audits => Journal::On,
-    }
-}
-
 /// Makes what the settings of this text ask for; a demo listens where its source says.
 pub fn prepare(
     rt: &HostRuntime,
@@ -80,7 +72,7 @@ pub fn prepare(
     let Ok(hasher) = RandomState::new(rt) else {
         return Err(Unready::NoMemory);
     };
-    let caches = begin_all::<Fast>(alloc, &settings.users, hasher, journal_for(at_end))?;
+    let caches = begin_all::<Fast>(alloc, &settings.users, hasher, at_end.journal())?;
     let opened = Opened::new(alloc)?;
     Ok(Beginning {
         settings,

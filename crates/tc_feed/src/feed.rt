@@ -1,13 +1,17 @@
-//! The unread bytes of a stream.
-ghost use Rattle.std.specs.Prelude.{◌≡◌, ◌++◌, ◌+◌, ◌<◌, ◌≤◌, [], take, drop, None, Some, OnOk, OnErr, IfOk, IsTrue};
+//! The unread bytes of a stream: what comes is put behind them, and whole requests are taken from their front.
+//!
+//! `line_end.rt` and `reading.rt` read a request's line and block, and `passing.rt` passes over them. A feed
+//! takes bytes that it is handed, and knows no socket.
+ghost use Rattle.std.specs.Prelude.{◌≡◌, ◌+◌, ◌<◌, ◌≤◌, [], take, drop, None, Some, OnOk, OnErr, IfOk, IsTrue};
 ghost use Rattle.std.specs.Prelude.{option_map, length as list_length};
 ghost use Rattle.tc_grammar.specs.Reading.{reading};
 ghost use Rattle.tc_grammar.specs.declared.line.Line.TheVariants.{NeedsBlock};
+ghost use Rattle.tc_feed.specs.Looking.{IsNext};
 ghost use Rattle.tc_feed.specs.Passing.{passed_of};
 ghost use Rattle.tc_feed.specs.Refusing.{HasLine};
 ghost use Rattle.tc_feed.specs.Scanned.{IsScanned, IsAwaited, IsRemembered};
 ghost use Rattle.tc_feed.specs.Stream.{Reader, more, empty, line_length, line_room, longest_line, trimmed};
-ghost use Rattle.tc_feed.specs.Stream.{first, found, after_first, reader_behind};
+ghost use Rattle.tc_feed.specs.Stream.{found, after_first, reader_behind};
 
 use crate::line_end::{LONGEST_LINE, trim_line};
 use crate::passing::{Passed, first_passed};
@@ -127,20 +131,15 @@ impl Feed {
     /// What is next where the room of a line holds no line feed.
     fn next_without_end(&mut self, alloc: Global, limit: u32) -> Option<Request>
         requires none { line_length (take line_room self.old.unread) ≡ None }
-        ensures found { result ≡ found limit self.old }
-        ensures after { self.new ≡ after_first limit self.old }
-        ensures bounded { result ≡ None
-            → list_length self.new.unread ≤ limit + (longest_line + 2) }
-        ensures no_longer { list_length self.new.unread ≤ list_length self.old.unread }
+        ensures { IsNext limit self.old self.new result }
     {
         let unread = self.kept();
         if unread <= LONGEST_LINE {
             self.wait(limit, unread, unread + 1);
             return None;
         }
-        let fault = Fault::LineTooLong;
         let request = Request::Refused {
-            fault,
+            fault: Fault::LineTooLong,
             quiet: false,
         };
         Some(self.take(alloc, Taken::whole(request, LONGEST_LINE + 1)))
@@ -156,31 +155,23 @@ impl Feed {
         requires end { line_length (take line_room self.old.unread) ≡ Some end }
         requires within { end < list_length self.old.unread }
         requires short { end ≤ longest_line }
-        ensures found { IfOk result (λ request. request ≡ found limit self.old) }
-        ensures after { OnOk result (self.new ≡ after_first limit self.old) }
-        ensures bounded { IfOk result (λ request. request ≡ None
-            → list_length self.new.unread ≤ limit + (longest_line + 2)) }
-        ensures no_longer { list_length self.new.unread ≤ list_length self.old.unread }
+        ensures next { IfOk result (IsNext limit self.old self.new) }
         ensures unchanged_on_err { OnErr result (self.new ≡ self.old) }
     {
         let unread = &self.bytes[self.start..];
-        match parse_line(alloc, trim_line(&unread[..end]), limit)? {
-            Line::Ready(command) => {
-                let taken = Taken::whole(Request::Ask(command), end + 1);
-                Ok(Some(self.take(alloc, taken)))
-            }
-            Line::Refused { fault, quiet, skip } => {
-                let taken = Taken {
-                    request: Request::Refused { fault, quiet },
-                    length: end + 1,
-                    skip: skip as usize,
-                };
-                Ok(Some(self.take(alloc, taken)))
-            }
+        let (request, skip) = match parse_line(alloc, trim_line(&unread[..end]), limit)? {
+            Line::Ready(command) => (Request::Ask(command), 0),
+            Line::Refused { fault, quiet, skip } => (Request::Refused { fault, quiet }, skip),
             Line::NeedsBlock(head, length) => {
-                self.next_block(alloc, limit, end, head, length as usize)
+                return self.next_block(alloc, limit, end, head, length as usize);
             }
-        }
+        };
+        let taken = Taken {
+            request,
+            length: end + 1,
+            skip: skip as usize,
+        };
+        Ok(Some(self.take(alloc, taken)))
     }
 
     /// The request of the first line, which ends at a place, and of the block that it needs.
@@ -198,11 +189,7 @@ impl Feed {
         requires line { reading limit (trimmed (take end self.old.unread))
             ≡ NeedsBlock head length }
         requires few { length ≤ limit }
-        ensures found { IfOk result (λ request. request ≡ found limit self.old) }
-        ensures after { OnOk result (self.new ≡ after_first limit self.old) }
-        ensures bounded { IfOk result (λ request. request ≡ None
-            → list_length self.new.unread ≤ limit + (longest_line + 2)) }
-        ensures no_longer { list_length self.new.unread ≤ list_length self.old.unread }
+        ensures next { IfOk result (IsNext limit self.old self.new) }
         ensures unchanged_on_err { OnErr result (self.new ≡ self.old) }
     {
         let needed = end + 1 + (length + 2);

@@ -1,12 +1,12 @@
-//! Passing over the first request of unread bytes: it takes no memory.
+//! Passing over the first request of unread bytes: it takes no memory. The bytes are only read.
 ghost use Rattle.std.specs.Prelude.{◌≡◌, ◌+◌, ◌<◌, ◌≤◌, ◌^◌, length, take, drop, None, option_map};
 ghost use Rattle.tc_grammar.specs.Reading.{reading};
 ghost use Rattle.tc_grammar.specs.declared.command.Head.{Head};
 ghost use Rattle.tc_feed.specs.Passing.{passing_of};
-ghost use Rattle.tc_feed.specs.Stream.{line_length, longest_line, line_room, trimmed, block_of, line_request, first_by, first};
+ghost use Rattle.tc_feed.specs.Stream.{line_length, longest_line, trimmed, block_of, line_request, first_by, first};
 
 use crate::line_end::{LONGEST_LINE, trim_line};
-use crate::reading::find_end;
+use crate::reading::{ends_line, find_end};
 use tc_grammar::{Fault, Outline, outline_line};
 
 /// What is known of a whole request that was passed over, without its keys and its block.
@@ -37,7 +37,7 @@ fn pass_block(quiet: bool, line: usize, n: usize, bytes: &[u8]) -> Option<Passin
     if bytes.len() < n + 2 {
         return None;
     }
-    let request = if bytes[n] == b'\r' && bytes[n + 1] == b'\n' {
+    let request = if ends_line(n, bytes) {
         Passed::Command { quiet }
     } else {
         Passed::Refused {
@@ -52,15 +52,15 @@ fn pass_block(quiet: bool, line: usize, n: usize, bytes: &[u8]) -> Option<Passin
     })
 }
 
-/// The request of a line that ends at n.
-fn pass_line(limit: u32, unread: &[u8], n: usize) -> Option<Passing>
-    requires within { n < length unread.now }
-    requires short { n ≤ longest_line }
-    ensures { result ≡ option_map passing_of (line_request (n + 1) (drop (n + 1) unread.now)
-        (reading limit (trimmed (take n unread.now)))) }
+/// The request of the first line, which ends at a place.
+fn pass_line(limit: u32, unread: &[u8], end: usize) -> Option<Passing>
+    requires within { end < length unread.now }
+    requires short { end ≤ longest_line }
+    ensures { result ≡ option_map passing_of (line_request (end + 1) (drop (end + 1) unread.now)
+        (reading limit (trimmed (take end unread.now)))) }
 {
-    let line = n + 1;
-    let (request, skip) = match outline_line(trim_line(&unread[..n]), limit) {
+    let line = end + 1;
+    let (request, skip) = match outline_line(trim_line(&unread[..end]), limit) {
         Outline::Command { quiet } => (Passed::Command { quiet }, 0),
         Outline::Quit => (Passed::Quit, 0),
         Outline::Refused { fault, quiet, skip } => (Passed::Refused { fault, quiet }, skip),
@@ -102,6 +102,6 @@ pub(crate) fn first_passed(limit: u32, unread: &[u8], scanned: usize) -> Option<
 {
     match find_end(unread, scanned) {
         None => pass_long_line(unread),
-        Some(n) => pass_line(limit, unread, n),
+        Some(end) => pass_line(limit, unread, end),
     }
 }

@@ -1,12 +1,20 @@
-//! The parts of unread bytes that a request is made of: where its line ends, and its block.
+//! The parts of unread bytes that a request is made of: where its line ends, and its block. They are only read.
 ghost use Rattle.std.specs.Prelude.{◌≡◌, ◌+◌, ◌<◌, ◌≤◌, length, take, None, IfOk, IfSome};
-ghost use Rattle.tc_feed.specs.Stream.{line_length, longest_line, line_room, block_request};
+ghost use Rattle.tc_feed.specs.Stream.{line_length, longest_line, line_room, ends_line, block_request};
 
 use crate::line_end::{LONGEST_LINE, find_line};
 use crate::request::Request;
 use std::alloc::Global;
 use tc_grammar::{Command, Fault, Head};
 use tc_item::{Blob, NoMemory};
+
+/// Whether the two bytes behind the first n are a line end.
+pub(crate) fn ends_line(n: usize, bytes: &[u8]) -> bool
+    requires { n + 2 ≤ length bytes.now }
+    ensures { result ≡ ends_line n bytes.now }
+{
+    bytes[n] == b'\r' && bytes[n + 1] == b'\n'
+}
 
 /// A storage line with its block of n bytes, of which `bytes` has all and two more.
 pub(crate) fn read_block(
@@ -18,7 +26,7 @@ pub(crate) fn read_block(
     requires { n + 2 ≤ length bytes.now }
     ensures { IfOk result (λ request. request ≡ block_request head n bytes.now) }
 {
-    if bytes[n] == b'\r' && bytes[n + 1] == b'\n' {
+    if ends_line(n, bytes) {
         let blob = Blob::from_slice(alloc, &bytes[..n])?;
         Ok(Request::Ask(Command::Store(head, blob)))
     } else {

@@ -16,13 +16,13 @@ pub map-replicate : {A B : Type 0} (f : A → B) (n : ℕ) (x : A) → map f (re
 map-replicate f zero x = refl
 map-replicate f (suc n) x = ap (λ t. f x ∷ t) (map-replicate f n x)
 
-read_same : {X : Type 0} (n : ℕ) (x : X) (k : ℕ) → slice_index_or (replicate n x) k x ≡ x
+pub read_same : {X : Type 0} (n : ℕ) (x : X) (k : ℕ) → slice_index_or (replicate n x) k x ≡ x
 read_same zero x k = refl
 read_same (suc n) x zero = refl
 read_same (suc n) x (suc k) = read_same n x k
 
 -- links that stand nowhere
-abbrev free : Link
+abbrev pub free : Link
 free = record { next = 4294967295; tag = record { 0 = 0 } }
 
 pub tags_free : (n : ℕ) (links : List Link) → links ≡ replicate n free → tags_of links ≡ replicate n None

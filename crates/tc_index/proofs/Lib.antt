@@ -3,3 +3,4 @@ pub mod Chained
 pub mod Walked
 pub mod Placed
 pub mod Filled
+pub mod Lengthened

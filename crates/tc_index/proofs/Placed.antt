@@ -11,7 +11,7 @@ use Rattle.tc_index.specs.declared.links.Link.{Link}
 use Rattle.tc_index.proofs.Chained.{set_at, inserted_first, inserted_behind, removed_first, removed_behind, chained_along}
 use Rattle.tc_index.proofs.Walked.{bucket_within}
 
-fun_same : {A B : Type 0} (f g : A → B) → ((x : A) → f x ≡ g x) → f ≡ g
+pub fun_same : {A B : Type 0} (f g : A → B) → ((x : A) → f x ≡ g x) → f ≡ g
 fun_same f g h = λ i x. h x i
 
 -- a write to a list, as a function
@@ -23,7 +23,7 @@ set_read xs i x d lt n = go (n == i) refl
     go true t = ap (λ k. slice_index_or (slice_set xs i x) k d) (eqb-true n i t) ∙ get_or-set_same xs i x d lt
     go false t = get_or-set_other xs i n x d (eqb-false n i t)
 
-chained_same : {B C : ℕ → Option ℕ} {H G N M : ℕ → ℕ} {m k n l : ℕ} → B ≡ C → H ≡ G → N ≡ M → m ≡ k → n ≡ l → AreChained B H N m n
+pub chained_same : {B C : ℕ → Option ℕ} {H G N M : ℕ → ℕ} {m k n l : ℕ} → B ≡ C → H ≡ G → N ≡ M → m ≡ k → n ≡ l → AreChained B H N m n
     → AreChained C G M k l
 chained_same {B} {C} {H} {G} {N} {M} {m} {k} {n} {l} p q r s t h =
     subst (λ z. AreChained C G M k z) t

@@ -1,5 +1,5 @@
 //! The index.
-ghost use Rattle.std.specs.Prelude.{◌≡◌, ℕ, ◌<◌, Bool, length, slice_set, Some, None};
+ghost use Rattle.std.specs.Prelude.{◌≡◌, ℕ, ◌<◌, ◌-◌, ◌^◌, Bool, length, slice_set, Some, None};
 ghost use Rattle.std.specs.Prelude.{[], IsSome, option_map, IfOk, is_ok, ◌≤◌, if◌then◌else◌, replicate};
 ghost use Rattle.tc_index.specs.Tags.{Tells, FindsRight, tag_in, grown};
 
@@ -44,11 +44,9 @@ impl Index {
 
     /// An index with room for all slots below this, none of which stands anywhere.
     fn with_room(alloc: Global, slots: usize) -> Result<Index, NoMemory>
+        requires { slots < 2 ^ 32 - 1 }
         ensures { IfOk result (λ index. index ≡ replicate slots None) }
     {
-        if slots > MOST_SLOTS {
-            return Err(NoMemory);
-        }
         let buckets = slots.next_power_of_two();
         let mut heads = Vec::with_capacity(alloc, buckets)?;
         heads.resize(buckets, 0)?;
@@ -78,15 +76,34 @@ impl Index {
         }
     }
 
-    /// Room for all slots below this, which is refused beyond 2^32 - 2. A refusal changes nothing.
+    /// The same slots under their tags, in chains that are made anew, with room for all slots below this. A
+    /// refusal changes nothing.
+    fn widen(&mut self, slots: usize) -> Result<(), NoMemory>
+        requires more { length self.old ≤ slots }
+        requires few { slots < 2 ^ 32 - 1 }
+        ensures { self.new ≡ (if is_ok result then grown slots self.old else self.old) }
+    {
+        let mut wider = Index::with_room(self.allocator(), slots)?;
+        wider.fill_from(self);
+        *self = wider;
+        Ok(())
+    }
+
+    /// Room for all slots below this, which is refused beyond 2^32 - 2. Chains are made anew only where there
+    /// would be more slots than buckets. A refusal changes nothing.
     pub fn reserve(&mut self, slots: usize) -> Result<(), NoMemory>
         ensures { self.new ≡ (if is_ok result then grown slots self.old else self.old) }
     {
-        if slots > self.slots() {
-            let mut wider = Index::with_room(self.allocator(), slots)?;
-            wider.fill_from(self);
-            *self = wider;
+        if slots <= self.slots() {
+            return Ok(());
         }
+        if slots > MOST_SLOTS {
+            return Err(NoMemory);
+        }
+        if slots > self.heads.len() {
+            return self.widen(slots);
+        }
+        links::lengthen(&mut self.links, slots)?;
         Ok(())
     }
 

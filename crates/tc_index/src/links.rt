@@ -1,6 +1,8 @@
 //! What leads from one slot to the next, and under which tag each stands.
-ghost use Rattle.std.specs.Prelude.{◌≡◌, ℕ, ◌<◌, ◌-◌, ◌^◌, length, slice_index_or, slice_set, Some, None, IsSome, option_map};
+ghost use Rattle.std.specs.Prelude.{◌≡◌, ℕ, ◌<◌, ◌≤◌, ◌-◌, ◌^◌, ◌++◌, length, replicate, OnOk, OnErr, slice_index_or, slice_set, Some, None, IsSome, option_map};
 ghost use Rattle.tc_index.specs.Links.{tags_of, nexts_of, next_at, tag_at};
+
+use tc_item::NoMemory;
 
 /// The next number of a slot that stands nowhere.
 pub(crate) const NOWHERE: u32 = u32::MAX;
@@ -22,6 +24,19 @@ pub(crate) const FREE: Link = Link {
     next: NOWHERE,
     tag: Tag(0),
 };
+
+/// Adds links up to so many, of slots that stand nowhere, with room for no more: a vector's own `resize` makes
+/// room for twice as many. A refusal changes nothing.
+pub(crate) fn lengthen(links: &mut Vec<Link>, slots: usize) -> Result<(), NoMemory>
+    requires { length links.old.items ≤ slots }
+    ensures items { OnOk result (links.new.items
+        ≡ links.old.items ++ replicate (slots - length links.old.items) FREE) }
+    ensures unchanged_on_err { OnErr result (links.new.items ≡ links.old.items) }
+{
+    links.reserve_exact(slots - links.len())?;
+    links.resize(slots, FREE)?;
+    Ok(())
+}
 
 /// The number of the slot that follows one, and 0 behind the last.
 pub(crate) fn next(links: &[Link], slot: usize) -> usize

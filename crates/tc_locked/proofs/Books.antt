@@ -1,12 +1,13 @@
 -- What calls, maintenance and page turns keep of a book.
 use Rattle.std.proofs.Common.{zero, suc, ◌≡◌, ℕ, ◌+◌, ◌<◌, ◌≤◌, max, List, [], ◌∷◌, ◌++◌, length, refl, sym, ap, ◌∙◌}
-use Rattle.std.proofs.Common.{subst, arith, replicate, length-append, take}
+use Rattle.std.proofs.Common.{subst, arith, replicate, length-append}
 use Rattle.std.specs.Prelude.{slice_index, slice_set}
-use Rattle.std.proofs.lemmas.List.{length-set, length-replicate, get_or-set_same, get_or-set_other, length-take-le}
+use Rattle.std.proofs.lemmas.List.{length-set, length-replicate, get_or-set_same, get_or-set_other}
 use mathlib.Core.Logic.{dite}
 use native.Mathlib.Decide.{ℕ_discrete}
 use Rattle.tc_model.specs.Caching.{Replays, state_after}
 use Rattle.tc_grammar.specs.declared.command.Command.{Command}
+use Rattle.tc_past.specs.declared.journal.Journal.{Journal}
 use Rattle.tc_stats.specs.declared.outcome.Outcome.{Outcome}
 use Rattle.tc_plain.specs.UserCache.{UserCache, advance}
 use Rattle.tc_plain.specs.Doing.{act}
@@ -112,8 +113,9 @@ stands_turn start b s = record {
   counts = refl;
 }
 
-pub stands_fresh : (k : UserCache) (seats : ℕ) → IsEmptyCache k → Stands (first_start k seats) [] (fresh_book k seats)
-stands_fresh k seats h = record {
+pub stands_fresh : (k : UserCache) (seats : ℕ) (keeps : Journal) → IsEmptyCache k
+    → Stands (first_start k seats) [] (fresh_book k seats keeps)
+stands_fresh k seats keeps h = record {
   replays = tt;
   settled = ap (λ (j : UserCache). advance j 0) h.2 ∙ advance-empty h.0 h.1 ∙ sym h.2;
   moment = omega arith;
@@ -173,11 +175,11 @@ index-replicate zero s = refl
 index-replicate (suc n) zero = refl
 index-replicate (suc n) (suc s) = index-replicate n s
 
-pub book_fresh : (k : UserCache) (seats : ℕ) → IsEmptyCache k → IsBook (fresh_book k seats)
-book_fresh k seats empty = record {
+pub book_fresh : (k : UserCache) (seats : ℕ) (keeps : Journal) → IsEmptyCache k → IsBook (fresh_book k seats keeps)
+book_fresh k seats keeps empty = record {
   start = first_start k seats;
   opens = refl;
-  stands = stands_fresh k seats empty;
+  stands = stands_fresh k seats keeps empty;
   first = λ z. (empty, ap (first_start k) (sym (length-replicate {A = ℕ} seats 0)));
   capped = λ i lt. let z = index-replicate seats i in omega arith;
   turned = omega arith;
@@ -190,9 +192,6 @@ turn_if-some (e ∷ es) b lt = refl
 -- a book that is seen as this one is turned as this one
 pub turned_is : (v b : BookState) → v ≡ b → 0 < length v.entries → page_turned v ≡ turn_if b.entries b
 turned_is v b is some = sym (turn_if-some v.entries v some) ∙ ap (λ (x : BookState). turn_if x.entries x) is
-
-pub take_some : (n : ℕ) (xs : List Entry) → 0 < n → n ≤ length xs → 0 < length (take n xs)
-take_some n xs lt le = let same = length-take-le n xs le in omega (arith, same, lt)
 
 -- a turned page and a call on it
 pub turned_call : (b : BookState) (seat now conn : ℕ) (command : Command) → 0 < length b.entries → seat < length b.counts

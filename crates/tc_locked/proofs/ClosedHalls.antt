@@ -240,6 +240,11 @@ pub counts_of : (terms : Terms) (user : ℕ) (ks : List KeptState) (x : ShutStat
 counts_of terms user ks x b kept =
     ap (λ (s : ShutState). length s.book.counts) b.left ∙ (kept_at terms ks b.at b.kept kept b.there).counts
 
+pub keeps_of : (terms : Terms) (user : ℕ) (ks : List KeptState) (x : ShutState) → IsBookOf user ks x → AllKept terms ks
+    → x.book.keeps ≡ terms.keeps
+keeps_of terms user ks x b kept =
+    ap (λ (s : ShutState). s.book.keeps) b.left ∙ (kept_at terms ks b.at b.kept kept b.there).keeps
+
 -- ---- the first book of a user
 pub book_of-found : (user : ℕ) (ss : List ShutState) (fs : List Face) (i : ℕ) (x : ShutState)
     → length (with_logs ss fs) ≡ length ss → i < length ss → x ≡ get_or ss i x → x.user ≡ user

@@ -1,9 +1,9 @@
 -- A call keeps what lies under a lock.
-use Rattle.std.proofs.Common.{zero, suc, ◌≡◌, ◌==◌, replicate, eq-eqb, ne_eqb, ℕ, ◌+◌, ◌-◌, ◌<◌, ◌≤◌, Bool, true, false, cond}
+use Rattle.std.proofs.Common.{zero, suc, ◌≡◌, ◌==◌, replicate, eq-eqb, ne_eqb, ℕ, ◌+◌, ◌<◌, ◌≤◌, Bool, true, false, cond}
 use Rattle.std.proofs.Common.{List, [], ◌∷◌, ◌++◌, length, refl, sym, ap, ◌∙◌, subst, arith, length-append, append_assoc, add-one}
 use native.Mathlib.Decide.{ℕ_discrete}
 use Rattle.std.specs.List.{filter}
-use Rattle.std.specs.Prelude.{slice_index, slice_set, leb, slice_get, Some}
+use Rattle.std.specs.Prelude.{slice_index, slice_set, leb}
 use Rattle.std.proofs.lemmas.List.{append-nil, map-append, length-set, length-replicate, get_or-set_same, get_or-set_other}
 use Rattle.std.proofs.lemmas.Bool.Decides.{nat_tests}
 use Rattle.tc_grammar.specs.declared.command.Command.{Command}
@@ -58,6 +58,7 @@ kept_push terms k seat now conn c lt few h =
       begins_at = h.begins_at;
       empty = h.empty;
       counts = length-set k.book.counts seat e.tally ∙ h.counts;
+      keeps = h.keeps;
       whole =
           subst (λ es. Stands (first_start h.begins terms.seats) es (after_call k.book e))
           (sym (map-append (λ (x : Note). x.entry) k.log (n ∷ [])))
@@ -81,6 +82,7 @@ kept_turn terms k many h =
       begins_at = h.begins_at;
       empty = h.empty;
       counts = h.counts;
+      keeps = h.keeps;
       whole = record {
         replays = s.replays;
         settled = s.settled;
@@ -116,26 +118,13 @@ kept_maintain terms k now h = record {
   begins_at = h.begins_at;
   empty = h.empty;
   counts = h.counts;
+  keeps = h.keeps;
   whole = stands_maintain (first_start h.begins terms.seats) (entries_in k.log) k.book now h.whole;
   older = h.older;
   page = h.page;
   turned = h.turned;
   room = h.room;
 }
-
-last_at : (es : List Entry) (e : Entry) → slice_get (es ++ e ∷ []) (length es) ≡ Some e
-last_at [] e = refl
-last_at (x ∷ es) e = last_at es e
-
--- the last of a longer list
-pub last_of_push : (es : List Entry) (e : Entry) → slice_get (es ++ e ∷ []) (length (es ++ e ∷ []) - 1) ≡ Some e
-last_of_push es e =
-    let at : length (es ++ e ∷ []) - 1 ≡ length es = omega (arith, length-append es (e ∷ [])) in
-    ap (slice_get (es ++ e ∷ [])) at ∙ last_at es e
-
-pub entry_is : (all es : List Entry) (e x : Entry) → all ≡ es ++ e ∷ [] → slice_get all (length all - 1) ≡ Some x → x ≡ e
-entry_is all es e x is at =
-    let last = last_of_push es e in let found = sym at ∙ ap (λ l. slice_get l (length l - 1)) is ∙ last in cc
 
 -- ---- a seat's count is the number of its entries
 abbrev of_seat : ℕ → List Entry → List Entry

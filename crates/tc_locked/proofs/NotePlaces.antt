@@ -1,7 +1,7 @@
 -- Where the entry of a note stands.
 use Rattle.std.proofs.Common.{◌==◌, eq-eqb, ◌⊎◌, ⊎_elim, inl, inr, true, false, Bool, Some, ◌≡◌, ℕ, zero, suc, ◌+◌, ◌<◌, List, []}
 use Rattle.std.proofs.Common.{◌∷◌, ◌++◌, map, length, refl, sym, ap, ◌∙◌, subst, arith, length-append}
-use Rattle.std.specs.Prelude.{slice_get, slice_set, replicate, IfSome, IfNone, Option, None}
+use Rattle.std.specs.Prelude.{slice_get, slice_set, replicate, IfSome, IfNone, Option, None, IfOk, Result, Ok, Err}
 use Rattle.std.specs.List.{filter}
 use Rattle.std.proofs.lemmas.List.{length-map}
 use Rattle.tc_locked.specs.declared.entry.Entry.{Entry}
@@ -122,6 +122,10 @@ placed terms user ks ss x n kept tied b has is =
           × (n.entry.number + length s.book.entries ≡ s.book.number + j + 1)))
           (sym b.left) (where_is terms k at.0 n (kept_at terms ks b.at k kept b.there) at.1);
     }
+
+pub both_ok : {A E : Type 0} (P Q R : A → Type 0) (r : Result A E) → ((x : A) → P x → Q x → R x) → IfOk r P → IfOk r Q → IfOk r R
+both_ok P Q R (Ok x) f p q = f x p q
+both_ok P Q R (Err e) f p q = tt
 
 pub if_some_map : {A : Type 0} (P Q : A → Type 0) (o : Option A) → ((x : A) → P x → Q x) → IfSome o P → IfSome o Q
 if_some_map P Q None f h = tt

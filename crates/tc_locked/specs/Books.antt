@@ -3,6 +3,7 @@ use Rattle.std.specs.Prelude.{◌≡◌, cond, leb, ℕ, ◌+◌, ◌<◌, ◌�
 use Rattle.std.specs.Prelude.{slice_set, replicate}
 use Rattle.tc_model.specs.Caching.{Event, Replays, state_after}
 use Rattle.tc_grammar.specs.declared.command.Command.{Command}
+use Rattle.tc_past.specs.declared.journal.Journal.{Journal}
 use Rattle.tc_stats.specs.declared.outcome.Outcome.{Outcome}
 use Rattle.tc_plain.specs.UserCache.{UserCache, advance}
 use Rattle.tc_plain.specs.Doing.{act}
@@ -25,6 +26,8 @@ pub record BookState : Type 0 where
   -- how many entries there were, over all pages, and how many of each seat
   pub number : ℕ
   pub counts : List ℕ
+  -- whether the entries of the page are kept, so that they can be read
+  pub keeps : Journal
 
 -- an entry as an event of the cache's history
 abbrev pub event_of : Entry → Event Command Outcome
@@ -110,6 +113,7 @@ after_call b e = record {
   turns = b.turns;
   number = e.number;
   counts = slice_set b.counts e.seat e.tally;
+  keeps = b.keeps;
 }
 
 -- what a call's caller is told
@@ -126,6 +130,7 @@ after_maintain b now = record {
   turns = b.turns;
   number = b.number;
   counts = b.counts;
+  keeps = b.keeps;
 }
 
 -- a book whose page was turned
@@ -138,6 +143,7 @@ page_turned b = record {
   turns = b.turns + 1;
   number = b.number;
   counts = b.counts;
+  keeps = b.keeps;
 }
 
 -- a page with entries is turned
@@ -150,8 +156,8 @@ abbrev pub paged : ℕ → BookState → BookState
 paged journal b = cond (leb journal (length b.entries)) (page_turned b) b
 
 -- the book of a cache that was never called
-abbrev pub fresh_book : UserCache → ℕ → BookState
-fresh_book k seats = record {
+abbrev pub fresh_book : UserCache → ℕ → Journal → BookState
+fresh_book k seats keeps = record {
   opening = k;
   entries = [];
   settled = k;
@@ -159,4 +165,5 @@ fresh_book k seats = record {
   turns = 0;
   number = 0;
   counts = replicate seats 0;
+  keeps = keeps;
 }

@@ -3,6 +3,8 @@ use Rattle.std.specs.Prelude.{◌≡◌, ℕ, zero, suc, ◌≤◌, List, [], �
 use Rattle.atomic_table.specs.Seated.{TableId}
 use Rattle.tc_model.specs.Connection.{user_at}
 use Rattle.tc_grammar.specs.declared.command.Command.{Command}
+use Rattle.tc_past.specs.declared.journal.Journal.{Journal}
+use Rattle.tc_past.specs.declared.journal.Journal.TheVariants.{Off}
 use Rattle.tc_plain.specs.UserCache.{UserCache}
 use Rattle.tc_locked.specs.declared.entry.Entry.{Entry}
 use Rattle.tc_locked.specs.declared.view.Note.{Note}
@@ -16,15 +18,17 @@ use Rattle.tc_locked.specs.Books.{BookState, Stands, first_start, paged, after_c
 abbrev pub no_table : TableId
 no_table = record { words = 0; slots = 0; views_name = 0; atom = 0; block = 0; offset = 0; slot_names = [] }
 
--- what all books of a hall share: the caches that its users begin with, how many seats there are, and how many entries a page has
+-- what all books of a hall share: the caches that its users begin with, how many seats there are, how many entries a page
+-- has, and whether they are kept
 pub record Terms : Type 0 where
   pub begins : List UserCache
   pub seats : ℕ
   pub journal : ℕ
+  pub keeps : Journal
 
 -- the terms of no hall
 abbrev pub no_terms : Terms
-no_terms = record { begins = []; seats = 0; journal = 0 }
+no_terms = record { begins = []; seats = 0; journal = 0; keeps = Off }
 
 -- a caller's seat: its number, and the notes of what it wrote
 pub record SeatState : Type 0 where
@@ -71,6 +75,7 @@ pub record IsKept (terms : Terms) (k : KeptState) : Type 0 where
   pub begins_at : user_at terms.begins k.user ≡ Some begins
   pub empty : IsEmptyCache begins
   pub counts : length k.book.counts ≡ terms.seats
+  pub keeps : k.book.keeps ≡ terms.keeps
   pub whole : Stands (first_start begins terms.seats) (entries_in k.log) k.book
   -- the notes of the turned pages, each of which had `journal` entries, and behind them those of the page
   pub older : List Note

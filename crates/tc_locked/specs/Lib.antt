@@ -8,3 +8,5 @@ pub mod Moments
 pub mod Outcomes
 pub mod Audits
 pub mod Refusals
+pub mod Witnesses
+pub mod Pages

@@ -6,6 +6,7 @@ ghost use Rattle.tc_locked.specs.Audits.{IsAuditOf};
 use crate::entry::Entry;
 use std::alloc::Global;
 use tc_item::NoMemory;
+use tc_past::Journal;
 use tc_plain::{Plain, act};
 use tc_stats::Outcome;
 
@@ -36,8 +37,8 @@ fn do_again(alloc: Global, cache: &mut Plain, entry: &Entry) -> Result<Outcome, 
         ≡ (act cache.old entry.now.moment entry.now.command).0) }
     ensures state { OnOk result (cache.new ≡ (act cache.old entry.now.moment entry.now.command).1) }
 {
-    let (outcome, _) = act(cache, alloc, entry.moment, &entry.command)?;
-    Ok(outcome)
+    let acted = act(cache, alloc, entry.moment, &entry.command, Journal::Off)?;
+    Ok(acted.answer)
 }
 
 /// Does the calls of a page again on the cache that it began with, which is the definition's reading of

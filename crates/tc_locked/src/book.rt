@@ -1,7 +1,10 @@
 //! A user's book.
 ghost use Rattle.std.specs.Prelude.{◌≡◌, ◌≢◌, ℕ, ◌+◌, ◌-◌, ◌^◌, ◌<◌, ◌≤◌, length, IfOk, OnOk, IfErr, OnErr, slice_get};
-ghost use Rattle.std.specs.Prelude.{slice_index, slice_set, take, ◌++◌, ◌∷◌, [], vec_len, vec_capacity, Some, IfSome, IfNone};
+ghost use Rattle.std.specs.Prelude.{slice_index, slice_set, vec_len, vec_capacity, Some, IfSome, IfNone};
+ghost use Rattle.tc_past.specs.declared.journal.Journal.TheVariants.{Off as IsOff};
+ghost use Rattle.tc_plain.specs.Keeping.{kept_by};
 ghost use Rattle.tc_locked.specs.declared.entry.Entry.{Entry};
+ghost use Rattle.tc_locked.specs.Pages.{entries_on, IsPage, HasRoom};
 ghost use Rattle.tc_fresh.specs.Beginning.{IsEmptyCache};
 ghost use Rattle.tc_plain.specs.Doing.{act};
 ghost use Rattle.tc_locked.specs.Books.{entry_of, after_call, slip_of, after_maintain, page_turned, turn_if, paged, fresh_book};
@@ -10,23 +13,21 @@ ghost use Rattle.tc_locked.specs.declared.call_fault.CallFault.TheVariants.{Worn
 
 use crate::call_fault::CallFault;
 use crate::called::Called;
-use crate::entry::{Entry, Slip};
-use crate::old_entries::prefetch;
+use crate::entry::{Entry, Numbers, Slip};
+use crate::page::Page;
+use crate::unread::Unread;
 use std::alloc::Global;
 use std::marker::Model;
 use tc_grammar::Command;
 use tc_item::{Moment, NoMemory};
-use tc_plain::{Cache, LeftOver, Plain, Progress};
-use tc_stats::Outcome;
+use tc_past::Journal;
+use tc_plain::{Acted, Cache, LeftOver, Plain, Progress};
 
 /// A cache, which knows what it stood for when its page began, and the calls that it did since, seen as
 /// its state. It is always legal.
 #[derive(Drop)]
 pub struct Book<C: Cache> {
-    /// The entries of the page, and behind them such of the page before it as are not replaced yet.
-    entries: Vec<Entry>,
-    /// How many entries the page has.
-    used: usize,
+    page: Page,
     cache: C,
     moment: Moment,
     turns: u64,
@@ -35,59 +36,32 @@ pub struct Book<C: Cache> {
 }
 
 impl<C: Cache> Model for Book<C> {
-    ghost use Rattle.std.specs.Prelude.{◌≤◌, length, take};
     ghost use Rattle.tc_locked.specs.Books.{BookState, IsBook};
+    ghost use Rattle.tc_locked.specs.Pages.{entries_on, IsPage};
 
     ghost Value = { BookState };
 
     ghost view = { λ b. record {
       opening = C.opened b.cache;
-      entries = take b.used b.entries.items;
+      entries = entries_on b.page;
       settled = C.settled b.cache;
       moment = b.moment;
       turns = b.turns;
       number = b.number;
       counts = b.counts.items;
+      keeps = b.page.journal;
     } };
 
     ghost invariant = { λ b. IsBook (record {
       opening = C.opened b.cache;
-      entries = take b.used b.entries.items;
+      entries = entries_on b.page;
       settled = C.settled b.cache;
       moment = b.moment;
       turns = b.turns;
       number = b.number;
       counts = b.counts.items;
-    }) × (b.used ≤ length b.entries.items) };
-}
-
-/// Room for an entry behind the first `used`.
-fn make_room(entries: &mut Vec<Entry>, used: usize) -> Result<(), NoMemory>
-    ensures entries { entries.new.items ≡ entries.old.items }
-    ensures room { OnOk result (length entries.new.items ≤ used
-        → vec_len entries.new < vec_capacity entries.new) }
-{
-    if entries.len() <= used {
-        entries.reserve(1)?;
-    }
-    Ok(())
-}
-
-/// Puts an entry behind the first `used`, in the place of the one there, if there is one.
-fn put(entries: &mut Vec<Entry>, used: usize, entry: Entry)
-    requires within { used ≤ length entries.old.items }
-    requires room { length entries.old.items ≤ used
-        → vec_len entries.old < vec_capacity entries.old }
-    ensures entries { take (used + 1) entries.new.items
-        ≡ take used entries.old.items ++ entry ∷ [] }
-    ensures within { used + 1 ≤ length entries.new.items }
-{
-    if used < entries.len() {
-        prefetch(entries.as_slice(), used);
-        entries[used] = entry;
-    } else {
-        entries.push_reserved(entry);
-    }
+      keeps = b.page.journal;
+    }) × IsPage b.page };
 }
 
 /// Counts an entry of a seat: its number, and how many the seat has with it.
@@ -106,61 +80,13 @@ fn count_entry(number: &mut u64, counts: &mut Vec<u64>, seat_no: usize) -> (u64,
     (*number, tally)
 }
 
-/// Enters a call that the cache did: counts it, puts its entry behind the first `used`, and gives the
-/// entry's number and tally.
-fn enter(
-    entries: &mut Vec<Entry>,
-    used: usize,
-    number: &mut u64,
-    counts: &mut Vec<u64>,
-    seat_no: usize,
-    moment: Moment,
-    conn: u32,
-    kept: Command,
-    outcome: Outcome,
-) -> (u64, u64)
-    requires within { used ≤ length entries.old.items }
-    requires room { length entries.old.items ≤ used
-        → vec_len entries.old < vec_capacity entries.old }
-    requires seat { seat_no < length counts.old.items }
-    requires number { number.old + 1 < 2 ^ 64 }
-    requires tally { slice_index counts.old.items seat_no + 1 < 2 ^ 64 }
-    ensures entries { take (used + 1) entries.new.items ≡ take used entries.old.items ++ record {
-      seat = seat_no;
-      tally = slice_index counts.old.items seat_no + 1;
-      number = number.old + 1;
-      moment = moment;
-      conn = conn;
-      command = kept;
-      outcome = outcome;
-    } ∷ [] }
-    ensures within { used + 1 ≤ length entries.new.items }
-    ensures number { number.new ≡ number.old + 1 }
-    ensures counts { counts.new.items
-        ≡ slice_set counts.old.items seat_no (slice_index counts.old.items seat_no + 1) }
-    ensures given { (result.0 ≡ number.old + 1)
-        × (result.1 ≡ slice_index counts.old.items seat_no + 1) }
-{
-    let (number, tally) = count_entry(number, counts, seat_no);
-    let entry = Entry {
-        seat: seat_no,
-        tally,
-        number,
-        moment,
-        conn,
-        command: kept,
-        outcome,
-    };
-    put(entries, used, entry);
-    (number, tally)
-}
-
-/// What can fail before the cache is called: a number for the entry, and room for it behind the first
-/// `used`.
-fn make_ready(entries: &mut Vec<Entry>, used: usize, number: u64) -> Result<(), CallFault>
-    ensures entries { entries.new.items ≡ entries.old.items }
-    ensures room { OnOk result (length entries.new.items ≤ used
-        → vec_len entries.new < vec_capacity entries.new) }
+/// What can fail before the cache is called: a number for the entry, and room for it.
+fn make_ready(page: &mut Page, number: u64) -> Result<(), CallFault>
+    requires { IsPage page.old }
+    ensures page { IsPage page.new }
+    ensures entries { entries_on page.new ≡ entries_on page.old }
+    ensures journal { page.new.journal ≡ page.old.journal }
+    ensures room { OnOk result (HasRoom page.new) }
     ensures number { OnOk result (number + 1 < 2 ^ 64) }
     ensures worn { IfErr result (λ fault. (fault ≡ Worn → number ≡ 2 ^ 64 - 1)
         × (fault ≢ NoUser)) }
@@ -169,12 +95,13 @@ fn make_ready(entries: &mut Vec<Entry>, used: usize, number: u64) -> Result<(), 
     if number == u64::MAX {
         return Err(CallFault::Worn);
     }
-    make_room(entries, used)?;
+    page.reserve()?;
     Ok(())
 }
 
 /// What can fail of a call on a new page: the next opening is prepared, there is room for what the turn
-/// leaves over, and the cache does the command. Its outcome is given twice, one to answer and one to keep.
+/// leaves over, and the cache does the command. Its outcome is given once more to keep where `keep` says
+/// so.
 fn act_on_next<C: Cache>(
     alloc: Global,
     cache: &mut C,
@@ -182,9 +109,12 @@ fn act_on_next<C: Cache>(
     number: u64,
     moment: Moment,
     command: &Command,
-) -> Result<(Outcome, Outcome), CallFault>
-    ensures answer { IfOk result (λ r. r.0 ≡ (act (C.settled cache.old) moment command.now).0) }
-    ensures kept { IfOk result (λ r. r.1 ≡ (act (C.settled cache.old) moment command.now).0) }
+    keep: Journal,
+) -> Result<Acted, CallFault>
+    ensures answer { IfOk result (λ r. r.answer
+        ≡ (act (C.settled cache.old) moment command.now).0) }
+    ensures kept { IfOk result (λ r. r.kept
+        ≡ kept_by keep (act (C.settled cache.old) moment command.now).0) }
     ensures state { OnOk result (C.settled cache.new
         ≡ (act (C.settled cache.old) moment command.now).1) }
     ensures opening { C.opened cache.new ≡ C.opened cache.old }
@@ -203,21 +133,26 @@ fn act_on_next<C: Cache>(
         return Err(CallFault::NoMemory);
     };
     cache.prepare(alloc)?;
-    Ok(cache.act(alloc, moment, command)?)
+    Ok(cache.act(alloc, moment, command, keep)?)
 }
 
 impl<C: Cache> Book<C> {
-    /// The book of an empty cache, with a count for each of so many seats.
-    pub fn open(alloc: Global, mut cache: C, seats: usize) -> Result<Book<C>, NoMemory>
+    /// The book of an empty cache, with a count for each of so many seats. It keeps its page's entries
+    /// where the journal is on.
+    pub fn open(
+        alloc: Global,
+        mut cache: C,
+        seats: usize,
+        journal: Journal,
+    ) -> Result<Book<C>, NoMemory>
         requires empty { IsEmptyCache (C.settled cache) }
-        ensures { IfOk result (λ book. book ≡ fresh_book (C.settled cache) seats) }
+        ensures { IfOk result (λ book. book ≡ fresh_book (C.settled cache) seats journal) }
     {
         let counts = vec![in alloc; 0u64; seats]?;
         cache.prepare(alloc)?;
         drop(cache.turn());
         Ok(Book {
-            entries: Vec::new(alloc),
-            used: 0,
+            page: Page::new(alloc, journal),
             cache,
             moment: Moment::FIRST,
             turns: 0,
@@ -226,8 +161,8 @@ impl<C: Cache> Book<C> {
         })
     }
 
-    /// One call of a seat, at the later of `now` and the book's moment; its entry keeps the copy of the
-    /// command. A refusal changes nothing.
+    /// One call of a seat, at the later of `now` and the book's moment; where entries are kept, its entry
+    /// keeps the copy of the command. A refusal changes nothing.
     pub fn call(
         &mut self,
         alloc: Global,
@@ -235,12 +170,14 @@ impl<C: Cache> Book<C> {
         now: Moment,
         conn: u32,
         command: &Command,
-        kept: Command,
+        copy: Option<Command>,
     ) -> Result<Called, CallFault>
         requires seat { seat_no < length self.old.counts }
-        requires copy { kept ≡ command.now }
+        requires copy { copy ≡ kept_by self.old.keeps command.now }
         ensures slip { IfOk result (λ called. called.slip ≡ slip_of self.old
             (entry_of self.old seat_no now conn command.now)) }
+        ensures entry { IfOk result (λ called. called.entry
+            ≡ entry_of self.old seat_no now conn command.now) }
         ensures entered { OnOk result (self.new
             ≡ after_call self.old (entry_of self.old seat_no now conn command.now)) }
         ensures worn { IfErr result (λ fault. (fault ≡ Worn → self.old.number ≡ 2 ^ 64 - 1)
@@ -249,30 +186,28 @@ impl<C: Cache> Book<C> {
         ensures unchanged_on_err { OnErr result (self.new ≡ self.old) }
     {
         let moment = self.moment.later(now);
-        make_ready(&mut self.entries, self.used, self.number)?;
-        let (answer, outcome) = self.cache.act(alloc, moment, command)?;
-        let (number, tally) = enter(
-            &mut self.entries,
-            self.used,
-            &mut self.number,
-            &mut self.counts,
-            seat_no,
+        make_ready(&mut self.page, self.number)?;
+        let acted = self.cache.act(alloc, moment, command, self.page.journal)?;
+        let (number, tally) = count_entry(&mut self.number, &mut self.counts, seat_no);
+        let numbers = Numbers {
+            seat: seat_no,
+            tally,
+            number,
             moment,
             conn,
-            kept,
-            outcome,
-        );
+        };
+        let (outcome, entry) = self.page.add(numbers, command, copy, acted);
         self.moment = moment;
-        self.used += 1;
         let slip = Slip {
             page: self.turns,
             number,
             tally,
             moment,
-            outcome: answer,
+            outcome,
         };
         Ok(Called {
             slip,
+            entry,
             left: Vec::new(alloc),
         })
     }
@@ -291,12 +226,12 @@ impl<C: Cache> Book<C> {
         ensures turned { OnOk result (self.new ≡ turn_if self.old.entries self.old) }
         ensures unchanged_on_err { OnErr result (self.new ≡ self.old) }
     {
-        if self.used == 0 {
+        if self.page.len() == 0 {
             return Ok(());
         }
         self.cache.prepare(alloc)?;
         drop(self.cache.turn());
-        self.used = 0;
+        self.page.clear();
         self.turns += 1;
         Ok(())
     }
@@ -311,13 +246,15 @@ impl<C: Cache> Book<C> {
         now: Moment,
         conn: u32,
         command: &Command,
-        kept: Command,
+        copy: Option<Command>,
     ) -> Result<Called, CallFault>
         requires seat { seat_no < length self.old.counts }
-        requires copy { kept ≡ command.now }
+        requires copy { copy ≡ kept_by self.old.keeps command.now }
         requires some { 0 < length self.old.entries }
         ensures slip { IfOk result (λ called. called.slip
             ≡ slip_of (page_turned self.old) (entry_of self.old seat_no now conn command.now)) }
+        ensures entry { IfOk result (λ called. called.entry
+            ≡ entry_of self.old seat_no now conn command.now) }
         ensures entered { OnOk result (self.new ≡ after_call (page_turned self.old)
             (entry_of self.old seat_no now conn command.now)) }
         ensures worn { IfErr result (λ fault. (fault ≡ Worn → self.old.number ≡ 2 ^ 64 - 1)
@@ -327,37 +264,36 @@ impl<C: Cache> Book<C> {
     {
         let moment = self.moment.later(now);
         let mut left = Vec::new(alloc);
-        let (answer, outcome) = act_on_next(
+        let acted = act_on_next(
             alloc,
             &mut self.cache,
             &mut left,
             self.number,
             moment,
             command,
+            self.page.journal,
         )?;
         left.push_reserved(self.cache.turn());
         self.turns += 1;
-        let (number, tally) = enter(
-            &mut self.entries,
-            0,
-            &mut self.number,
-            &mut self.counts,
-            seat_no,
+        self.page.clear();
+        let (number, tally) = count_entry(&mut self.number, &mut self.counts, seat_no);
+        let numbers = Numbers {
+            seat: seat_no,
+            tally,
+            number,
             moment,
             conn,
-            kept,
-            outcome,
-        );
+        };
+        let (outcome, entry) = self.page.add(numbers, command, copy, acted);
         self.moment = moment;
-        self.used = 1;
         let slip = Slip {
             page: self.turns,
             number,
             tally,
             moment,
-            outcome: answer,
+            outcome,
         };
-        Ok(Called { slip, left })
+        Ok(Called { slip, entry, left })
     }
 
     /// `call`, after a turn of the page where it has `journal` entries. A refusal of either changes
@@ -370,13 +306,15 @@ impl<C: Cache> Book<C> {
         now: Moment,
         conn: u32,
         command: &Command,
-        kept: Command,
+        copy: Option<Command>,
     ) -> Result<Called, CallFault>
         requires journal { 0 < journal }
         requires seat { seat_no < length self.old.counts }
-        requires copy { kept ≡ command.now }
+        requires copy { copy ≡ kept_by self.old.keeps command.now }
         ensures slip { IfOk result (λ called. called.slip
             ≡ slip_of (paged journal self.old) (entry_of self.old seat_no now conn command.now)) }
+        ensures entry { IfOk result (λ called. called.entry
+            ≡ entry_of self.old seat_no now conn command.now) }
         ensures entered { OnOk result (self.new ≡ after_call (paged journal self.old)
             (entry_of self.old seat_no now conn command.now)) }
         ensures worn { IfErr result (λ fault. (fault ≡ Worn → self.old.number ≡ 2 ^ 64 - 1)
@@ -384,19 +322,11 @@ impl<C: Cache> Book<C> {
         ensures own { IfErr result (λ fault. fault ≢ OtherBook) }
         ensures unchanged_on_err { OnErr result (self.new ≡ self.old) }
     {
-        if self.used < journal {
-            self.call(alloc, seat_no, now, conn, command, kept)
+        if self.page.len() < journal {
+            self.call(alloc, seat_no, now, conn, command, copy)
         } else {
-            self.call_turning(alloc, seat_no, now, conn, command, kept)
+            self.call_turning(alloc, seat_no, now, conn, command, copy)
         }
-    }
-
-    /// The entry that was made last.
-    pub(crate) fn last(&self) -> &Entry
-        requires { 0 < length self.now.entries }
-        ensures { slice_get self.now.entries (length self.now.entries - 1) ≡ Some result.now }
-    {
-        &self.entries[self.used - 1]
     }
 
     /// How many entries a seat made, over all pages.
@@ -407,24 +337,29 @@ impl<C: Cache> Book<C> {
         self.counts[seat_no]
     }
 
-    /// The entry of that number, if it stands on this page.
-    pub fn entry(&self, number: u64) -> Option<&Entry>
-        ensures { (j : ℕ) (e : Entry) → slice_get self.now.entries j ≡ Some e
+    /// The entry of that number, if it stands on this page; an error only where none are kept.
+    pub fn entry(&self, number: u64) -> Result<Option<&Entry>, Unread>
+        ensures found { IfOk result (λ found. (j : ℕ) (e : Entry)
+            → slice_get self.now.entries j ≡ Some e
             → number + length self.now.entries ≡ self.now.number + j + 1
-            → IfSome result (λ x. x.now ≡ e) × IfNone result ⊥ }
+            → IfSome found (λ x. x.now ≡ e) × IfNone found ⊥) }
+        ensures off { IfErr result (λ fault. self.now.keeps ≡ IsOff) }
     {
-        let before = self.number - self.used as u64;
-        if number <= before || number - before > self.used as u64 {
-            return None;
+        let entries = self.page.entries()?;
+        let before = self.number - entries.len() as u64;
+        if number <= before || number - before > entries.len() as u64 {
+            return Ok(None);
         }
-        Some(&self.entries[(number - before - 1) as usize])
+        Ok(Some(&entries[(number - before - 1) as usize]))
     }
 
     /// How many bytes the entries of the page keep, their data among them.
     pub fn journal_bytes(&self) -> u64 {
         let mut bytes: u64 = 0;
-        for entry in &self.entries[..self.used] {
-            bytes = bytes.saturating_add(entry.bytes());
+        if let Ok(entries) = self.page.entries() {
+            for entry in entries {
+                bytes = bytes.saturating_add(entry.bytes());
+            }
         }
         bytes
     }
@@ -444,11 +379,12 @@ impl<C: Cache> Book<C> {
         self.cache.opening(alloc)
     }
 
-    /// The entries of the page, in order.
-    pub fn page(&self) -> &[Entry]
-        ensures entries { result.now ≡ self.now.entries }
+    /// The entries of the page, in order; an error only where they are not kept.
+    pub fn page(&self) -> Result<&[Entry], Unread>
+        ensures entries { IfOk result (λ entries. entries.now ≡ self.now.entries) }
+        ensures off { IfErr result (λ _. self.now.keeps ≡ IsOff) }
         ensures legal { HasLegalPage self.now }
     {
-        &self.entries[..self.used]
+        self.page.entries()
     }
 }

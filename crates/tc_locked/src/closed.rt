@@ -1,5 +1,7 @@
 //! A hall that has ended.
-ghost use Rattle.std.specs.Prelude.{◌≡◌, ◌<◌, length, IfOk, IfSome, IfNone, option_map, option_copied};
+ghost use Rattle.std.specs.Prelude.{◌≡◌, ◌<◌, length, IfOk, IfErr, IfSome, IfNone, option_map, option_copied};
+ghost use Rattle.tc_past.specs.declared.journal.Journal.TheVariants.{Off as IsOff};
+ghost use Rattle.tc_locked.specs.declared.unread.Unread.TheVariants.{Off};
 ghost use Rattle.tc_locked.specs.Calls.{IsUser};
 ghost use Rattle.tc_locked.specs.Closing.{IsBookOf, AllKept, AllTied, IsCountOf, HasNote, IsNoteOf, OnPage, TurnedPage, book_of};
 ghost use Rattle.tc_locked.specs.Closing.{HasLegalPage, all_agree};
@@ -12,6 +14,7 @@ use crate::hall::Hall;
 use crate::naming::{Naming, TableSeat};
 use crate::receipt::Receipt;
 use crate::seat::Seat;
+use crate::unread::Unread;
 use std::alloc::Global;
 use std::marker::{Model, PhantomData};
 use tc_item::NoMemory;
@@ -56,6 +59,7 @@ impl<C: Cache, N: Naming> Closed<C, N> {
         ensures none { IfNone result (IsUser (length N.terms.begins) user → ⊥) }
         ensures some { IfSome result (λ shut. IsBookOf user self.now.books shut.now) }
         ensures known { IfSome result (λ _. IsUser (length N.terms.begins) user) }
+        ensures keeps { IfSome result (λ shut. shut.now.book.keeps ≡ N.terms.keeps) }
         ensures first { option_map (λ shut. shut.book) (option_copied result)
             ≡ book_of user self.now.books }
         ensures kept { AllKept N.terms self.now.books }
@@ -83,17 +87,21 @@ impl<C: Cache, N: Naming> Closed<C, N> {
         }
     }
 
-    /// The entry of a receipt: none exactly where its page was turned.
-    pub fn entry_of(&self, receipt: &Receipt<N>) -> Option<&Entry>
-        ensures found { (n : Note) → HasNote self.now.seats n
+    /// The entry of a receipt: none exactly where its page was turned, and an error only where the hall's
+    /// journal is off.
+    pub fn entry_of(&self, receipt: &Receipt<N>) -> Result<Option<&Entry>, Unread>
+        ensures found { IfOk result (λ found. (n : Note) → HasNote self.now.seats n
             → IsNoteOf receipt.now.user receipt.now.slip n
             → IsUser (length N.terms.begins) receipt.now.user
-            → IfSome result
+            → IfSome found
             (λ entry. (entry.now ≡ n.entry) × OnPage receipt.now.user self.now.books n.page)
-            × IfNone result (TurnedPage receipt.now.user self.now.books n.page) }
+            × IfNone found (TurnedPage receipt.now.user self.now.books n.page)) }
+        ensures off { IfErr result (λ _. N.terms.keeps ≡ IsOff) }
     {
-        let shut = self.find(receipt.user)?;
-        shut.entry(receipt.slip.page, receipt.slip.number)
+        match self.find(receipt.user) {
+            Some(shut) => shut.entry(receipt.slip.page, receipt.slip.number),
+            None => Ok(None),
+        }
     }
 
     /// What the last page of a user's book began with, as lists; `None` exactly where there is no such
@@ -113,37 +121,48 @@ impl<C: Cache, N: Naming> Closed<C, N> {
         }
     }
 
-    /// The entries of the last page of a user's book; `None` exactly where there is no such user.
-    pub fn page(&self, user: UserNo) -> Option<&[Entry]>
-        ensures page { option_copied result
-            ≡ option_map (λ book. book.entries) (book_of user self.now.books) }
-        ensures known { IfSome result (λ _. IsUser (length N.terms.begins) user) }
-        ensures unknown { IfNone result (IsUser (length N.terms.begins) user → ⊥) }
+    /// The entries of the last page of a user's book; `None` exactly where there is no such user, and an
+    /// error only where the hall's journal is off.
+    pub fn page(&self, user: UserNo) -> Result<Option<&[Entry]>, Unread>
+        ensures page { IfOk result (λ page. option_copied page
+            ≡ option_map (λ book. book.entries) (book_of user self.now.books)) }
+        ensures known { IfOk result (λ page. IfSome page
+            (λ _. IsUser (length N.terms.begins) user)) }
+        ensures unknown { IfOk result (λ page. IfNone page
+            (IsUser (length N.terms.begins) user → ⊥)) }
+        ensures off { IfErr result (λ _. N.terms.keeps ≡ IsOff) }
         ensures legal { IfSome (book_of user self.now.books) HasLegalPage }
     {
         match self.find(user) {
-            Some(shut) => Some(shut.page()),
-            None => None,
+            Some(shut) => match shut.page() {
+                Ok(page) => Ok(Some(page)),
+                Err(unread) => Err(unread),
+            },
+            None => Ok(None),
         }
     }
 
     /// Does the calls of a user's last page again, from what the page began with, on the definition's
     /// own cache, and compares what each comes to with what was answered; `None` exactly where there is
-    /// no such user, and an error where memory for it is refused. It needs the memory of two caches of
-    /// the user's, and the time of the page's calls on lists.
+    /// no such user, and an error where memory for it is refused, or where the hall's journal is off. It
+    /// needs the memory of two caches of the user's, and the time of the page's calls on lists.
     ///
     /// That each comes to what was answered is proved of every hall (`audited`). So a difference is a
     /// fault of what no proof is about: of the processor, the memory or the compiler.
-    pub fn audit(&self, alloc: Global, user: UserNo) -> Result<Option<Audit>, NoMemory>
+    pub fn audit(&self, alloc: Global, user: UserNo) -> Result<Option<Audit>, Unread>
         ensures audited { IfOk result (λ audit. audit
             ≡ option_map all_agree (book_of user self.now.books)) }
         ensures known { IfOk result (λ audit. IfSome audit
             (λ _. IsUser (length N.terms.begins) user)) }
         ensures unknown { IfOk result (λ audit. IfNone audit
             (IsUser (length N.terms.begins) user → ⊥)) }
+        ensures off { IfErr result (λ fault. fault ≡ Off → N.terms.keeps ≡ IsOff) }
     {
         match self.find(user) {
-            Some(shut) => Ok(Some(shut.audit(alloc)?)),
+            Some(shut) => match shut.audit(alloc) {
+                Ok(audit) => Ok(Some(audit)),
+                Err(unread) => Err(unread),
+            },
             None => Ok(None),
         }
     }

@@ -1,8 +1,10 @@
 //! A hall's end: all seats become one, which knows what is tied.
-ghost use Rattle.std.specs.Prelude.{◌≡◌, ◌≢◌, ◌+◌, slice_get, Some, IfOk, IfSome, IfNone, ℕ, ◌<◌, ◌≤◌, ◌++◌, ◌∷◌, [], length};
-ghost use Rattle.std.specs.Prelude.{slice_index, map, vec_len, vec_capacity};
+ghost use Rattle.std.specs.Prelude.{◌≡◌, ◌≢◌, ◌+◌, slice_get, Some, ℕ, ◌<◌, ◌≤◌, ◌++◌, ◌∷◌, [], length};
+ghost use Rattle.std.specs.Prelude.{slice_index, map, vec_len, vec_capacity, IfOk, IfErr, IfSome, IfNone};
 ghost use Rattle.tc_locked.specs.Views.{both_of, seat_view, book_view};
 ghost use Rattle.tc_locked.specs.Rule.{Tied, Apart};
+ghost use Rattle.tc_past.specs.declared.journal.Journal.TheVariants.{Off as IsOff};
+ghost use Rattle.tc_locked.specs.declared.unread.Unread.TheVariants.{Off};
 ghost use Rattle.tc_locked.specs.KeptBooks.{IsKept};
 ghost use Rattle.tc_locked.specs.declared.entry.Entry.{Entry};
 ghost use Rattle.tc_locked.specs.Closing.{seat_face, add_seats, shut_of, TookBooks, HasLegalPage, all_agree};
@@ -13,9 +15,10 @@ use crate::entry::Entry;
 use crate::kept::Kept;
 use crate::naming::{Naming, Shared, TableSeat};
 use crate::seat::Seat;
+use crate::unread::Unread;
 use crate::view::{Compared, Together};
 use std::alloc::Global;
-use std::marker::Model;
+use std::marker::{Model, PhantomData};
 use std::sync::Mutex;
 use tc_item::NoMemory;
 use tc_plain::{Cache, Plain};
@@ -53,15 +56,17 @@ impl<C: Cache> Shut<C> {
     }
 
     /// The entry of that page and that number, if the page was not turned.
-    pub fn entry(&self, page: u64, number: u64) -> Option<&Entry>
-        ensures other { page ≢ self.now.book.turns → IfSome result (λ _. ⊥) }
-        ensures found { page ≡ self.now.book.turns → (j : ℕ) (e : Entry)
+    pub fn entry(&self, page: u64, number: u64) -> Result<Option<&Entry>, Unread>
+        ensures other { IfOk result (λ found. page ≢ self.now.book.turns
+            → IfSome found (λ _. ⊥)) }
+        ensures found { IfOk result (λ found. page ≡ self.now.book.turns → (j : ℕ) (e : Entry)
             → slice_get self.now.book.entries j ≡ Some e
             → number + length self.now.book.entries ≡ self.now.book.number + j + 1
-            → IfSome result (λ x. x.now ≡ e) × IfNone result ⊥ }
+            → IfSome found (λ x. x.now ≡ e) × IfNone found ⊥) }
+        ensures off { IfErr result (λ _. self.now.book.keeps ≡ IsOff) }
     {
         if page != self.book.turns() {
-            return None;
+            return Ok(None);
         }
         self.book.entry(number)
     }
@@ -75,19 +80,53 @@ impl<C: Cache> Shut<C> {
     }
 
     /// The entries of the page.
-    pub fn page(&self) -> &[Entry]
-        ensures entries { result.now ≡ self.now.book.entries }
+    pub fn page(&self) -> Result<&[Entry], Unread>
+        ensures entries { IfOk result (λ entries. entries.now ≡ self.now.book.entries) }
+        ensures off { IfErr result (λ _. self.now.book.keeps ≡ IsOff) }
         ensures legal { HasLegalPage self.now.book }
     {
         self.book.page()
     }
 
     /// What is found when the page's calls are done again.
-    pub fn audit(&self, alloc: Global) -> Result<Audit, NoMemory>
-        ensures { IfOk result (λ audit. audit ≡ all_agree self.now.book) }
+    pub fn audit(&self, alloc: Global) -> Result<Audit, Unread>
+        ensures audited { IfOk result (λ audit. audit ≡ all_agree self.now.book) }
+        ensures off { IfErr result (λ fault. fault ≡ Off → self.now.book.keeps ≡ IsOff) }
     {
+        let page = self.book.page()?;
         let opening = self.book.opening(alloc)?;
-        audit_page(alloc, opening, self.book.page())
+        let audit = audit_page(alloc, opening, page)?;
+        Ok(audit)
+    }
+}
+
+/// Room for all books of the hall N when it ends. No thread looks at it before then.
+#[derive(Drop)]
+pub struct Room<C: Cache, N: Naming> {
+    pub(crate) books: Vec<Shut<C>>,
+    pub(crate) of: PhantomData<N>,
+}
+
+impl<C: Cache, N: Naming> Model for Room<C, N> {
+    ghost use Rattle.std.specs.Prelude.{◌≡◌, ◌≤◌, ℕ, length, [], vec_len, vec_capacity};
+
+    ghost Value = { ℕ };
+
+    ghost view = { λ r. vec_len r.books };
+
+    ghost invariant = { λ r. (vec_len r.books ≡ 0)
+        × (r.books.items ≡ [])
+        × (length N.terms.begins ≤ vec_capacity r.books) };
+}
+
+impl<C: Cache, N: Naming> Room<C, N> {
+    /// The room, which is empty.
+    pub(crate) fn into_books(self) -> Vec<Shut<C>>
+        ensures none { (vec_len result ≡ 0) × (result.items ≡ []) }
+        ensures room { length N.terms.begins ≤ vec_capacity result }
+    {
+        let Room { books, of: _ } = self;
+        books
     }
 }
 

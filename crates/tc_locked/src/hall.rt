@@ -4,12 +4,13 @@ ghost use Rattle.tc_locked.specs.Closing.{AllKept, AllTied, AllThere, AllFresh};
 ghost use Rattle.tc_locked.specs.Calls.{IsUser, Wrote};
 ghost use Rattle.tc_locked.specs.Outcomes.{IsOutcomeOf};
 ghost use Rattle.tc_locked.specs.Refusals.{refusal};
-ghost use Rattle.tc_locked.specs.declared.call_fault.CallFault.TheVariants.{NoUser};
+ghost use Rattle.tc_locked.specs.declared.call_fault.CallFault.TheVariants.{NoUser, NoMemory as OutOfMemory};
+ghost use Rattle.tc_plain.specs.Keeping.{kept_by};
 
 use crate::call_fault::CallFault;
 use crate::called::Called;
 use crate::closed::{Closed, Missing};
-use crate::closing::{Shut, compare, take_books, take_seats};
+use crate::closing::{Room, compare, take_books, take_seats};
 use crate::kept::Kept;
 use crate::lease::Lease;
 use crate::locking::lock_soon;
@@ -22,6 +23,7 @@ use std::marker::{Model, PhantomData};
 use std::sync::{Mutex, Wait};
 use tc_grammar::Command;
 use tc_item::Moment;
+use tc_past::Journal;
 use tc_plain::{Cache, Progress};
 use tc_users::UserNo;
 
@@ -31,13 +33,15 @@ pub struct Hall<C: Cache, N: Naming> {
     pub(crate) table: HallTable,
     pub(crate) books: Vec<Mutex<Kept<C, N>>>,
     pub(crate) journal: usize,
+    pub(crate) keeps: Journal,
     pub(crate) seats: usize,
-    /// Room for the books when the hall ends.
-    pub(crate) room: Vec<Shut<C>>,
+    /// Room for the books when the hall ends. It lies under a lock of its own, so that threads may share
+    /// the hall.
+    pub(crate) room: Mutex<Room<C, N>>,
 }
 
 impl<C: Cache, N: Naming> Model for Hall<C, N> {
-    ghost use Rattle.std.specs.Prelude.{◌≡◌, ◌<◌, ◌≤◌, ◌^◌, ℕ, length, [], vec_len, vec_capacity};
+    ghost use Rattle.std.specs.Prelude.{◌≡◌, ◌<◌, ◌≤◌, ◌^◌, ℕ, length, vec_len};
     ghost use Rattle.tc_locked.specs.Views.{table_words};
 
     ghost Value = { ℕ };
@@ -47,12 +51,32 @@ impl<C: Cache, N: Naming> Model for Hall<C, N> {
     ghost invariant = { λ h. (h.table.shared.table_id ≡ N.table)
         × (table_words ≤ h.table.shared.table_id.words)
         × (h.journal ≡ N.terms.journal)
+        × (h.keeps ≡ N.terms.keeps)
         × (0 < h.journal)
         × (h.seats ≡ N.terms.seats)
         × (0 < h.seats)
-        × ((vec_len h.room ≡ 0) × (h.room.items ≡ []) × (vec_len h.books ≤ vec_capacity h.room))
         × (vec_len h.books ≡ length N.terms.begins)
         × (vec_len h.books < 2 ^ 32) };
+}
+
+/// A copy of a command to keep, over the same data, where the journal is on.
+fn copy_to_keep(
+    alloc: Global,
+    command: &Command,
+    keeps: Journal,
+) -> Result<Option<Command>, CallFault>
+    ensures copy { IfOk result (λ copy. copy ≡ kept_by keeps command.now) }
+    ensures refused { IfErr result (λ fault. fault ≡ OutOfMemory) }
+{
+    match keeps {
+        Journal::On => {
+            let Ok(copy) = command.copy(alloc) else {
+                return Err(CallFault::NoMemory);
+            };
+            Ok(Some(copy))
+        }
+        Journal::Off => Ok(None),
+    }
 }
 
 impl<C: Cache, N: Naming> Hall<C, N> {
@@ -128,9 +152,7 @@ impl<C: Cache, N: Naming> Hall<C, N> {
             return Err(CallFault::NoUser);
         }
         // Copied before the lock is got, so that nobody waits for it.
-        let Ok(copy) = command.copy(alloc) else {
-            return Err(CallFault::NoMemory);
-        };
+        let copy = copy_to_keep(alloc, command, self.keeps)?;
         let at = (number - 1) as usize;
         let mut guard = lease.lock(rt, number, &self.books[at]);
         held();
@@ -140,7 +162,11 @@ impl<C: Cache, N: Naming> Hall<C, N> {
             drop(copy);
             return Err(CallFault::OtherBook);
         }
-        let Called { slip, left } = kept.call(
+        let Called {
+            slip,
+            entry: _,
+            left,
+        } = kept.call(
             alloc,
             &self.table.shared,
             seat,
@@ -226,9 +252,11 @@ impl<C: Cache, N: Naming> Hall<C, N> {
             table,
             books: locks,
             journal: _,
+            keeps: _,
             seats: _,
-            room: mut books,
+            room,
         } = self;
+        let mut books = room.into_inner().into_books();
         let mut all = seats.remove(0).into_inner();
         take_seats(&table.shared, &mut all, seats);
         take_books(&table.shared, &mut all, locks, &mut books);

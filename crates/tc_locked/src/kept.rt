@@ -1,5 +1,6 @@
 //! What lies under a user's lock: the user's book, beside its own seat of the hall's table.
 ghost use Rattle.std.specs.Prelude.{◌≡◌, ◌≢◌, ◌-◌, ◌^◌, ◌<◌, ◌≤◌, IfOk, OnOk, IfErr, OnErr, length};
+ghost use Rattle.tc_plain.specs.Keeping.{kept_by};
 ghost use Rattle.tc_locked.specs.Views.{table_words, of_user};
 ghost use Rattle.tc_locked.specs.Books.{entry_of, slip_of, paged, after_maintain};
 ghost use Rattle.tc_locked.specs.KeptBooks.{kept_after, seat_after};
@@ -56,12 +57,12 @@ impl<C: Cache, N: Naming> Kept<C, N> {
         now: Moment,
         conn: u32,
         command: &Command,
-        kept: Command,
+        copy: Option<Command>,
     ) -> Result<Called, CallFault>
         requires table { (table.now.table_id ≡ N.table)
             × (table_words ≤ table.now.table_id.words) }
         requires journal { (journal ≡ N.terms.journal) × (0 < journal) }
-        requires copy { kept ≡ command.now }
+        requires copy { copy ≡ kept_by N.terms.keeps command.now }
         ensures slip { IfOk result (λ called. called.slip ≡ slip_of (paged journal self.old.book)
             (entry_of self.old.book seat.old.number now conn command.now)) }
         ensures kept { OnOk result (self.new
@@ -77,7 +78,7 @@ impl<C: Cache, N: Naming> Kept<C, N> {
     {
         let called = self
             .book
-            .call_paged(alloc, journal, seat.number, now, conn, command, kept)?;
+            .call_paged(alloc, journal, seat.number, now, conn, command, copy)?;
         let badge = mem::replace(&mut self.badge, Badge::blank());
         self.badge = note_both(
             table,
@@ -86,7 +87,7 @@ impl<C: Cache, N: Naming> Kept<C, N> {
             badge,
             self.user,
             called.slip.page,
-            self.book.last(),
+            &called.entry,
         );
         Ok(called)
     }

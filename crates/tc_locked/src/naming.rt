@@ -1,6 +1,6 @@
 //! The name of a hall.
-use crate::entry::Entry;
 use crate::view::{OneHistory, View};
+use crate::witness::Witness;
 use std::alloc::Global;
 use std::marker::Brand;
 
@@ -32,10 +32,10 @@ pub(crate) const WORDS_A_LINE: usize = 8;
 pub(crate) const WORDS: usize = LINES * WORDS_A_LINE;
 
 /// The part of a hall's table that threads share.
-pub type Shared = atomic_table::Shared<Entry, View, (), OneHistory>;
+pub type Shared = atomic_table::Shared<Witness, View, (), OneHistory>;
 
 /// A seat of the table.
-pub type TableSeat = atomic_table::Seat<Entry, View>;
+pub type TableSeat = atomic_table::Seat<Witness, View>;
 
 /// A hall's table.
-pub type HallTable = atomic_table::Table<Entry, View, (), OneHistory, Global>;
+pub type HallTable = atomic_table::Table<Witness, View, (), OneHistory, Global>;

@@ -3,9 +3,9 @@ ghost use Rattle.std.specs.Prelude.{◌≡◌, ◌<◌, ◌≤◌, ◌++◌, ◌
 ghost use Rattle.tc_locked.specs.Views.{table_words, note, book_view, seat_view, by_seat, of_user};
 ghost use Rattle.tc_locked.specs.KeptBooks.{notes_of, log_of};
 
-use crate::entry::Entry;
 use crate::naming::{LINES, Shared, TableSeat, WORDS_A_LINE};
 use crate::view::{Apart, Noted, Together, View};
+use crate::witness::Witness;
 use atomic_table::Badge;
 use tc_users::UserNo;
 
@@ -25,7 +25,7 @@ pub fn note_both(
     badge: Badge<View>,
     user: UserNo,
     page: u64,
-    entry: &Entry,
+    entry: &Witness,
 ) -> Badge<View>
     requires words { table_words ≤ table.now.table_id.words }
     requires seat { (seat.old.table_id ≡ table.now.table_id)
@@ -45,7 +45,7 @@ pub fn note_both(
         × (result.views
         ≡ book_view user (log_of badge.views ++ note user page entry.now ∷ []) ∷ []) }
 {
-    let own = badge.into_seat::<Entry>();
+    let own = badge.into_seat::<Witness>();
     table.join_seat::<Together>(seat, own);
     let word = word_of(user);
     table.compare_exchange_with::<Noted>(seat, word, page, page, entry);

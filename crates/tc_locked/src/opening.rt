@@ -7,6 +7,7 @@ ghost use Rattle.tc_fresh.specs.Beginning.{fresh_cache, IsEmptyCache};
 ghost use Rattle.tc_locked.specs.Books.{fresh_book};
 
 use crate::book::Book;
+use crate::closing::Room;
 use crate::hall::Hall;
 use crate::kept::Kept;
 use crate::naming::{HallTable, Naming, Shared, TableSeat, WORDS};
@@ -16,6 +17,7 @@ use std::alloc::Global;
 use std::marker::{Model, PhantomData};
 use std::sync::Mutex;
 use tc_item::NoMemory;
+use tc_past::Journal;
 use tc_plain::Cache;
 use tc_users::{UserNo, Users};
 
@@ -96,7 +98,7 @@ fn make_book<C: Cache, N: Naming>(
         × (first.old.me ≡ (first_view user N.terms.seats, [])) }
     requires begins { (user_at N.terms.begins user ≡ Some book.opening)
         × IsEmptyCache book.opening }
-    requires book { book ≡ fresh_book book.opening N.terms.seats }
+    requires book { book ≡ fresh_book book.opening N.terms.seats N.terms.keeps }
     ensures first { (first.new.table_id ≡ N.table)
         × (first.new.me ≡ (first_view (user + 1) N.terms.seats, [])) }
     ensures kept { result ≡ record { user = user; book = book; log = [] } }
@@ -117,12 +119,14 @@ fn make_books<C: Cache, N: Naming>(
     first: &mut TableSeat,
     caches: Vec<C>,
     seats: usize,
+    keeps: Journal,
     out: &mut Vec<Mutex<Kept<C, N>>>,
 ) -> Result<(), NoMemory>
     requires table { (table.now.table_id ≡ N.table) × (0 < table.now.table_id.words) }
     requires first { (first.old.table_id ≡ N.table)
         × (first.old.me ≡ (first_view 1 N.terms.seats, [])) }
     requires seats { seats ≡ N.terms.seats }
+    requires keeps { keeps ≡ N.terms.keeps }
     requires begins { (map C.settled caches.items ≡ N.terms.begins)
         × All IsEmptyCache N.terms.begins }
     requires few { length caches.items < 2 ^ 32 }
@@ -131,7 +135,7 @@ fn make_books<C: Cache, N: Naming>(
 {
     let mut number = 1u64;
     for cache in caches {
-        let book = Book::open(alloc, cache, seats)?;
+        let book = Book::open(alloc, cache, seats, keeps)?;
         let user = numbered(number);
         out.push_reserved(Mutex::new(make_book(table, first, user, book)));
         number += 1;
@@ -152,7 +156,8 @@ fn count_users<C: Cache>(users: &Users, caches: &Vec<C>) -> usize
 
 impl<C: Cache, N: Naming> Hall<C, N> {
     /// A hall with a book for each user, whose cache is the one at the user's place and is fresh, and
-    /// its seats, numbered from 0, which wrote nothing. A page has `journal` entries.
+    /// its seats, numbered from 0, which wrote nothing. A page has `journal` entries, which are kept
+    /// where `keeps` says so: else they stand in proofs alone, and can't be read when the hall has ended.
     pub fn new(
         alloc: Global,
         opened: Opened,
@@ -160,12 +165,14 @@ impl<C: Cache, N: Naming> Hall<C, N> {
         caches: Vec<C>,
         seats: usize,
         journal: usize,
+        keeps: Journal,
     ) -> Result<(Hall<C, N>, Vec<Seat<N>>), NoMemory>
         requires name { opened ≡ N.table }
         requires begins { N.terms.begins ≡ map fresh_cache users.now }
         requires caches { map C.settled caches.items ≡ map fresh_cache users.now }
         requires seats { (seats ≡ N.terms.seats) × (0 < seats) }
         requires journal { (journal ≡ N.terms.journal) × (0 < journal) }
+        requires keeps { keeps ≡ N.terms.keeps }
         ensures users { IfOk result (λ r. r.0 ≡ length users.now) }
         ensures seats { IfOk result (λ r. r.1.items ≡ new_seats seats) }
     {
@@ -175,13 +182,26 @@ impl<C: Cache, N: Naming> Hall<C, N> {
         let room = Vec::with_capacity(alloc, users)?;
         let Opened { table, mut first } = opened;
         make_seats(&table.shared, &mut first, seats, &mut out);
-        make_books(alloc, &table.shared, &mut first, caches, seats, &mut books)?;
+        let room = Room {
+            books: room,
+            of: PhantomData,
+        };
+        make_books(
+            alloc,
+            &table.shared,
+            &mut first,
+            caches,
+            seats,
+            keeps,
+            &mut books,
+        )?;
         let hall = Hall {
             table,
             books,
             journal,
+            keeps,
             seats,
-            room,
+            room: Mutex::new(room),
         };
         Ok((hall, out))
     }

@@ -1,5 +1,6 @@
 //! What the seats of a hall's table know, and the table's rule. No value of these structs is made.
 use crate::entry::Entry;
+use crate::witness::Witness;
 use atomic_table::{Join, Play, Split, TableRule};
 use std::collections::LinkedList;
 use tc_users::UserNo;
@@ -29,7 +30,7 @@ pub struct View {
 /// The lists of all seats are parts of one history.
 pub struct OneHistory;
 
-impl TableRule<Entry, View, ()> for OneHistory {
+impl TableRule<Witness, View, ()> for OneHistory {
     ghost use Rattle.tc_locked.specs.Rule.{Holds};
     ghost use Rattle.tc_locked.specs.Views.{first_view};
 
@@ -41,7 +42,7 @@ impl TableRule<Entry, View, ()> for OneHistory {
 /// An entry is noted.
 pub struct Noted;
 
-impl Play<Entry, View> for Noted {
+impl Play<Witness, View> for Noted {
     ghost use Rattle.tc_locked.specs.Rule.{Adds};
 
     ghost then = { Adds };
@@ -50,7 +51,7 @@ impl Play<Entry, View> for Noted {
 /// A look at what is tied.
 pub struct Compared;
 
-impl Play<Entry, View> for Compared {
+impl Play<Witness, View> for Compared {
     ghost use Rattle.tc_locked.specs.Rule.{Ties};
 
     ghost then = { Ties };

@@ -2,7 +2,7 @@
 use crate::audience::Audience;
 use std::alloc::Global;
 use tc_item::NoMemory;
-use tc_locked::{Closed, Hall, Naming, Seat};
+use tc_locked::{Closed, Hall, Naming, Seat, Unread};
 use tc_plain::Cache;
 use tc_users::UserNo;
 
@@ -31,7 +31,7 @@ fn audit_user<C: Cache, N: Naming, A: Audience>(
     closed: &Closed<C, N>,
     user: UserNo,
     audience: &A,
-) -> Result<Found, NoMemory> {
+) -> Result<Found, Unread> {
     let Some(audit) = closed.audit(alloc, user)? else {
         return Ok(Found::Nothing);
     };
@@ -48,7 +48,7 @@ fn audit_users<C: Cache, N: Naming, A: Audience>(
     closed: &Closed<C, N>,
     users: u32,
     audience: &A,
-) -> Result<Found, NoMemory> {
+) -> Result<Found, Unread> {
     let mut found = Found::Nothing;
     for number in 1..=users {
         found = audit_user(alloc, closed, UserNo::new(number), audience)?.or(found);
@@ -64,10 +64,16 @@ pub(crate) fn audit_hall<C: Cache, N: Naming, A: Audience>(
     audience: &A,
 ) -> Result<Found, NoMemory> {
     let users = hall.users();
-    match hall.close(seats) {
-        Ok(closed) => audit_users(alloc, &closed, users, audience),
-        Err(_) => {
-            // The crew gives each seat back, so no server ends so.
+    let Ok(closed) = hall.close(seats) else {
+        // The crew gives each seat back, so no server ends so.
+        audience.not_audited();
+        return Ok(Found::Nothing);
+    };
+    match audit_users(alloc, &closed, users, audience) {
+        Ok(found) => Ok(found),
+        Err(Unread::NoMemory) => Err(NoMemory),
+        Err(Unread::Off) => {
+            // A server that is to be audited has its journal on.
             audience.not_audited();
             Ok(Found::Nothing)
         }

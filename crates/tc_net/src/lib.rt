@@ -40,6 +40,7 @@
 //! suffices.
 #![tactic(auto)]
 
+mod at_end;
 mod audience;
 mod auditing;
 mod beginning;
@@ -58,8 +59,9 @@ mod scraping;
 mod serving;
 mod socket;
 
+pub use at_end::AtEnd;
 pub use audience::Audience;
 pub use auditing::Found;
 pub use beginning::Beginning;
 pub use notice::Notice;
-pub use serving::{Affinity, AtEnd, Unserved, serve};
+pub use serving::{Affinity, Unserved, serve};

@@ -1,7 +1,9 @@
 //! A server from its settings to its end.
 ghost use Rattle.std.specs.Prelude.{◌≡◌, ◌<◌, ◌+◌, map};
 ghost use Rattle.tc_fresh.specs.Beginning.{fresh_cache};
+ghost use Rattle.tc_net.specs.Ends.{journal_of, page_length};
 
+use crate::at_end::AtEnd;
 use crate::audience::Audience;
 use crate::auditing::{Found, audit_hall};
 use crate::beginning::Beginning;
@@ -64,15 +66,6 @@ pub enum Affinity {
     ByUser,
     /// The one that it came to.
     Spread,
-}
-
-/// What a server does once so many connections were closed.
-#[derive(Clone, Copy, Debug, PartialEq, Eq)]
-pub enum AtEnd {
-    /// It ends.
-    Leaves,
-    /// It does each user's last page again, tells its audience what is found, and ends.
-    Audits,
 }
 
 /// A worker with its inlet, and where its connections are put.
@@ -202,7 +195,8 @@ fn listen_for_metrics<R: Net + AllocGlobal, A: Audience>(
 
 /// Listens and serves, until so many connections were closed. The audience is told once it listens, or
 /// why it can't; while it serves, what becomes of connections; and at the end what an audit finds, if one
-/// is asked for. The hall has a seat for each worker, and one more for the metrics.
+/// is asked for. The hall has a seat for each worker, and one more for the metrics. It keeps pages where
+/// they are audited; else nothing is kept, and no page ends.
 pub fn serve<
     C: Cache + Send + Sync,
     N: Naming + Send + Sync,
@@ -220,7 +214,8 @@ pub fn serve<
     requires name { beginning.opened ≡ N.table }
     requires begins { N.terms.begins ≡ map fresh_cache beginning.settings.users }
     requires seats { N.terms.seats ≡ beginning.settings.workers + 1 }
-    requires journal { N.terms.journal ≡ beginning.settings.journal }
+    requires journal { N.terms.journal ≡ page_length at_end beginning.settings.journal }
+    requires keeps { N.terms.keeps ≡ journal_of at_end }
 {
     let Beginning {
         settings,
@@ -242,7 +237,8 @@ pub fn serve<
     let Some(seats) = workers.checked_add(1) else {
         return Err(Unserved::NoMemory);
     };
-    let (hall, mut seats) = Hall::<C, N>::new(alloc, opened, &users, caches, seats, journal)?;
+    let (length, keeps) = (at_end.page_length(journal), at_end.journal());
+    let (hall, mut seats) = Hall::<C, N>::new(alloc, opened, &users, caches, seats, length, keeps)?;
     let Some(own) = seats.pop() else {
         return Err(Unserved::NoMemory);
     };

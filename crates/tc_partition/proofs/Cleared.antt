@@ -1,10 +1,9 @@
 -- What clearing makes of index, entries, lists and wheel as they are kept.
 use Rattle.std.specs.Prelude.{is_some, count_by, slice_index_or, replicate}
-use Rattle.std.proofs.Common.{◌≡◌, ℕ, zero, suc, ◌+◌, ◌≤◌, true, false, List}
+use Rattle.std.proofs.Common.{◌≡◌, ℕ, zero, suc, true, false, List}
 use Rattle.std.proofs.Common.{[], length, Option, None, refl, sym, ◌∙◌, ap, subst, arith}
 use Rattle.std.proofs.lemmas.List.{length-replicate}
 use Rattle.slab.specs.Slab.{Slab, get as slab_get, slab_len}
-use Rattle.tc_item.specs.declared.slot.Slot.{Slot}
 use Rattle.tc_plain.specs.declared.shared.entry.Entry.{Entry}
 use Rattle.tc_plain.specs.EvictionState.{no_entries}
 use Rattle.tc_slru.specs.SlotLists.{SlotLists, cleared}

@@ -19,7 +19,7 @@ use Rattle.tc_partition.specs.Agreement.{set_at, set_key, key_of, count_of, at_s
 use Rattle.tc_plain.specs.BySlot.{stray, stray_by, entry_at, entry_or}
 use Rattle.tc_partition.specs.Agreement.{due_by, wheel_due, Agree}
 use Rattle.tc_plain.specs.BySlot.{areas_by}
-use Rattle.tc_partition.proofs.Away.{three, three_same, areas_away, total-stray_away}
+use Rattle.tc_partition.proofs.Away.{three_same, areas_away, total-stray_away}
 use Rattle.tc_partition.proofs.OneSlot.{IsLess}
 
 pub some_same : {A : Type 0} (x y : A) → Some x ≡ Some y → x ≡ y

@@ -1,7 +1,6 @@
 -- Where keys are, by what slots hold, and the tags under which slots stand.
 use Rattle.std.specs.Prelude.{◌==◌, option_map, slice_index_or, slice_set}
 use Rattle.std.specs.List.{position_from}
-use Rattle.std.specs.Str.{bytes_eq}
 use Rattle.std.specs.declared.hash.RandomState.{RandomState}
 use Rattle.std.proofs.Common.{◌≡◌, ℕ, zero, suc, ◌+◌, ◌<◌, Bool, true, false, cond, List}
 use Rattle.std.proofs.Common.{[], ◌∷◌, length, Option, Some, None, refl, sym, ◌∙◌, ap, subst, arith}

@@ -394,6 +394,13 @@ impl LiveSlots {
         self.held.let_go(most);
     }
 
+    /// Gives the memory of one table back that is done with.
+    pub(crate) fn shed(&mut self)
+        ensures { self.new ≡ record self.old { gone = self.new.gone } }
+    {
+        shed(&mut self.gone);
+    }
+
     /// Has smaller tables in use where large ones are mostly empty. The limits are those that it has.
     pub(crate) fn renew(&mut self, alloc: Global, limits: Limits)
         requires same { limits ≡ self.old.held.limits }

@@ -29,6 +29,15 @@ use tc_wheel::Wheel;
 /// How many entries a copy reads at once, ahead of copying them.
 const AHEAD: usize = 16;
 
+/// Tables get places for so many slots at least.
+const FEWEST: usize = 16;
+
+/// Tables with places for fewer slots double when they grow.
+const FEW: usize = 4096;
+
+/// All others grow by one place for so many that they have.
+const PART: usize = 8;
+
 /// Notes what a slot held, or lets go of it where that comes back anyway.
 fn note_held(log: &mut Log, slot: Slot, held: Option<Entry>)
     requires { length log.old.since < log.old.capacity }
@@ -182,13 +191,35 @@ pub fn drop_next(lists: &mut Lists, entries: &Slab<Entry>, sketch: &PastSketch) 
     lists.settle_step(|slot| frequency(entries, sketch, slot))
 }
 
-/// Room for one more entry.
+/// How many more places tables with so many get when they are full.
+fn more_places(places: usize) -> usize {
+    if places < FEW {
+        places.max(FEWEST)
+    } else {
+        places / PART
+    }
+}
+
+/// Slots for so many more entries.
+fn add_slots(entries: &mut Slab<Entry>, count: usize) -> Result<(), NoMemory>
+    ensures slots { entries.new.slots ≡ entries.old.slots }
+    ensures room { OnOk result (HasRoomFor entries.new count) }
+{
+    if entries.capacity() - entries.len() < count {
+        entries.reserve_exact(count.max(more_places(entries.capacity())))?;
+    }
+    Ok(())
+}
+
+/// Room for so many more entries.
 pub fn grow(
     index: &mut Index,
     entries: &mut Slab<Entry>,
     lists: &mut Lists,
     wheel: &mut Wheel,
+    count: usize,
 ) -> Result<(), NoMemory>
+    requires { 0 < count }
     ensures index { (n : ℕ) → tag_in index.new n ≡ tag_in index.old n }
     ensures slots { entries.new.slots ≡ entries.old.slots }
     ensures areas { lists.new.live.areas ≡ lists.old.live.areas }
@@ -198,7 +229,7 @@ pub fn grow(
     ensures long { length wheel.old.dues ≤ length wheel.new.dues }
     ensures room { OnOk result (HasRoom index.new entries.new lists.new.live wheel.new) }
 {
-    entries.reserve(1)?;
+    add_slots(entries, count)?;
     let slots = entries.capacity();
     index.reserve(slots)?;
     lists.reserve(slots)?;

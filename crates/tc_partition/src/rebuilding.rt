@@ -46,7 +46,7 @@ impl Slots {
             probation,
             protected,
         } = self.copy(alloc)?;
-        let mut rebuilt = self.fresh(alloc, limits)?;
+        let mut rebuilt = self.fresh_for(alloc, limits, self.count().max(1))?;
         put_back(&mut rebuilt, alloc, Area::Window, window)?;
         put_back(&mut rebuilt, alloc, Area::Probation, probation)?;
         put_back(&mut rebuilt, alloc, Area::Protected, protected)?;

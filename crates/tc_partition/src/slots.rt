@@ -129,6 +129,18 @@ impl Slots {
         Slots::new(alloc, self.hasher, limits, self.journal())
     }
 
+    /// The same, with room for so many.
+    pub fn fresh_for(&self, alloc: Global, limits: Limits, count: usize) -> Result<Slots, NoMemory>
+        requires small { limits.main < 2 ^ 32 }
+        requires some { 0 < count }
+        ensures limits { IfOk result (λ s. s.limits ≡ limits) }
+        ensures areas { IfOk result (λ s. s.areas ≡ no_entries) }
+    {
+        let mut fresh = self.fresh(alloc, limits)?;
+        fresh.make_entry_room(count)?;
+        Ok(fresh)
+    }
+
     /// Whether changes are kept.
     pub fn journal(&self) -> Journal {
         self.log.journal()
@@ -157,8 +169,9 @@ impl Slots {
         Tables::of(index, entries, lists, wheel)
     }
 
-    /// Room for one more entry but in the log. A refusal changes nothing.
-    fn make_entry_room(&mut self) -> Result<(), NoMemory>
+    /// Room for so many more entries but in the log. A refusal changes nothing.
+    fn make_entry_room(&mut self, count: usize) -> Result<(), NoMemory>
+        requires { 0 < count }
         ensures room { OnOk result (self.new.has_room ≡ true) }
         ensures areas { self.new.areas ≡ self.old.areas }
         ensures limits { self.new.limits ≡ self.old.limits }
@@ -170,6 +183,7 @@ impl Slots {
             &mut self.entries,
             &mut self.lists,
             &mut self.wheel,
+            count,
         )
     }
 
@@ -182,7 +196,7 @@ impl Slots {
         ensures slots { self.new.slots ≡ self.old.slots }
         ensures then { self.new.then ≡ self.old.then }
     {
-        self.make_entry_room()?;
+        self.make_entry_room(1)?;
         self.make_log_room(2)
     }
 

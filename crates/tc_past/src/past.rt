@@ -11,6 +11,7 @@ ghost use Rattle.std.specs.Prelude.{is_ok, IfOk, OnErr, if◌then◌else◌};
 ghost use Rattle.tc_past.specs.Told.{Told, prepared, turned, live_with, grown, all_told};
 
 use crate::journal::Journal;
+use crate::lengthening::lengthen;
 use crate::remembered::Remembered;
 use std::alloc::Global;
 use std::marker::Model;
@@ -101,7 +102,7 @@ impl<T: Copy> Past<T> {
                 return Err(NoMemory);
             }
             self.remembered.reserve_to(places)?;
-            self.live.resize(places, blank)?;
+            lengthen(&mut self.live, places, blank)?;
             self.remembered.grow(places, blank);
         }
         Ok(())

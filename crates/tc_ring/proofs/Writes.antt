@@ -61,19 +61,7 @@ module _ {N : Type 0} where
       (map-set (λ n. n.note) ns at x)
 
   -- nodes that come
-  pub links-grown : (ns items : List (Node N)) (all n : ℕ) (free : N) → length ns ≤ all → n ≡ length ns
-      → items ≡ take all ns ++ replicate (all - n) (record { next = 0; prev = 0; note = free })
-      → links items ≡ grown all free (links ns)
-  links-grown ns items all n free h e is =
-      let x : Node N = record { next = 0; prev = 0; note = free } in
-      let more : all - n ≡ all - length (links ns).next = omega (arith, length-map ns (λ (n : Node N). n.next)) in
-      let k : ℕ = all - length (links ns).next in
-      ap links (is ∙ ap (λ t. t ++ replicate (all - n) x) (take_all all ns h) ∙ ap (λ j. ns ++ replicate j x) more)
-      ∙ same_links _ _ _ _ _ _ (grown_field (λ n. n.next) ns k x) (grown_field (λ n. n.prev) ns k x)
-      (grown_field (λ n. n.note) ns k x)
-
-  -- nodes that come, now and in the past
-  links-lengthened : (n : ℕ) (free : N) (ns : List (Node N))
+  pub links-lengthened : (n : ℕ) (free : N) (ns : List (Node N))
       → links (lengthened n (record { next = 0; prev = 0; note = free }) ns) ≡ grown n free (links ns)
   links-lengthened n free ns =
       let x : Node N = record { next = 0; prev = 0; note = free } in
@@ -83,6 +71,7 @@ module _ {N : Type 0} where
       ∙ same_links _ _ _ _ _ _ (grown_field (λ n. n.next) ns k x) (grown_field (λ n. n.prev) ns k x)
       (grown_field (λ n. n.note) ns k x)
 
+  -- now and in the past
   pub told-grown : (n : ℕ) (free : N) (t : Told (List (Node N)))
       → told_by links (past.grown n (record { next = 0; prev = 0; note = free }) t)
       ≡ told_by (grown n free) (told_by links t)

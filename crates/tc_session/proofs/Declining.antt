@@ -9,7 +9,6 @@ use Rattle.tc_grammar.specs.declared.command.Command.TheVariants.{Quit}
 use Rattle.tc_grammar.specs.declared.fault.Fault.TheVariants.{NoMemory as OutOfMemory}
 use Rattle.tc_feed.specs.Passing.{passed_of, passed_command}
 use Rattle.tc_feed.specs.Stream.{Reader}
-use Rattle.tc_feed.specs.declared.passing.Passed.{Passed}
 use Rattle.tc_feed.specs.declared.passing.Passed.TheVariants.{Command as Asks}
 use Rattle.tc_feed.specs.declared.request.Request.{Request}
 use Rattle.tc_feed.specs.declared.request.Request.TheVariants.{Ask, Refused}

@@ -1,5 +1,5 @@
 -- One reply more that is owed, and that each says something.
-use Rattle.std.proofs.Common.{◌≡◌, ℕ, ◌+◌, ◌<◌, List, [], ◌∷◌, ◌++◌, length, length-append, append_assoc, codes, arith, refl, ap, sym, ◌∙◌}
+use Rattle.std.proofs.Common.{◌≡◌, ◌+◌, ◌<◌, List, [], ◌∷◌, ◌++◌, length, length-append, append_assoc, codes, arith, refl}
 use Rattle.std.specs.List.{flat_map}
 use Rattle.std.proofs.lemmas.List.{append-nil}
 use Rattle.tc_grammar.specs.declared.command.Form.{Form}
@@ -36,3 +36,8 @@ owed_some (o ∷ os) h =
 pub owed_none : (os : List Owed) → length os ≡ 0 → length (owed_text os) ≡ 0
 owed_none [] h = refl
 owed_none (o ∷ os) h = absurd (omega arith)
+
+-- where what is owed says nothing, nothing is owed
+pub owed_room_none : (os : List Owed) → length (owed_text os) ≡ 0 → owed_room os ≡ 0
+owed_room_none [] h = refl
+owed_room_none (o ∷ os) h = absurd (omega (arith, h, owed_some (o ∷ os) (omega arith)))

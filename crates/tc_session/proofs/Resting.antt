@@ -1,6 +1,6 @@
 -- A connection on which no whole request is there.
 use Rattle.std.proofs.Common.{◌≡◌, ℕ, List, None, refl, sym, subst}
-use Rattle.tc_model.specs.Connection.{Phase, Unbound, Bound, Closed, Endpoint, Turn, turn, turn_at}
+use Rattle.tc_model.specs.Connection.{Phase, Unbound, Bound, Closed, Endpoint, turn, turn_at}
 use Rattle.tc_item.specs.Bounds.{largest_item}
 use Rattle.tc_feed.specs.Stream.{Reader, found, after_first}
 use Rattle.tc_users.specs.declared.users.UserSpec.{UserSpec}

@@ -7,7 +7,7 @@ use Rattle.tc_grammar.specs.declared.command.Form.{Form}
 use Rattle.tc_grammar.specs.declared.command.Form.TheVariants.{Bare, WithCas}
 use Rattle.tc_grammar.specs.declared.command.Command.{Command}
 use Rattle.tc_grammar.specs.declared.command.Command.TheVariants.{Store, Get, Gat, Delete, Count, Touch, Flush, Stats as AskStats}
-use Rattle.tc_grammar.specs.declared.command.Command.TheVariants.{Version as AskVersion, Verbosity, Quit}
+use Rattle.tc_grammar.specs.declared.command.Command.TheVariants.{Version as AskVersion, Verbosity}
 use Rattle.tc_grammar.specs.Outlines.{is_quiet}
 use Rattle.tc_grammar.specs.declared.fault.Fault.TheVariants.{TooLarge as TooLargeFault, NotNumeric as NotNumericFault}
 use Rattle.tc_grammar.specs.declared.fault.Fault.TheVariants.{CasWorn as CasWornFault}

@@ -1,13 +1,13 @@
 -- A connection as contracts see it. Source: this project's own.
-use Rattle.std.specs.Prelude.{ℕ, ◌+◌, ◌*◌, ◌≤◌, Bool, List, [], codes, Option}
+use Rattle.std.specs.Prelude.{◌≡◌, ℕ, ◌+◌, ◌*◌, ◌≤◌, ◌++◌, Bool, List, [], codes, Option}
 use Rattle.tc_model.specs.Connection.{Phase, Unbound, Bound, Closed, Endpoint, Want, Nothing, Said, Call, Close, Turn}
 use Rattle.tc_model.specs.Connection.{login, login_turn, unbound_turn, bound_turn}
 use Rattle.tc_item.specs.Bounds.{largest_item}
 use Rattle.tc_feed.specs.Stream.{longest_line, found, after_first}
 use Rattle.tc_feed.specs.declared.request.Request.{Request}
 use Rattle.tc_grammar.specs.declared.command.Command.{Command}
-use Rattle.tc_session.specs.declared.session.Stage.{Stage}
-use Rattle.tc_session.specs.declared.session.Stage.TheVariants.{Unbound as IsUnbound, Bound as IsBound, Closed as IsClosed}
+use Rattle.tc_session.specs.declared.session.Phase.{Phase as PhaseCode}
+use Rattle.tc_session.specs.declared.session.Phase.TheVariants.{Unbound as IsUnbound, Bound as IsBound, Closed as IsClosed}
 use Rattle.tc_session.specs.declared.want.Want.{Want as WantCode}
 use Rattle.tc_session.specs.declared.want.Want.TheVariants.{Nothing as IsNothing, Said as IsSaid, Call as IsCall}
 use Rattle.tc_session.specs.declared.want.Want.TheVariants.{Close as IsClose}
@@ -17,8 +17,8 @@ use Rattle.tc_users.specs.declared.users.UserSpec.{UserSpec}
 use Rattle.tc_session.specs.Texts.{unless_quiet}
 use Rattle.tc_session.specs.TextProtocol.{text_protocol, unbound_limit, fault_said, unbound_asks, bound_wants}
 
--- the phase of a stage
-abbrev pub phase_of : Stage → Phase
+-- the phase of a session, as the machine has it
+abbrev pub phase_of : PhaseCode → Phase
 phase_of IsUnbound = Unbound
 phase_of (IsBound user) = Bound user
 phase_of IsClosed = Closed
@@ -90,3 +90,7 @@ next_turn user s =
 -- the turn of a connection on which no whole request is there
 abbrev pub resting_turn : Endpoint text_protocol → Turn text_protocol
 resting_turn e = record { want = Nothing; said = []; endpoint = e }
+
+-- a turn was done with this to be wanted: the endpoint is the turn's, and what the turn says stands behind what waited
+abbrev pub IsDone : Turn text_protocol → SessionView → SessionView → WantCode → Type 0
+IsDone t before after want = (want_of want ≡ t.want) × (after.endpoint ≡ t.endpoint) × (after.out ≡ before.out ++ t.said)

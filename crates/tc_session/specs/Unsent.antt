@@ -37,3 +37,8 @@ pub record Says (old new : List ℕ) (pieces : List Piece) (text : List ℕ) : T
   pub says : joined new pieces ≡ old ++ text
   pub within : reach pieces ≤ length new
   pub some : HaveData pieces
+
+-- a text was put behind own bytes and a chain: the chain has pieces more, which say it behind the own bytes that stood there
+abbrev pub IsSpliced : List ℕ → List ℕ → List Piece → List Piece → List ℕ → Type 0
+IsSpliced own own_after chain chain_after text =
+    (behind : List Piece) × (chain_after ≡ chain ++ behind) × Says own own_after behind text

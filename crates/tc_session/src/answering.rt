@@ -1,16 +1,15 @@
-//! Which outcomes a command can come to, and how its reply is written.
-ghost use Rattle.std.specs.Prelude.{◌≡◌, ◌≤◌, ◌++◌, true, false, take, length, IsOk, OnOk, OnErr};
-ghost use Rattle.tc_grammar.specs.declared.fault.Fault.TheVariants.{NoMemory as OutOfMemory};
-ghost use Rattle.tc_grammar.specs.Outlines.{is_quiet};
+//! Which outcomes a command can come to, and how its reply is written: the texts of replies, but VALUE lines and
+//! rows of counters, which are `values.rt`. It writes to an `Output`, and knows no connection.
+ghost use Rattle.std.specs.Prelude.{◌≡◌, ◌≤◌, ◌+◌, ◌++◌, true, false, codes, IsOk, OnOk, OnErr};
 ghost use Rattle.tc_session.specs.SessionView.{reply_room};
-ghost use Rattle.tc_session.specs.Texts.{fault_line, unless_quiet};
+ghost use Rattle.tc_session.specs.Texts.{fault_line, line_end};
 ghost use Rattle.tc_session.specs.Replies.{is_refusal, is_store_end, can_end, form_of, reply_of, render, is_long};
+ghost use Rattle.tc_stats.specs.StatsRows.{version_text};
 
 use crate::output::Output;
-use crate::reply::{write_fault, write_version};
 use tc_grammar::{Command, Fault, Form, StoreKind};
 use tc_item::NoMemory;
-use tc_stats::Outcome;
+use tc_stats::{Outcome, VERSION};
 
 /// Whether the outcome is a storage name's refusal for what its key holds.
 fn is_refusal(kind: StoreKind, outcome: &Outcome) -> bool
@@ -42,17 +41,15 @@ pub fn can_end(command: &Command, outcome: &Outcome) -> bool
 {
     match command {
         Command::Store(head, _) => is_store_end(outcome) || is_refusal(head.kind, outcome),
-        Command::Get { .. } => matches!(outcome, Outcome::Values(_)),
-        Command::Gat { .. } => matches!(outcome, Outcome::Values(_)),
+        Command::Get { .. } | Command::Gat { .. } => matches!(outcome, Outcome::Values(_)),
         Command::Delete { .. } => matches!(outcome, Outcome::Deleted | Outcome::NotFound),
         Command::Count { .. } => matches!(
             outcome,
             Outcome::Number(_) | Outcome::NotFound | Outcome::NotNumeric | Outcome::CasWorn
         ),
         Command::Touch { .. } => matches!(outcome, Outcome::Touched | Outcome::NotFound),
-        Command::Flush { .. } => matches!(outcome, Outcome::Done),
+        Command::Flush { .. } | Command::Verbosity { .. } => matches!(outcome, Outcome::Done),
         Command::Version => matches!(outcome, Outcome::Version),
-        Command::Verbosity { .. } => matches!(outcome, Outcome::Done),
         Command::Stats => matches!(outcome, Outcome::Stats(_)),
         Command::Quit => false,
     }
@@ -67,6 +64,27 @@ pub(crate) fn form_of(command: &Command) -> Form
         Command::Gat { form, .. } => *form,
         _ => Form::Bare,
     }
+}
+
+/// Says a fault's line.
+pub(crate) fn write_fault(out: &mut Output, fault: Fault)
+    requires { reply_room ≤ out.old.room }
+    ensures bytes { out.new.bytes ≡ out.old.bytes ++ fault_line fault }
+    ensures room { out.old.room ≤ out.new.room + reply_room }
+{
+    out.write(fault.text().as_bytes());
+    out.write(b"\r\n");
+}
+
+/// Writes the server's version.
+pub(crate) fn write_version(out: &mut Output)
+    requires { reply_room ≤ out.old.room }
+    ensures { out.new.bytes
+        ≡ out.old.bytes ++ (codes "VERSION " ++ (version_text ++ line_end)) }
+{
+    out.write(b"VERSION ");
+    out.write(VERSION.as_bytes());
+    out.write(b"\r\n");
 }
 
 /// Writes the reply to an outcome. A refusal changes nothing.
@@ -99,18 +117,7 @@ fn write_outcome(out: &mut Output, form: Form, outcome: &Outcome) -> Result<(), 
     Ok(())
 }
 
-/// Says that memory was refused, unless the line has `noreply`.
-pub(crate) fn write_refusal(out: &mut Output, command: &Command)
-    requires { reply_room ≤ out.old.room }
-    ensures { out.new.bytes
-        ≡ out.old.bytes ++ unless_quiet (is_quiet command.now) (fault_line OutOfMemory) }
-{
-    if !command.is_quiet() {
-        write_fault(out, Fault::NoMemory);
-    }
-}
-
-/// Writes the reply to a command. Where memory is refused, that is said in its place.
+/// Writes the reply to a command, unless its line has `noreply`. A refusal changes nothing.
 pub(crate) fn write_reply(
     out: &mut Output,
     command: &Command,
@@ -119,16 +126,12 @@ pub(crate) fn write_reply(
     requires room { reply_room ≤ out.old.room }
     requires can_end { can_end command.now outcome.now ≡ true }
     ensures bytes { OnOk result (out.new.bytes ≡ out.old.bytes ++ render command.now outcome.now) }
-    ensures refused { OnErr result (out.new.bytes
-        ≡ out.old.bytes ++ unless_quiet (is_quiet command.now) (fault_line OutOfMemory)) }
+    ensures unchanged_on_err { OnErr result (out.new.bytes ≡ out.old.bytes) }
+    ensures room_on_err { OnErr result (out.old.room ≤ out.new.room) }
     ensures short { is_long outcome.now ≡ false → IsOk result }
 {
     if command.is_quiet() {
         return Ok(());
     }
-    if write_outcome(out, form_of(command), outcome).is_err() {
-        write_refusal(out, command);
-        return Err(NoMemory);
-    }
-    Ok(())
+    write_outcome(out, form_of(command), outcome)
 }

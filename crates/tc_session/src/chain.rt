@@ -106,11 +106,12 @@ impl Chain {
         self.pieces.get(at)
     }
 
-    /// Puts data at the end, behind so many own bytes.
+    /// Puts data at the end, behind so many own bytes. A refusal changes nothing.
     pub fn push(&mut self, before: usize, blob: Blob) -> Result<(), NoMemory>
         requires { 0 < length blob }
         ensures pushed { OnOk result (self.new
             ≡ self.old ++ (record { before = before; blob = blob } ∷ [])) }
+        ensures unchanged_on_err { OnErr result (self.new ≡ self.old) }
     {
         let reach = sum_of(self.reach, before)?;
         let weight = sum_of(self.weight, blob.len())?;

@@ -1,5 +1,5 @@
-//! Bytes that wait to be sent.
-ghost use Rattle.std.specs.Prelude.{◌≡◌, ◌+◌, ◌-◌, ◌<◌, ◌≤◌, ◌++◌, [], decimal, drop, take, length, vec_len, vec_capacity};
+//! Bytes that wait to be sent. What they say is written by `answering.rt` and `replies.rt`.
+ghost use Rattle.std.specs.Prelude.{◌≡◌, ◌+◌, ◌-◌, ◌<◌, ◌≤◌, ◌++◌, [], decimal, drop, length, vec_len, vec_capacity};
 ghost use Rattle.std.specs.Prelude.{OnOk, OnErr};
 ghost use Rattle.tc_session.specs.Replies.{values_text, stats_text};
 ghost use Rattle.tc_session.specs.Room.{room_of};
@@ -7,7 +7,8 @@ ghost use Rattle.tc_session.specs.Room.{room_of};
 use crate::chain::Chain;
 use crate::parts::Parts;
 use crate::pieces::splice_values;
-use crate::values::{append_composed, append_number, append_stats, compose, room_to_compose};
+use crate::values::{append_composed, append_stats, compose, room_to_compose};
+use itoa::Buffer;
 use std::alloc::Global;
 use std::marker::Model;
 use tc_grammar::Form;
@@ -44,7 +45,7 @@ impl Model for Output {
 }
 
 /// Gives up the room of bytes that are no more, where it is large.
-fn clear(bytes: &mut Vec<u8>)
+fn clear_bytes(bytes: &mut Vec<u8>)
     ensures { bytes.new.items ≡ [] }
 {
     bytes.clear();
@@ -109,13 +110,13 @@ impl Output {
     }
 
     /// Puts a number at the end, for which there is room.
-    #[tactic(auto, using(crate::proofs::Waiting::written))]
     pub fn write_number(&mut self, number: u64)
         requires { 20 ≤ self.old.room }
         ensures bytes { self.new.bytes ≡ self.old.bytes ++ decimal number }
         ensures room { self.old.room ≤ self.new.room + 20 }
     {
-        append_number(&mut self.own, number);
+        let mut buffer = Buffer::new();
+        self.write(buffer.format(number).as_bytes());
     }
 
     /// Puts the rows of counters at the end, and END. A refusal changes nothing.
@@ -189,7 +190,7 @@ impl Output {
     fn clear(&mut self)
         ensures { self.new.bytes ≡ [] }
     {
-        clear(&mut self.own);
+        clear_bytes(&mut self.own);
         self.chain.clear();
         self.start = 0;
         self.sent = 0;

@@ -1,11 +1,10 @@
 //! VALUE lines of a reply with much data, behind bytes that wait: piece by piece.
 //!
 //! Large data is shared: it stays where it lies, and a piece of a chain says behind which bytes.
-ghost use Rattle.std.specs.Prelude.{◌≡◌, ◌+◌, ◌≤◌, ◌<◌, ◌++◌, drop, take, length, vec_len, vec_capacity, OnOk, OnErr, IfOk, List};
+ghost use Rattle.std.specs.Prelude.{◌≡◌, ◌+◌, ◌≤◌, ◌<◌, ◌++◌, drop, take, length, vec_len, vec_capacity, OnOk, OnErr, IfOk};
 ghost use Rattle.tc_item.specs.Bounds.{longest_key};
-ghost use Rattle.tc_session.specs.declared.chain.Piece.{Piece};
 ghost use Rattle.tc_session.specs.Replies.{value_line, value_text, values_text};
-ghost use Rattle.tc_session.specs.Unsent.{Says, joined, reach};
+ghost use Rattle.tc_session.specs.Unsent.{IsSpliced, joined, reach};
 
 use crate::chain::Chain;
 use crate::values::{BESIDE, END, LINE_END, MOST_COPIED, put_value_line};
@@ -53,12 +52,11 @@ impl Plan {
         let mut own = END.len();
         let mut pieces = 0usize;
         for hit in hits {
-            let key = hit.key.as_bytes().len();
             let data = hit.blob.len();
+            own = own.saturating_add(hit.key.as_bytes().len() + BESIDE);
             if data < least {
-                own = own.saturating_add(key + BESIDE).saturating_add(data);
+                own = own.saturating_add(data);
             } else {
-                own = own.saturating_add(key + BESIDE);
                 pieces = pieces.saturating_add(1);
             }
         }
@@ -164,8 +162,8 @@ fn append_pieces(to: &mut Vec<u8>, from: usize, form: Form, hits: &[Hit]) -> Res
     Ok(chain)
 }
 
-/// The same, with the pieces behind those of a chain. Where memory is refused, the chain stays, and what
-/// stood there before is in front.
+/// Puts all hits at the end, and END, with the pieces of their data behind those of a chain. Where memory
+/// is refused, the chain stays, and what stood there before is in front.
 fn append_spliced(
     to: &mut Vec<u8>,
     chain: &mut Chain,
@@ -174,9 +172,8 @@ fn append_spliced(
     hits: &[Hit],
 ) -> Result<(), NoMemory>
     requires within { from ≤ vec_len to.old }
-    ensures says { OnOk result ((behind : List Piece) × (chain.new ≡ chain.old ++ behind)
-        × Says (drop from to.old.items) (drop from to.new.items) behind
-        (values_text form hits.now)) }
+    ensures says { OnOk result (IsSpliced (drop from to.old.items) (drop from to.new.items)
+        chain.old chain.new (values_text form hits.now)) }
     ensures front { take (length to.old.items) to.new.items ≡ to.old.items }
     ensures capacity { vec_capacity to.old ≤ vec_capacity to.new }
     ensures chain_on_err { OnErr result (chain.new ≡ chain.old) }
@@ -195,7 +192,8 @@ fn cut_back(to: &mut Vec<u8>, len: usize, room: usize)
     to.shrink_to(room);
 }
 
-/// The same. A refusal changes nothing, and gives back what room was made.
+/// Puts all hits at the end, and END, with the pieces of their data behind those of a chain. A refusal
+/// changes nothing, and gives back what room was made.
 pub(crate) fn splice_values(
     to: &mut Vec<u8>,
     chain: &mut Chain,
@@ -204,9 +202,8 @@ pub(crate) fn splice_values(
     hits: &[Hit],
 ) -> Result<(), NoMemory>
     requires within { from ≤ vec_len to.old }
-    ensures says { OnOk result ((behind : List Piece) × (chain.new ≡ chain.old ++ behind)
-        × Says (drop from to.old.items) (drop from to.new.items) behind
-        (values_text form hits.now)) }
+    ensures says { OnOk result (IsSpliced (drop from to.old.items) (drop from to.new.items)
+        chain.old chain.new (values_text form hits.now)) }
     ensures front { OnOk result (take (length to.old.items) to.new.items ≡ to.old.items) }
     ensures unchanged_on_err { OnErr result (to.new.items ≡ to.old.items) }
     ensures chain_on_err { OnErr result (chain.new ≡ chain.old) }

@@ -3,19 +3,17 @@
 //! Who asks for many replies while others wait for it owes them, and writes them once nobody does. Room is
 //! made for a reply when it comes to be owed, so that to write it takes no memory. Contracts see what waits
 //! to be sent, as if all of it were written.
-ghost use Rattle.std.specs.Prelude.{◌≡◌, ◌+◌, ◌<◌, ◌≤◌, ◌++◌, ◌-◌, ◌↔◌, [], drop, take, length, IsOk, IsTrue, OnOk, OnErr, IfOk, true, false};
-ghost use Rattle.tc_grammar.specs.declared.fault.Fault.TheVariants.{NoMemory as OutOfMemory};
-ghost use Rattle.tc_grammar.specs.Outlines.{is_quiet};
+ghost use Rattle.std.specs.Prelude.{◌≡◌, ◌+◌, ◌<◌, ◌≤◌, ◌++◌, ◌-◌, ◌↔◌, [], drop, take, length};
+ghost use Rattle.std.specs.Prelude.{IsOk, IsTrue, OnOk, OnErr, IfOk, true, false};
 ghost use Rattle.tc_session.specs.SessionView.{reply_room};
-ghost use Rattle.tc_session.specs.Texts.{fault_line, unless_quiet};
+ghost use Rattle.tc_session.specs.Texts.{fault_line};
 ghost use Rattle.tc_session.specs.Replies.{can_end, render, is_long, values_text};
 ghost use Rattle.tc_session.specs.Room.{room_of};
 ghost use Rattle.tc_session.specs.Owing.{owed_text, owed_room, AreMeasured};
 
-use crate::answering::{write_refusal, write_reply};
+use crate::answering::{write_fault, write_reply};
 use crate::output::Output;
 use crate::parts::Parts;
-use crate::reply::write_fault;
 use crate::values::{append_composed, room_to_compose};
 use std::alloc::Global;
 use std::marker::Model;
@@ -58,7 +56,7 @@ impl Model for Replies {
 }
 
 /// Writes all that is owed, for which there is room.
-fn settle(written: &mut Output, owed: &mut Vec<Owed>)
+fn write_owed(written: &mut Output, owed: &mut Vec<Owed>)
     requires fits { owed_room owed.old.items ≤ written.old.room }
     requires measured { AreMeasured owed.old.items }
     ensures bytes { written.new.bytes ≡ written.old.bytes ++ owed_text owed.old.items }
@@ -73,7 +71,7 @@ fn settle(written: &mut Output, owed: &mut Vec<Owed>)
 
 /// Owes one reply more. A refusal changes nothing.
 #[tactic(auto, using(crate::proofs::Owing::text_behind, crate::proofs::Owing::room_behind, crate::proofs::Owing::measured_behind))]
-fn owe(owed: &mut Vec<Owed>, form: Form, room: usize, hits: Hits) -> Result<(), NoMemory>
+fn push_owed(owed: &mut Vec<Owed>, form: Form, room: usize, hits: Hits) -> Result<(), NoMemory>
     requires room { room ≡ room_of hits }
     requires measured { AreMeasured owed.old.items }
     ensures text { OnOk result (owed_text owed.new.items
@@ -112,8 +110,10 @@ impl Replies {
         ensures room { OnOk result (n ≤ self.new.room) }
         ensures refused { OnErr result (self.old.room < n) }
     {
+        if n <= self.written.room() - self.taken {
+            return Ok(());
+        }
         let Some(all) = self.taken.checked_add(n) else {
-            let _less = self.written.room();
             return Err(NoMemory);
         };
         self.written.reserve(all)
@@ -125,8 +125,7 @@ impl Replies {
         ensures bytes { self.new.bytes ≡ self.old.bytes ++ text.now }
         ensures room { self.old.room ≤ self.new.room + length text.now }
     {
-        settle(&mut self.written, &mut self.owed);
-        self.taken = 0;
+        self.settle();
         self.written.write(text);
     }
 
@@ -136,54 +135,42 @@ impl Replies {
         ensures bytes { self.new.bytes ≡ self.old.bytes ++ fault_line fault }
         ensures room { self.old.room ≤ self.new.room + reply_room }
     {
-        settle(&mut self.written, &mut self.owed);
-        self.taken = 0;
+        self.settle();
         write_fault(&mut self.written, fault);
     }
 
-    /// Says that memory was refused, unless the line has `noreply`.
-    pub fn write_refusal(&mut self, command: &Command)
-        requires { reply_room ≤ self.old.room }
-        ensures { self.new.bytes
-            ≡ self.old.bytes ++ unless_quiet (is_quiet command.now) (fault_line OutOfMemory) }
-    {
-        settle(&mut self.written, &mut self.owed);
-        self.taken = 0;
-        write_refusal(&mut self.written, command);
-    }
-
-    /// Writes the reply to a command. Where memory is refused, that is said in its place.
+    /// Writes the reply to a command. A refusal changes nothing.
+    #[tactic(auto, using(crate::proofs::Owing::owed_room_none))]
     pub fn write_reply(&mut self, command: &Command, outcome: &Outcome) -> Result<(), NoMemory>
         requires room { reply_room ≤ self.old.room }
         requires can_end { can_end command.now outcome.now ≡ true }
         ensures bytes { OnOk result (self.new.bytes
             ≡ self.old.bytes ++ render command.now outcome.now) }
-        ensures refused { OnErr result (self.new.bytes
-            ≡ self.old.bytes ++ unless_quiet (is_quiet command.now) (fault_line OutOfMemory)) }
+        ensures unchanged_on_err { OnErr result (self.new.bytes ≡ self.old.bytes) }
+        ensures room_on_err { OnErr result (self.old.room ≤ self.new.room) }
         ensures short { is_long outcome.now ≡ false → IsOk result }
     {
-        settle(&mut self.written, &mut self.owed);
-        self.taken = 0;
+        self.settle();
         write_reply(&mut self.written, command, outcome)
     }
 
     /// Owes the reply to a look-up, with room for it, where it is short enough to be written in one; else
     /// writes it. A refusal changes nothing.
+    #[tactic(auto, using(crate::proofs::Owing::owed_room_none))]
     pub fn owe(&mut self, form: Form, hits: Hits) -> Result<(), NoMemory>
         ensures bytes { OnOk result (self.new.bytes ≡ self.old.bytes ++ values_text form hits) }
         ensures unchanged_on_err { OnErr result (self.new.bytes ≡ self.old.bytes) }
         ensures room_on_err { OnErr result (self.old.room ≤ self.new.room) }
     {
         let Some(room) = room_to_compose(hits.as_slice()) else {
-            settle(&mut self.written, &mut self.owed);
-            self.taken = 0;
+            self.settle();
             return self.written.write_values(form, hits.as_slice());
         };
         let Some(all) = self.taken.checked_add(room) else {
             return Err(NoMemory);
         };
         self.written.reserve(all)?;
-        owe(&mut self.owed, form, room, hits)?;
+        push_owed(&mut self.owed, form, room, hits)?;
         self.taken = all;
         Ok(())
     }
@@ -194,7 +181,7 @@ impl Replies {
         ensures written { self.new.unwritten ≡ 0 }
         ensures room { self.old.room ≤ self.new.room }
     {
-        settle(&mut self.written, &mut self.owed);
+        write_owed(&mut self.written, &mut self.owed);
         self.taken = 0;
     }
 
@@ -231,11 +218,11 @@ impl Replies {
     }
 
     /// So many of the first bytes were sent. Their room is given up, and a large one once all are sent.
+    #[tactic(auto, using(crate::proofs::Owing::owed_room_none))]
     pub fn sent(&mut self, n: usize)
         ensures { self.new.bytes ≡ drop n self.old.bytes }
     {
-        settle(&mut self.written, &mut self.owed);
-        self.taken = 0;
+        self.settle();
         self.written.sent(n);
     }
 }

@@ -1,17 +1,17 @@
-//! A connection.
+//! A connection: its next request, and the reply to what was asked.
+//!
+//! What is asked before a login is `session/unbound.rt`, what is passed over is `session/declining.rt`. A session
+//! reads its own bytes and the users' table, and knows no socket and no cache.
 ghost use Rattle.std.specs.Prelude.{◌≡◌, ◌≢◌, ◌+◌, ◌-◌, ◌<◌, ◌≤◌, ◌++◌, ◌↔◌, List, [], true, false, drop, take, length};
 ghost use Rattle.std.specs.Prelude.{None, Some, IsOk, IfOk, IfSome, IsTrue, OnOk, OnErr};
 ghost use Rattle.tc_model.specs.Connection.{turn, with_piece, shut_endpoint, new_endpoint, Bound, Nothing, Close, is_closed};
-ghost use Rattle.tc_grammar.specs.declared.fault.Fault.TheVariants.{NoMemory as OutOfMemory};
-ghost use Rattle.tc_grammar.specs.Outlines.{is_quiet};
-ghost use Rattle.tc_feed.specs.declared.request.Request.TheVariants.{Ask};
 ghost use Rattle.tc_session.specs.Declines.{IsAsked};
+ghost use Rattle.tc_session.specs.Refusals.{refusal_of};
 ghost use Rattle.tc_session.specs.Refusing.{WantsMemory};
 ghost use Rattle.tc_session.specs.Replies.{can_end, render, is_long};
 ghost use Rattle.tc_stats.specs.declared.outcome.Outcome.TheVariants.{Values};
 ghost use Rattle.tc_session.specs.SessionView.{want_of, fault_want, fault_phase, KeepsAtMost, most_resting};
-ghost use Rattle.tc_session.specs.SessionView.{reply_room, needed_room, turn_bound, resting_turn};
-ghost use Rattle.tc_session.specs.Texts.{fault_line, unless_quiet};
+ghost use Rattle.tc_session.specs.SessionView.{reply_room, needed_room, turn_bound, resting_turn, IsDone};
 ghost use Rattle.tc_session.specs.TextProtocol.{text_protocol, fault_said};
 ghost use Rattle.tc_users.specs.declared.users.UserSpec.{UserSpec};
 
@@ -43,7 +43,7 @@ const NEEDED_ROOM: usize = 2 * REPLY_ROOM;
 
 /// Whose a connection is.
 #[derive(Clone, Copy, Debug, PartialEq, Eq)]
-enum Stage {
+enum Phase {
     Unbound,
     /// To this user.
     Bound(UserNo),
@@ -54,7 +54,7 @@ enum Stage {
 #[derive(Debug, Drop)]
 pub struct Session {
     feed: Feed,
-    stage: Stage,
+    phase: Phase,
     out: Replies,
     /// What a log is to be told, until it is asked for. No reply rests on it.
     news: Option<News>,
@@ -66,7 +66,7 @@ impl Model for Session {
     ghost Value = { SessionView };
 
     ghost view = { λ s. record {
-      endpoint = record { phase = phase_of s.stage; reader = s.feed };
+      endpoint = record { phase = phase_of s.phase; reader = s.feed };
       out = s.out.bytes;
       unwritten = s.out.unwritten;
       room = s.out.room;
@@ -81,7 +81,7 @@ impl Session {
     {
         Session {
             feed: Feed::new(alloc),
-            stage: Stage::Unbound,
+            phase: Phase::Unbound,
             out: Replies::new(alloc),
             news: None,
         }
@@ -96,9 +96,9 @@ impl Session {
             ≤ length self.old.endpoint.reader.unread + length piece.now }
         ensures unchanged_on_err { OnErr result (self.new ≡ self.old) }
     {
-        match self.stage {
-            Stage::Closed => Ok(()),
-            Stage::Unbound | Stage::Bound(_) => self.feed.push(piece),
+        match self.phase {
+            Phase::Closed => Ok(()),
+            Phase::Unbound | Phase::Bound(_) => self.feed.push(piece),
         }
     }
 
@@ -129,7 +129,18 @@ impl Session {
         if self.is_resting() {
             return Ok(Want::Nothing);
         }
-        self.look(alloc, users)
+        let phase = self.phase;
+        match phase {
+            Phase::Closed => Ok(Want::Nothing),
+            Phase::Unbound => {
+                let request = self.feed.next(alloc, UNBOUND_LIMIT)?;
+                Ok(self.serve_unbound(users, request))
+            }
+            Phase::Bound(user) => {
+                let request = self.feed.next(alloc, LARGEST_ITEM)?;
+                Ok(self.serve_bound(user, request))
+            }
+        }
     }
 
     /// Whether it is known that there is nothing to do until more comes, so that most looks for a further
@@ -140,45 +151,10 @@ impl Session {
         ensures bounded { IsTrue result → KeepsAtMost self.now.endpoint.phase
             (length self.now.endpoint.reader.unread) }
     {
-        match self.stage {
-            Stage::Closed => true,
-            Stage::Unbound => self.feed.is_waiting(UNBOUND_LIMIT),
-            Stage::Bound(_) => self.feed.is_waiting(LARGEST_ITEM),
-        }
-    }
-
-    /// The connection's next request, looked for.
-    fn look(&mut self, alloc: Global, users: &Users) -> Result<Want, NoMemory>
-        requires room { needed_room ≤ self.old.room }
-        ensures want { IfOk result (λ want. want_of want
-            ≡ (turn text_protocol users.now self.old.endpoint).want) }
-        ensures endpoint { OnOk result (self.new.endpoint
-            ≡ (turn text_protocol users.now self.old.endpoint).endpoint) }
-        ensures said { OnOk result (self.new.out
-            ≡ self.old.out ++ (turn text_protocol users.now self.old.endpoint).said) }
-        ensures room { OnOk result (reply_room ≤ self.new.room) }
-        ensures bounded { IfOk result (λ want. want_of want ≡ Nothing
-            → KeepsAtMost self.old.endpoint.phase (length self.new.endpoint.reader.unread)) }
-        ensures open_bounded { IfOk result (λ want. want_of want ≡ Nothing
-            → is_closed self.old.endpoint.phase ≡ false
-            → length self.new.endpoint.reader.unread ≤ most_resting) }
-        ensures no_longer { length self.new.endpoint.reader.unread
-            ≤ length self.old.endpoint.reader.unread }
-        ensures refused { OnErr result (WantsMemory self.old) }
-        ensures endpoint_on_err { OnErr result (self.new.endpoint ≡ self.old.endpoint) }
-        ensures out_on_err { OnErr result (self.new.out ≡ self.old.out) }
-    {
-        let stage = self.stage;
-        match stage {
-            Stage::Closed => Ok(Want::Nothing),
-            Stage::Unbound => {
-                let request = self.feed.next(alloc, UNBOUND_LIMIT)?;
-                Ok(self.greet(users, request))
-            }
-            Stage::Bound(user) => {
-                let request = self.feed.next(alloc, LARGEST_ITEM)?;
-                Ok(self.serve(user, request))
-            }
+        match self.phase {
+            Phase::Closed => true,
+            Phase::Unbound => self.feed.is_waiting(UNBOUND_LIMIT),
+            Phase::Bound(_) => self.feed.is_waiting(LARGEST_ITEM),
         }
     }
 
@@ -214,40 +190,20 @@ impl Session {
     }
 
     /// What a request means once the connection is bound.
-    fn serve(&mut self, user: UserNo, request: Option<Request>) -> Want
+    fn serve_bound(&mut self, user: UserNo, request: Option<Request>) -> Want
         requires room { needed_room ≤ self.old.room }
         requires bound { self.old.endpoint.phase ≡ Bound user }
-        ensures want { want_of result ≡ (turn_bound user self.old request).want }
+        ensures done { IsDone (turn_bound user self.old request) self.old self.new result }
         ensures rests { want_of result ≡ Nothing → request ≡ None }
-        ensures endpoint { self.new.endpoint ≡ (turn_bound user self.old request).endpoint }
-        ensures said { self.new.out ≡ self.old.out ++ (turn_bound user self.old request).said }
         ensures reader { self.new.endpoint.reader ≡ self.old.endpoint.reader }
         ensures room { reply_room ≤ self.new.room }
     {
         match request {
             None => Want::Nothing,
-            Some(Request::Ask(command)) => self.serve_command(user, command),
+            Some(Request::Ask(Command::Quit)) => self.close(),
+            Some(Request::Ask(command)) => Want::Call(user, command),
             Some(Request::Refused { fault, quiet }) => self.fail(fault, quiet),
         }
-    }
-
-    /// What a command means once the connection is bound.
-    fn serve_command(&mut self, user: UserNo, command: Command) -> Want
-        requires room { needed_room ≤ self.old.room }
-        requires bound { self.old.endpoint.phase ≡ Bound user }
-        ensures want { want_of result ≡ (turn_bound user self.old (Some (Ask command))).want }
-        ensures busy { want_of result ≢ Nothing }
-        ensures endpoint { self.new.endpoint
-            ≡ (turn_bound user self.old (Some (Ask command))).endpoint }
-        ensures said { self.new.out ≡ self.old.out
-            ++ (turn_bound user self.old (Some (Ask command))).said }
-        ensures reader { self.new.endpoint.reader ≡ self.old.endpoint.reader }
-        ensures room { reply_room ≤ self.new.room }
-    {
-        if matches!(command, Command::Quit) {
-            return self.close();
-        }
-        Want::Call(user, command)
     }
 
     /// Says a fault, unless it is quiet; after a line that is too long the connection is closed.
@@ -269,10 +225,10 @@ impl Session {
 
     /// Says a fault's line, unless it is quiet.
     fn say_fault(&mut self, fault: Fault, quiet: bool)
-        requires { needed_room ≤ self.old.room }
+        requires { reply_room ≤ self.old.room }
         ensures endpoint { self.new.endpoint ≡ self.old.endpoint }
         ensures said { self.new.out ≡ self.old.out ++ fault_said fault quiet }
-        ensures room { reply_room ≤ self.new.room }
+        ensures room { self.old.room ≤ self.new.room + reply_room }
     {
         if !quiet {
             self.out.write_fault(fault);
@@ -287,12 +243,11 @@ impl Session {
         ensures endpoint { self.new.endpoint ≡ self.old.endpoint }
         ensures reply { OnOk result (self.new.out
             ≡ self.old.out ++ render command.now outcome.now) }
-        ensures refused { OnErr result (self.new.out
-            ≡ self.old.out ++ unless_quiet (is_quiet command.now) (fault_line OutOfMemory)) }
+        ensures refused { OnErr result (self.new.out ≡ self.old.out ++ refusal_of command.now) }
         ensures short { is_long outcome.now ≡ false → IsOk result }
     {
         if self.out.write_reply(command, outcome).is_err() {
-            self.news = Some(News::NoMemory);
+            self.refuse(command);
             return Err(NoMemory);
         }
         Ok(())
@@ -305,8 +260,7 @@ impl Session {
         requires can_end { can_end command.now outcome ≡ true }
         ensures endpoint { self.new.endpoint ≡ self.old.endpoint }
         ensures reply { OnOk result (self.new.out ≡ self.old.out ++ render command.now outcome) }
-        ensures refused { OnErr result (self.new.out
-            ≡ self.old.out ++ unless_quiet (is_quiet command.now) (fault_line OutOfMemory)) }
+        ensures refused { OnErr result (self.new.out ≡ self.old.out ++ refusal_of command.now) }
         ensures short { is_long outcome ≡ false → IsOk result }
     {
         match outcome {
@@ -322,8 +276,7 @@ impl Session {
         ensures endpoint { self.new.endpoint ≡ self.old.endpoint }
         ensures reply { OnOk result (self.new.out
             ≡ self.old.out ++ render command.now (Values hits)) }
-        ensures refused { OnErr result (self.new.out
-            ≡ self.old.out ++ unless_quiet (is_quiet command.now) (fault_line OutOfMemory)) }
+        ensures refused { OnErr result (self.new.out ≡ self.old.out ++ refusal_of command.now) }
     {
         if command.is_quiet() {
             return Ok(());
@@ -339,11 +292,10 @@ impl Session {
     pub fn refuse(&mut self, command: &Command)
         requires { reply_room ≤ self.old.room }
         ensures endpoint { self.new.endpoint ≡ self.old.endpoint }
-        ensures refused { self.new.out
-            ≡ self.old.out ++ unless_quiet (is_quiet command.now) (fault_line OutOfMemory) }
+        ensures refused { self.new.out ≡ self.old.out ++ refusal_of command.now }
     {
         self.news = Some(News::NoMemory);
-        self.out.write_refusal(command);
+        self.say_fault(Fault::NoMemory, command.is_quiet());
     }
 
     /// The last that a log is to be told, once. A `next` that was refused is its caller's to tell.
@@ -411,9 +363,9 @@ impl Session {
     pub fn user(&self) -> Option<UserNo>
         ensures { IfSome result (λ user. self.now.endpoint.phase ≡ Bound user) }
     {
-        match self.stage {
-            Stage::Bound(user) => Some(user),
-            Stage::Unbound | Stage::Closed => None,
+        match self.phase {
+            Phase::Bound(user) => Some(user),
+            Phase::Unbound | Phase::Closed => None,
         }
     }
 
@@ -421,7 +373,7 @@ impl Session {
     pub fn is_closed(&self) -> bool
         ensures { result ≡ is_closed self.now.endpoint.phase }
     {
-        matches!(self.stage, Stage::Closed)
+        matches!(self.phase, Phase::Closed)
     }
 
     /// Ends the connection.
@@ -440,7 +392,7 @@ impl Session {
         ensures reader { self.new.endpoint.reader ≡ self.old.endpoint.reader }
         ensures room { self.new.room ≡ self.old.room }
     {
-        self.stage = Stage::Closed;
+        self.phase = Phase::Closed;
         Want::Close
     }
 }

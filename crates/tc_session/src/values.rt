@@ -2,12 +2,11 @@
 //!
 //! Hits with little data are written in one: room is made for all of them, and each byte is put where it
 //! stays. Where one has much data, `pieces.rt` appends it or shares it.
-ghost use Rattle.std.specs.Prelude.{◌≡◌, ◌+◌, ◌≤◌, ◌++◌, decimal, take, length, vec_len, vec_capacity, OnOk, OnErr, IfSome};
+ghost use Rattle.std.specs.Prelude.{◌≡◌, ◌+◌, ◌≤◌, ◌++◌, take, length, vec_len, vec_capacity, OnOk, OnErr, IfSome};
 ghost use Rattle.tc_session.specs.Replies.{cas_text, value_line, value_text, values_text, stats_text};
 ghost use Rattle.tc_session.specs.Room.{most_of, room_of};
 
 use crate::text::{put_bytes, put_number};
-use itoa::Buffer;
 use tc_grammar::Form;
 use tc_item::NoMemory;
 use tc_stats::{Counters, Hit};
@@ -26,18 +25,6 @@ pub(crate) const LINE_END: &[u8] = b"\r\n";
 
 /// What stands behind the last hit.
 pub(crate) const END: &[u8] = b"END\r\n";
-
-/// Puts a number at the end of bytes that have room for it.
-pub(crate) fn append_number(to: &mut Vec<u8>, number: u64)
-    requires { vec_len to.old + 20 ≤ vec_capacity to.old }
-    ensures bytes { to.new.items ≡ to.old.items ++ decimal number }
-    ensures longer { vec_len to.new ≤ vec_len to.old + 20 }
-    ensures capacity { vec_capacity to.old ≤ vec_capacity to.new }
-{
-    let mut buffer = Buffer::new();
-    let text = buffer.format(number);
-    let _ = to.extend_from_slice(text.as_bytes());
-}
 
 /// Puts the cas number of a VALUE line into a text at a place, where it is asked for. Where it ends.
 fn put_cas(text: &mut [u8], at: usize, form: Form, cas: u64) -> usize

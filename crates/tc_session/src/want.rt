@@ -10,7 +10,7 @@ pub enum Want {
     Nothing,
     /// A fault or a login was answered, or kept quiet.
     Said,
-    /// The user's cache is to do the command; one `answer` or `refuse` follows.
+    /// The user's cache is to do the command; one `answer`, `answer_later` or `refuse` follows.
     Call(UserNo, Command),
     /// The connection is closed once its output is sent.
     Close,

@@ -2,7 +2,9 @@
 //!
 //! It looks, many times a second, at what the workers did, and changes how many of them serve the users
 //! of a home (its width) by trial: the width is doubled, and stays so where the users are sent a twelfth
-//! more with it; it is halved, and stays so where they are sent nearly as much without it. A trial begins
+//! more with it. Further helpers take the time of several workers, so with them a byte may not cost more
+//! than before, or a quarter more is sent. The width is halved, and stays so where the users are sent
+//! nearly as much without it. A trial begins
 //! once a load has been the same for some looks, so that its rise is not put down to a helper. After a
 //! trial that failed the next one waits, longer each time, until the load is another one. Helpers also go
 //! where fewer workers have time enough, or where their own users want their time. Nothing here is
@@ -50,6 +52,12 @@ const LEAST_REST: u32 = 50;
 
 const MOST_REST: u32 = 3_200;
 
+/// Helpers stay where one part more of so many is sent with them.
+const GAIN: u64 = 12;
+
+/// Further helpers stay whatever a byte costs where one part more of so many is sent with them.
+const LARGE_GAIN: u64 = 4;
+
 /// Whether twice as many workers are tried, or half of them.
 #[derive(Clone, Copy, Debug, PartialEq, Eq)]
 enum Way {
@@ -57,14 +65,15 @@ enum Way {
     Fewer,
 }
 
-/// A trial: how many workers there were before it, how many looks are left of it, and what was sent at
-/// those made.
+/// A trial: how many workers there were before it, how many looks are left of it, and at those made what
+/// was sent, and which load it was.
 #[derive(Clone, Copy, Debug)]
 struct Trial {
     way: Way,
     before: usize,
     left: u32,
     sent: u64,
+    load: u64,
 }
 
 /// How long trials of a kind wait.
@@ -98,6 +107,8 @@ impl Rest {
 struct Seen {
     /// How many bytes came from its users and went to them.
     sent: u64,
+    /// Which part of its workers' time they took, in thousandths of one worker's.
+    load: u64,
     /// Its workers have little time left, and its users take it.
     is_full: bool,
     /// Half of its workers would have time enough.
@@ -120,8 +131,9 @@ struct Home {
     slack: u32,
     crowded: u32,
     changed: u32,
-    /// What is sent at a look, smoothed.
+    /// What is sent at a look, and the load, both smoothed.
     usual: u64,
+    usual_load: u64,
 }
 
 impl Home {
@@ -137,6 +149,7 @@ impl Home {
             crowded: 0,
             changed: 0,
             usual: 0,
+            usual_load: 0,
         }
     }
 
@@ -149,17 +162,17 @@ impl Home {
         self.crowded = next_count(self.crowded, seen.is_crowded);
         self.changed = next_count(self.changed, is_another(seen.sent, self.usual));
         if self.changed >= CHANGED {
-            self.begin_anew(seen.sent);
+            self.begin_anew(seen);
         } else if self.changed == 0 {
-            self.usual = (self.usual / 4)
-                .saturating_mul(3)
-                .saturating_add(seen.sent / 4);
+            self.usual = smoothed(self.usual, seen.sent);
+            self.usual_load = smoothed(self.usual_load, seen.load);
         }
     }
 
     /// The load is another one.
-    fn begin_anew(&mut self, sent: u64) {
-        self.usual = sent;
+    fn begin_anew(&mut self, seen: Seen) {
+        self.usual = seen.sent;
+        self.usual_load = seen.load;
         self.changed = 0;
         self.full = 0;
         self.more = Rest::new();
@@ -180,23 +193,39 @@ impl Home {
         self.more.lengthen();
     }
 
+    /// Whether more workers pay where so much is sent a look with them, at such a load.
+    fn pays(&self, sent: u64, load: u64) -> bool {
+        let more = sent.saturating_sub(self.usual);
+        if more < self.usual / GAIN {
+            return false;
+        }
+        self.width <= 2 || more >= self.usual / LARGE_GAIN || self.is_as_cheap(sent, load)
+    }
+
+    /// Whether a byte costs about as much time as usual, or less.
+    fn is_as_cheap(&self, sent: u64, load: u64) -> bool {
+        let most = self.usual_load.saturating_add(self.usual_load / GAIN);
+        load.saturating_mul(self.usual) <= most.saturating_mul(sent)
+    }
+
     fn begin_trial(&mut self, way: Way, before: usize) {
         self.trial = Some(Trial {
             way,
             before,
             left: LOOKS + SETTLING,
             sent: 0,
+            load: 0,
         });
     }
 
-    /// A trial is over, at which so much was sent a look. Whether it failed.
-    fn end_trial(&mut self, way: Way, sent: u64) -> bool {
+    /// A trial is over, at which so much was sent a look, at such a load. Whether it failed.
+    fn end_trial(&mut self, way: Way, sent: u64, load: u64) -> bool {
         self.trial = None;
         self.full = 0;
         self.slack = 0;
         self.crowded = 0;
         let has_failed = match way {
-            Way::More => sent < self.usual.saturating_add(self.usual / 12),
+            Way::More => !self.pays(sent, load),
             Way::Fewer => sent < self.usual.saturating_sub(self.usual / 24),
         };
         match (way, has_failed) {
@@ -205,19 +234,22 @@ impl Home {
         }
         if !has_failed {
             self.usual = sent;
+            self.usual_load = load;
         }
         has_failed
     }
 
-    /// One look of a trial, at which so much was sent.
-    fn try_on(&mut self, trial: Trial, sent: u64) {
+    /// One look of a trial.
+    fn try_on(&mut self, trial: Trial, seen: Seen) {
         let mut trial = trial;
         trial.left = trial.left.saturating_sub(1);
         if trial.left < LOOKS {
-            trial.sent = trial.sent.saturating_add(sent);
+            trial.sent = trial.sent.saturating_add(seen.sent);
+            trial.load = trial.load.saturating_add(seen.load);
         }
         self.trial = Some(trial);
-        if trial.left == 0 && self.end_trial(trial.way, trial.sent / u64::from(LOOKS)) {
+        let looks = u64::from(LOOKS);
+        if trial.left == 0 && self.end_trial(trial.way, trial.sent / looks, trial.load / looks) {
             self.width = trial.before;
         }
     }
@@ -284,6 +316,7 @@ impl Balance {
         let half = home.width as u64 / 2;
         Seen {
             sent: did.bytes(own),
+            load: did.load(own),
             is_full: self.is_full(did, own, home),
             is_slack: did.load(own) < half.saturating_mul(SPARE),
             is_crowded: self.is_crowded(did, own, home),
@@ -338,7 +371,7 @@ impl Balance {
         let width = home.width;
         let seen = self.see(did, own, &home);
         match home.trial {
-            Some(trial) => home.try_on(trial, seen.sent),
+            Some(trial) => home.try_on(trial, seen),
             None => self.settle(did, own, &mut home, seen),
         }
         if home.width != width {
@@ -387,6 +420,11 @@ impl Balance {
 /// One more where it goes on, else none.
 fn next_count(count: u32, goes_on: bool) -> u32 {
     if goes_on { count.saturating_add(1) } else { 0 }
+}
+
+/// What is usual, with one look more.
+fn smoothed(usual: u64, seen: u64) -> u64 {
+    (usual / 4).saturating_mul(3).saturating_add(seen / 4)
 }
 
 /// Whether much more was sent than usual, or much less.

@@ -38,6 +38,8 @@ pub enum Scene {
     FillsPage,
     /// A set and 39 gets.
     TurnsPages,
+    /// The same in a hall whose journal is off.
+    KeepsNothing,
     /// A page on which items are touched, evicted, expired and flushed.
     ChangesAll,
     /// Fifty calls by each of four threads.
@@ -89,6 +91,14 @@ fn budget_of(scene: &Scene) -> u64 {
     }
 }
 
+/// Whether pages are kept in a scene.
+fn journal_of(scene: &Scene) -> Journal {
+    match scene {
+        Scene::KeepsNothing => Journal::Off,
+        _ => Journal::On,
+    }
+}
+
 fn row(alloc: Global, name: &[u8], budget: u64) -> Result<UserSpec, Fail> {
     Ok(UserSpec {
         name: Text::copy(alloc, name)?,
@@ -106,10 +116,15 @@ fn two_users(alloc: Global, budget: u64) -> Result<Users, Fail> {
     Ok(users)
 }
 
-/// Two users with empty caches of a kind and this budget.
-fn begin<C: Kind>(alloc: Global, hasher: RandomState, budget: u64) -> Result<Beginning<C>, Fail> {
+/// Two users with empty caches of a kind and this budget, and a journal or none.
+fn begin<C: Kind>(
+    alloc: Global,
+    hasher: RandomState,
+    budget: u64,
+    keeps: Journal,
+) -> Result<Beginning<C>, Fail> {
     let users = two_users(alloc, budget)?;
-    let caches = begin_all(alloc, &users, hasher, Journal::On)?;
+    let caches = begin_all(alloc, &users, hasher, keeps)?;
     Ok(Beginning {
         opened: Opened::new(alloc)?,
         users,
@@ -140,6 +155,7 @@ fn perform<
         Scene::ClosesTwice => scenes::close_twice(rt, alloc, hall, seats, all),
         Scene::FillsPage => refusals::call_on_a_full_page(rt, alloc, hall, seats, all),
         Scene::TurnsPages => pages::turn_two_pages(rt, alloc, hall, seats, all),
+        Scene::KeepsNothing => pages::keep_nothing(rt, alloc, hall, seats, all),
         Scene::ChangesAll => busy::change_all(rt, alloc, hall, seats),
         Scene::FourThreads => crowd::four_threads(rt, alloc, hall, seats, all),
         Scene::EightThreads => crowd::eight_threads(rt, alloc, hall, seats),
@@ -172,19 +188,21 @@ fn perform_on<
     beginning: Beginning<C>,
     seats: usize,
     journal: usize,
+    keeps: Journal,
     scene: &Scene,
 ) -> Result<(), Fail>
     requires name { beginning.opened ≡ N.table }
     requires begins { N.terms.begins ≡ map fresh_cache beginning.users }
     requires seats { (seats ≡ N.terms.seats) × (0 < seats) }
     requires journal { (journal ≡ N.terms.journal) × (0 < journal) }
+    requires keeps { keeps ≡ N.terms.keeps }
 {
     let Beginning {
         opened,
         users,
         caches,
     } = beginning;
-    let (hall, given) = Hall::<C, N>::new(alloc, opened, &users, caches, seats, journal)?;
+    let (hall, given) = Hall::<C, N>::new(alloc, opened, &users, caches, seats, journal, keeps)?;
     perform(rt, alloc, hall, &users, given, seats, scene)
 }
 
@@ -199,8 +217,9 @@ fn play_over<C: Kind + Send + Sync, R: Threads + Wait + Abort + Time + Copy + Se
 ) -> Result<(), Fail>
     requires { (0 < seats) × (0 < journal) }
 {
-    let beginning = begin::<C>(alloc, hasher, budget_of(scene))?;
-    perform_on::<C, Brand, R>(rt, alloc, beginning, seats, journal, scene)
+    let keeps = journal_of(scene);
+    let beginning = begin::<C>(alloc, hasher, budget_of(scene), keeps)?;
+    perform_on::<C, Brand, R>(rt, alloc, beginning, seats, journal, keeps, scene)
 }
 
 /// A scene over each kind of cache, in a hall of so many seats and with so many entries a page.

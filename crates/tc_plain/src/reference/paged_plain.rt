@@ -5,13 +5,13 @@ ghost use Rattle.tc_plain.specs.UserCache.{fresh};
 ghost use Rattle.tc_plain.specs.Paging.{opens_with, next_of};
 
 use crate::shared::commands::{Commands, act};
-use crate::{Cache, LeftOver, Plain, Progress};
+use crate::{Acted, Cache, LeftOver, Plain, Progress};
 use std::alloc::Global;
 use std::marker::Model;
 use std::mem;
 use tc_grammar::Command;
 use tc_item::{Moment, NoMemory};
-use tc_stats::Outcome;
+use tc_past::Journal;
 
 /// A plain cache, and copies of what it stood for: when its page began, and when the next one was
 /// prepared, if one was.
@@ -81,8 +81,9 @@ impl Cache for PagedPlain {
         alloc: Global,
         now: Moment,
         command: &Command,
-    ) -> Result<(Outcome, Outcome), NoMemory> {
-        act(&mut self.cache, alloc, now, command)
+        keep: Journal,
+    ) -> Result<Acted, NoMemory> {
+        act(&mut self.cache, alloc, now, command, keep)
     }
 
     fn maintain(&mut self, now: Moment, _limit: u32) -> Progress {

@@ -8,6 +8,7 @@ ghost use Rattle.tc_plain.specs.Doing.{counted_under, numbers_of};
 ghost use Rattle.tc_plain.specs.Then.{no_past};
 ghost use Rattle.tc_plain.specs.Plans.{outcome_of, planned, IsLightPlan};
 
+use crate::shared::acted::{keep_hits, keep_statistics, with_numbers};
 use crate::shared::commands::Commands;
 use crate::shared::end::End;
 use crate::shared::offers::{Bid, offer};
@@ -18,6 +19,7 @@ use std::marker::Model;
 use tc_grammar::{Command, Head, Way};
 use tc_item::exptime::due;
 use tc_item::{Blob, Due, Key, Moment, NoMemory};
+use tc_past::Journal;
 use tc_sketch::{Sketch, width_of};
 use tc_stats::{Counters, Hits, Outcome, Statistics};
 
@@ -217,14 +219,15 @@ impl Commands for Plain {
         now: Moment,
         keys: &[Key],
         due: Option<Due>,
-    ) -> Result<(Hits, Hits), NoMemory> {
+        keep: Journal,
+    ) -> Result<(Hits, Option<Hits>), NoMemory> {
         let moment = self.live.moment.later(now);
-        let first = self.live.look_up(alloc, keys, moment, due)?;
-        let second = first.copy(alloc)?;
+        let hits = self.live.look_up(alloc, keys, moment, due)?;
+        let kept = keep_hits(alloc, &hits, keep)?;
         self.live.areas.make_room()?;
         self.live.advance(now);
         self.live.look_all(keys, due);
-        Ok((first, second))
+        Ok((hits, kept))
     }
 
     fn touch(&mut self, now: Moment, key: &Key, due: Due) -> Result<End, NoMemory> {
@@ -254,14 +257,19 @@ impl Commands for Plain {
         due(exptime, self.live.moment.later(now))
     }
 
-    fn stats(&mut self, alloc: Global, now: Moment) -> Result<(Statistics, Statistics), NoMemory> {
-        let mut first = Statistics::new(alloc, self.counters)?;
-        let mut second = Statistics::new(alloc, self.counters)?;
+    fn stats(
+        &mut self,
+        alloc: Global,
+        now: Moment,
+        keep: Journal,
+    ) -> Result<(Statistics, Option<Statistics>), NoMemory> {
+        let was = self.counters;
+        let mut statistics = Statistics::new(alloc, was)?;
+        let kept = keep_statistics(alloc, &statistics, keep)?;
         self.advance(now);
         let numbers = self.numbers();
-        first.set(numbers);
-        second.set(numbers);
-        Ok((first, second))
+        statistics.set(numbers);
+        Ok((statistics, with_numbers(kept, &was, numbers, keep)))
     }
 
     fn note(&mut self, command: &Command, outcome: &Outcome) {

@@ -2,12 +2,13 @@
 ghost use Rattle.std.specs.Prelude.{◌≡◌, IfOk, OnOk, OnErr};
 ghost use Rattle.tc_plain.specs.UserCache.{UserCache, advance};
 ghost use Rattle.tc_plain.specs.Doing.{act};
+ghost use Rattle.tc_plain.specs.Keeping.{kept_by};
 
-use crate::{LeftOver, Plain, Progress};
+use crate::{Acted, LeftOver, Plain, Progress};
 use std::alloc::Global;
 use tc_grammar::Command;
 use tc_item::{Moment, NoMemory};
-use tc_stats::Outcome;
+use tc_past::Journal;
 
 /// One user's cache, however it is kept, and what it stood for when its page began.
 pub trait Cache: Drop {
@@ -21,16 +22,18 @@ pub trait Cache: Drop {
     ghost next: { Self → UserCache };
 
     /// Does one command, at this moment or at the cache's own where that is later. The outcome is
-    /// given twice, one to answer and one to keep. All memory is taken before anything that shows
-    /// changes, so a refusal changes nothing.
+    /// given once to answer, and once more to keep where `keep` says so. All memory is taken before
+    /// anything that shows changes, so a refusal changes nothing.
     fn act(
         &mut self,
         alloc: Global,
         now: Moment,
         command: &Command,
-    ) -> Result<(Outcome, Outcome), NoMemory>
-        ensures outcome { IfOk result (λ r. r.0 ≡ (act (settled self.old) now command.now).0) }
-        ensures kept { IfOk result (λ r. r.1 ≡ (act (settled self.old) now command.now).0) }
+        keep: Journal,
+    ) -> Result<Acted, NoMemory>
+        ensures outcome { IfOk result (λ r. r.answer ≡ (act (settled self.old) now command.now).0) }
+        ensures kept { IfOk result (λ r. r.kept
+            ≡ kept_by keep (act (settled self.old) now command.now).0) }
         ensures state { OnOk result (settled self.new
             ≡ (act (settled self.old) now command.now).1) }
         ensures unchanged_on_err { OnErr result (settled self.new ≡ settled self.old) }

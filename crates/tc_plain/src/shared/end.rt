@@ -1,7 +1,10 @@
 //! How commands end that show no item.
 ghost use Rattle.std.specs.Prelude.{◌≡◌};
+ghost use Rattle.tc_plain.specs.Keeping.{kept_by};
 ghost use Rattle.tc_plain.specs.Plans.{outcome_of};
 
+use crate::shared::acted::Acted;
+use tc_past::Journal;
 use tc_stats::Outcome;
 
 /// How a command ends that shows no item: an outcome that takes no memory.
@@ -42,10 +45,18 @@ impl End {
         }
     }
 
-    /// The outcome twice, one to answer and one to keep.
-    pub fn twice(self) -> (Outcome, Outcome)
-        ensures { result ≡ (outcome_of self, outcome_of self) }
+    /// What a command gives that ends so.
+    pub fn acted(self, keep: Journal) -> Acted
+        ensures answer { result.answer ≡ outcome_of self }
+        ensures kept { result.kept ≡ kept_by keep (outcome_of self) }
     {
-        (self.outcome(), self.outcome())
+        let kept = match keep {
+            Journal::On => Some(self.outcome()),
+            Journal::Off => None,
+        };
+        Acted {
+            answer: self.outcome(),
+            kept,
+        }
     }
 }

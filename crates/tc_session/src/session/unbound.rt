@@ -2,33 +2,29 @@
 ghost use Rattle.std.specs.Prelude.{◌≡◌, ◌≢◌, ◌≤◌, ◌++◌, None, Some, codes};
 ghost use Rattle.tc_model.specs.Connection.{Unbound, Nothing};
 ghost use Rattle.tc_feed.specs.declared.request.Request.TheVariants.{Ask};
-ghost use Rattle.tc_grammar.specs.declared.command.Command.TheVariants.{Store};
-ghost use Rattle.tc_session.specs.SessionView.{want_of, reply_room, needed_room, turn_unbound, turn_login};
+ghost use Rattle.tc_session.specs.SessionView.{want_of, reply_room, needed_room, turn_unbound, turn_login, IsDone};
 ghost use Rattle.tc_session.specs.Texts.{unless_quiet};
 
-use super::{Session, Stage};
+use super::{Phase, Session};
 use crate::Want;
 use crate::news::{News, named};
 use tc_feed::Request;
-use tc_grammar::{Command, Fault, Head, StoreKind};
+use tc_grammar::{Command, Fault, StoreKind};
 use tc_users::Users;
 
 impl Session {
     /// What a request means before the connection is bound.
-    pub(super) fn greet(&mut self, users: &Users, request: Option<Request>) -> Want
+    pub(super) fn serve_unbound(&mut self, users: &Users, request: Option<Request>) -> Want
         requires room { needed_room ≤ self.old.room }
         requires unbound { self.old.endpoint.phase ≡ Unbound }
-        ensures want { want_of result ≡ (turn_unbound users.now self.old request).want }
+        ensures done { IsDone (turn_unbound users.now self.old request) self.old self.new result }
         ensures rests { want_of result ≡ Nothing → request ≡ None }
-        ensures endpoint { self.new.endpoint ≡ (turn_unbound users.now self.old request).endpoint }
-        ensures said { self.new.out ≡ self.old.out
-            ++ (turn_unbound users.now self.old request).said }
         ensures reader { self.new.endpoint.reader ≡ self.old.endpoint.reader }
         ensures room { reply_room ≤ self.new.room }
     {
         match request {
             None => Want::Nothing,
-            Some(Request::Ask(command)) => self.greet_command(users, &command),
+            Some(Request::Ask(command)) => self.serve_unbound_command(users, &command),
             Some(Request::Refused { fault, quiet }) => {
                 self.note_fault(fault);
                 self.fail(fault, quiet)
@@ -45,47 +41,22 @@ impl Session {
         }
     }
 
-    /// What a command means before the connection is bound.
-    fn greet_command(&mut self, users: &Users, command: &Command) -> Want
+    /// What a command means before the connection is bound: a `set` is a login.
+    fn serve_unbound_command(&mut self, users: &Users, command: &Command) -> Want
         requires room { needed_room ≤ self.old.room }
         requires unbound { self.old.endpoint.phase ≡ Unbound }
-        ensures want { want_of result
-            ≡ (turn_unbound users.now self.old (Some (Ask command.now))).want }
+        ensures done { IsDone (turn_unbound users.now self.old (Some (Ask command.now)))
+            self.old self.new result }
         ensures busy { want_of result ≢ Nothing }
-        ensures endpoint { self.new.endpoint
-            ≡ (turn_unbound users.now self.old (Some (Ask command.now))).endpoint }
-        ensures said { self.new.out ≡ self.old.out
-            ++ (turn_unbound users.now self.old (Some (Ask command.now))).said }
         ensures reader { self.new.endpoint.reader ≡ self.old.endpoint.reader }
         ensures room { reply_room ≤ self.new.room }
     {
         match command {
-            Command::Store(head, blob) => self.greet_store(users, head, blob.as_slice()),
-            Command::Quit => self.close(),
-            _ => {
-                self.say_fault(Fault::Unauthenticated, command.is_quiet());
-                Want::Said
+            Command::Quit => return self.close(),
+            Command::Store(head, blob) if matches!(head.kind, StoreKind::Set) => {
+                self.log_in(users, head.quiet, blob.as_slice());
             }
-        }
-    }
-
-    /// What a storage command means before the connection is bound: a `set` is a login.
-    fn greet_store(&mut self, users: &Users, head: &Head, blob: &[u8]) -> Want
-        requires room { needed_room ≤ self.old.room }
-        requires unbound { self.old.endpoint.phase ≡ Unbound }
-        ensures want { want_of result
-            ≡ (turn_unbound users.now self.old (Some (Ask (Store head.now blob.now)))).want }
-        ensures busy { want_of result ≢ Nothing }
-        ensures endpoint { self.new.endpoint
-            ≡ (turn_unbound users.now self.old (Some (Ask (Store head.now blob.now)))).endpoint }
-        ensures said { self.new.out ≡ self.old.out
-            ++ (turn_unbound users.now self.old (Some (Ask (Store head.now blob.now)))).said }
-        ensures reader { self.new.endpoint.reader ≡ self.old.endpoint.reader }
-        ensures room { reply_room ≤ self.new.room }
-    {
-        match head.kind {
-            StoreKind::Set => self.log_in(users, head.quiet, blob),
-            _ => self.say_fault(Fault::Unauthenticated, head.quiet),
+            _ => self.say_fault(Fault::Unauthenticated, command.is_quiet()),
         }
         Want::Said
     }
@@ -107,7 +78,7 @@ impl Session {
                 self.say_fault(Fault::AuthenticationFailure, quiet);
             }
             Some(user) => {
-                self.stage = Stage::Bound(user);
+                self.phase = Phase::Bound(user);
                 self.say_stored(quiet);
             }
         }

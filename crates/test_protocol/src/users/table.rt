@@ -12,8 +12,8 @@ listen = \"127.0.0.1:11211\"\n\n\
 # How many threads serve connections: 1 to 64. Users are dealt out to them in the order below, so\n\
 # that one thread serves all connections of a user; `serve --spread` has all threads serve each user.\n\
 workers = 4\n\n\
-# How many of a user's last commands are kept with their outcomes, so that an audit can replay them:\n\
-# 16 to 65536, and 16 where it is left out.\n\
+# How many of a user's last commands `serve --audit` keeps with their outcomes, so that an audit can\n\
+# replay them: 16 to 65536, and 16 where it is left out.\n\
 # journal = 16\n\n\
 # Limits on connections. Each may be left out, and is no limit then. Seconds are 1 to 86400, and\n\
 # connections 1 to 1024.\n\n\

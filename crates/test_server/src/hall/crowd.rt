@@ -277,7 +277,7 @@ fn is_entered<C: Cache, N: Naming>(
     command: &Command,
 ) -> bool {
     match closed.entry_of(receipt) {
-        Some(entry) => entry.command == *command && entry.outcome == receipt.slip.outcome,
-        None => false,
+        Ok(Some(entry)) => entry.command == *command && entry.outcome == receipt.slip.outcome,
+        Ok(None) | Err(_) => false,
     }
 }

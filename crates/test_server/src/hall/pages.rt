@@ -1,4 +1,5 @@
-//! A page of 16 entries: which receipts still have theirs once pages were turned.
+//! A page of 16 entries: which receipts still have theirs once pages were turned, and none where the
+//! journal is off.
 ghost use Rattle.std.specs.Prelude.{◌≡◌};
 
 use super::commands::{get, set, shows};
@@ -9,12 +10,56 @@ use std::process::Abort;
 use std::sync::Wait;
 use std::test::*;
 use tc_grammar::Command;
-use tc_locked::{Closed, Hall, Naming, Receipt, Seat};
+use tc_locked::{Closed, Hall, Naming, Receipt, Seat, Unread};
 use tc_plain::Cache;
+use tc_users::UserNo;
 
 #[test]
 fn forty_calls_turn_two_pages(rt: HostRuntime) -> Result<(), Fail> {
     play(&rt, rt.alloc(), 1, 16, Scene::TurnsPages)
+}
+
+#[test]
+fn a_hall_whose_journal_is_off_counts_its_calls_and_shows_none(
+    rt: HostRuntime,
+) -> Result<(), Fail> {
+    play(&rt, rt.alloc(), 1, 16, Scene::KeepsNothing)
+}
+
+/// Makes a set and 39 gets in a hall whose journal is off, and closes it.
+pub fn keep_nothing<C: Cache, N: Naming, R: Wait + Abort>(
+    rt: &R,
+    alloc: Global,
+    hall: Hall<C, N>,
+    mut seats: Vec<Seat<N>>,
+    all: usize,
+) -> Result<(), Fail>
+    requires { all ≡ N.terms.seats }
+{
+    let receipts = set_and_forty(rt, alloc, &hall, first(rt, &mut seats))?;
+    assert!(rt; hall.journal_bytes(rt, UserNo::new(1)) == 0);
+    let closed = closed(rt, hall, seats);
+    assert!(rt; count(rt, &closed, all, 0, 1) == 40);
+    assert!(rt; shows_no_page(alloc, &closed, &receipts));
+    Ok(())
+}
+
+/// Whether the page can't be read, nor audited, nor the last receipt's entry shown.
+fn shows_no_page<C: Cache, N: Naming>(
+    alloc: Global,
+    closed: &Closed<C, N>,
+    receipts: &[Receipt<N>],
+) -> bool {
+    let user = UserNo::new(1);
+    if !matches!(closed.page(user), Err(Unread::Off))
+        || !matches!(closed.audit(alloc, user), Err(Unread::Off))
+    {
+        return false;
+    }
+    match receipts.last() {
+        Some(receipt) => matches!(closed.entry_of(receipt), Err(Unread::Off)),
+        None => false,
+    }
 }
 
 /// Makes a set and 39 gets on pages of 16 entries, and closes the hall.
@@ -88,7 +133,8 @@ fn expect_forty<C: Cache, N: Naming, R: Abort>(
 /// Whether the first 32 receipts have no entry left, and the others theirs.
 fn has_last_eight<C: Cache, N: Naming>(closed: &Closed<C, N>, receipts: &[Receipt<N>]) -> bool {
     for (place, receipt) in receipts.iter().enumerate() {
-        if closed.entry_of(receipt).is_some() != (place >= 32) {
+        let entry = closed.entry_of(receipt);
+        if !matches!(entry, Ok(found) if found.is_some() == (place >= 32)) {
             return false;
         }
     }

@@ -4,6 +4,7 @@ use std::alloc::Global;
 use std::test::*;
 use tc_grammar::Command;
 use tc_item::Moment;
+use tc_kinds::Journal;
 use tc_locked::{Audit, Closed, Entry, Naming, audit_page};
 use tc_plain::{Cache, Plain, act};
 use tc_stats::Outcome;
@@ -39,7 +40,7 @@ fn is_shown<C: Cache, N: Naming>(
     user: UserNo,
     entries: usize,
 ) -> Result<bool, Fail> {
-    match (closed.opening(alloc, user)?, closed.page(user)) {
+    match (closed.opening(alloc, user)?, closed.page(user)?) {
         (Some(opening), Some(page)) => leads(alloc, opening, page, entries),
         _ => Ok(false),
     }
@@ -64,7 +65,7 @@ fn entry_of(
     command: Command,
 ) -> Result<Entry, Fail> {
     let moment = Moment::new(5);
-    let (_, outcome) = act(cache, alloc, moment, &command)?;
+    let outcome = act(cache, alloc, moment, &command, Journal::Off)?.answer;
     Ok(Entry {
         seat: 0,
         tally: number,

@@ -1,4 +1,4 @@
-use Rattle.std.proofs.Common.{◌≡◌, ◌∙◌, ap, Option, None}
+use Rattle.std.proofs.Common.{◌∙◌, ap, Option, None}
 use Rattle.std.proofs.lemmas.List.{get_or_default}
 use Rattle.tc_plain.specs.declared.shared.entry.Entry.{Entry}
 use Rattle.tc_partition.specs.Agreement.{set_at}

@@ -1,4 +1,4 @@
-use Rattle.std.proofs.Common.{◌≡◌, ◌-◌, ◌≤◌, ◌++◌, [], ◌∷◌, take, refl, sym, ap, subst, ◌∙◌}
+use Rattle.std.proofs.Common.{◌≡◌, ◌-◌, ◌≤◌, ◌++◌, [], take, refl, sym, ap, subst, ◌∙◌}
 use Rattle.tc_model.specs.Areas.{Limits}
 use Rattle.tc_plain.specs.Entries.{weight}
 use Rattle.tc_partition.specs.Rebuilt.{Fit, put_back}

@@ -1,4 +1,4 @@
-use Rattle.std.proofs.Common.{◌≡◌, ◌≤◌, ◌+◌, arith, length, vec_len, rules, codes, take, append_assoc, refl}
+use Rattle.std.proofs.Common.{◌≡◌, ◌≤◌, ◌+◌, arith, length, vec_len, rules, codes, append_assoc, refl}
 use Rattle.std.proofs.lemmas.List.{take_all}
 use Rattle.tc_session.specs.Unsent.{reach}
 use Rattle.tc_session.specs.Replies.{values_text}

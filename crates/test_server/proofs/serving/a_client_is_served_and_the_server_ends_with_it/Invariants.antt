@@ -1,4 +1,5 @@
 use Rattle.std.proofs.Common.{◌+◌, map}
+use Rattle.tc_past.specs.declared.journal.Journal.TheVariants.{On}
 use Rattle.tc_fresh.specs.Beginning.{fresh_cache}
 use Rattle.test_server.proofs.serving.a_client_is_served_and_the_server_ends_with_it.Given as goal
 
@@ -10,5 +11,6 @@ ghosts-serve g a = record {
     begins = map fresh_cache a.beginning.settings.users;
     seats = a.beginning.settings.workers + 1;
     journal = a.beginning.settings.journal;
+    keeps = On;
   };
 }

@@ -6,5 +6,5 @@ use Rattle.test_server.proofs.stage.play_over.Given as goal
 abbrev pub ghosts-perform_on : goal.ghosts-perform_on
 ghosts-perform_on g a = record {
   table = a.beginning.opened;
-  terms = record { begins = map fresh_cache a.beginning.users; seats = a.seats; journal = a.journal };
+  terms = record { begins = map fresh_cache a.beginning.users; seats = a.seats; journal = a.journal; keeps = a.keeps };
 }

@@ -14,7 +14,7 @@ invariant_of-result c =
     heads.ok.0 c.in_ok-resize.ensures.items)
     (resized c.args.slots (vec_len links) free links.items c.resize-2.new.self.items c.in_ok-links.ensures.items
     links.ok.0 c.in_ok-resize-2.ensures.items)
-    c.next_power_of_two-buckets.ensures.lower_bound (omega (arith, c.if-slots-gt-MOST_SLOTS.false))
+    c.next_power_of_two-buckets.ensures.lower_bound (omega (arith, c.requires))
 
 pub returns : goal.returns
 returns c =

@@ -6,7 +6,7 @@ use Rattle.std.proofs.lemmas.List.Elements.{All-push}
 use Rattle.std.proofs.lemmas.Bool.Decides.{eqb_tells}
 use Rattle.std.proofs.Math.Dec.{eqb}
 use Rattle.tc_locked.specs.Closing.{ClosedState, ShutState, IsBookOf, HasUser, with_logs, book_of}
-use Rattle.tc_locked.proofs.ClosedHalls.{book_found, none_found, book_of-found, book_of-none, user_known}
+use Rattle.tc_locked.proofs.ClosedHalls.{book_found, none_found, book_of-found, book_of-none, user_known, keeps_of}
 use Rattle.tc_locked.proofs.closed.Closed.find.Goals as goal
 
 eqb-apart : (a b : ℕ) → a ≢ b → eqb a b ≡ false
@@ -33,6 +33,18 @@ returns-then-user-number-clause-known g c =
     let i = c.loop-shut.shut-index in
     let x = c.shut-item.result in
     user_known g.N.Naming.terms c.args.user (with_logs c.self.inside.books.items c.self.inside.all.me.0.books) x
+    (book_found c.args.user c.self.inside.books.items c.self.inside.all.me.0.books i x c.self.invariant.2
+    (subst (λ (l : List ShutState). i < length l) e c.loop-shut-test.true)
+    (c.shut-item.is ∙ ap (λ (l : List ShutState). get_or l i x) e)
+    (sym c.user.ensures ∙ c.if-user-number.true ∙ c.number-number.ensures))
+    c.self.invariant.0
+
+pub returns-then-user-number-clause-keeps : goal.returns-then-user-number-clause-keeps
+returns-then-user-number-clause-keeps g c =
+    let e = c.deref-shut-items.ensures.value in
+    let i = c.loop-shut.shut-index in
+    let x = c.shut-item.result in
+    keeps_of g.N.Naming.terms c.args.user (with_logs c.self.inside.books.items c.self.inside.all.me.0.books) x
     (book_found c.args.user c.self.inside.books.items c.self.inside.all.me.0.books i x c.self.invariant.2
     (subst (λ (l : List ShutState). i < length l) e c.loop-shut-test.true)
     (c.shut-item.is ∙ ap (λ (l : List ShutState). get_or l i x) e)

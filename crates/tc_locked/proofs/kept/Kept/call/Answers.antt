@@ -1,10 +1,10 @@
 use Rattle.std.proofs.Common.{ℕ, ◌<◌, ◌≡◌, [], ◌∷◌, ◌++◌, sym, ap, ◌∙◌, List, subst, length}
 use Rattle.tc_locked.specs.declared.entry.Slip.{Slip}
 use Rattle.tc_locked.specs.declared.view.Note.{Note}
-use Rattle.tc_locked.specs.Books.{BookState, entry_of, paged}
+use Rattle.tc_locked.specs.Books.{entry_of, paged}
 use Rattle.tc_locked.specs.Views.{note, book_view, seat_view, of_user}
 use Rattle.tc_locked.specs.KeptBooks.{KeptState, SeatState, IsKept, log_of, notes_of, kept_after, seat_after}
-use Rattle.tc_locked.proofs.KeptBooks.{kept_call, entry_is, tally_is}
+use Rattle.tc_locked.proofs.KeptBooks.{kept_call, tally_is}
 use Rattle.tc_locked.proofs.kept.Kept.call.Given.{Over}
 use Rattle.tc_locked.proofs.kept.Kept.call.Goals as goal
 
@@ -22,12 +22,8 @@ noted g c =
     (entry_of c.self.inside.book c.seat.inside.number c.args.now c.args.conn c.args.command.now)
 
 note_is : (g : Over) (c : goal.After-drop-self-inside g)
-    → note c.self.inside.user c.in_ok-called.called.slip.page c.last.result.now ≡ noted g c
-note_is g c =
-    let entry = entry_is c.call_paged.new.self.entries (paged c.args.journal c.self.inside.book).entries
-    (entry_of c.self.inside.book c.seat.inside.number c.args.now c.args.conn c.args.command.now) c.last.result.now
-    (ap (λ (s : BookState). s.entries) c.in_ok-called.ensures.entered) c.last.ensures in
-    λ i. note c.self.inside.user (c.in_ok-called.ensures.slip i).page (entry i)
+    → note c.self.inside.user c.in_ok-called.called.slip.page c.in_ok-called.called.entry ≡ noted g c
+note_is g c = λ i. note c.self.inside.user (c.in_ok-called.ensures.slip i).page (c.in_ok-called.ensures.entry i)
 
 kept_is : (g : Over) (c : goal.After-drop-self-inside g)
     → kept_after c.args.journal (kept_before g c) c.seat.inside.number c.args.now c.args.conn c.args.command.now

@@ -4,6 +4,7 @@ use Rattle.std.proofs.lemmas.List.{length-drop}
 use Rattle.tc_readbuf.specs.Places.{places}
 use Rattle.tc_plain.specs.UserCache.{UserCache, advance}
 use Rattle.tc_plain.specs.Doing.{with_live, all_looked_up}
+use Rattle.tc_plain.specs.Keeping.{kept_by}
 use Rattle.tc_partition.specs.WaitingSlots.{waiting_of}
 use Rattle.tc_partition.specs.Delayed.{Delayed, waits_after}
 use Rattle.tc_partition.proofs.OneLook.{waits_room, waits_behind}
@@ -21,7 +22,8 @@ returns-clause-first c =
 pub returns-clause-second : goal.returns-clause-second
 returns-clause-second c =
     c.in_ok-both.ensures.second
-    ∙ ap (λ (k : UserCache). (all_looked_up (λ i. i) c.args.keys.now (advance k c.args.now).live).0) c.drain.ensures.settled
+    ∙ ap (λ (k : UserCache). kept_by c.args.keep (all_looked_up (λ i. i) c.args.keys.now (advance k c.args.now).live).0)
+    c.drain.ensures.settled
 
 pub returns-clause-state : goal.returns-clause-state
 returns-clause-state c =

@@ -4,6 +4,7 @@ use Rattle.std.proofs.lemmas.List.{length-append}
 use Rattle.tc_plain.specs.EvictionState.{advanced}
 use Rattle.tc_plain.specs.UserCache.{advance}
 use Rattle.tc_plain.specs.Doing.{with_live, all_looked_up}
+use Rattle.tc_plain.specs.Keeping.{kept_by}
 use Rattle.tc_partition.specs.Deferred.{IsLazy, settled}
 use Rattle.tc_partition.specs.WaitingSlots.{lazy_by, waiting_of, ArePlaced}
 use Rattle.tc_item.specs.declared.slot.Slot.{Slot}
@@ -24,8 +25,8 @@ seek_hits-requires-clause-hashed c =
 pub note_all_found-requires-clause-long : goal.note_all_found-requires-clause-long
 note_all_found-requires-clause-long c =
     ap length c.as_slice-2.ensures
-    ∙ found_long c.later-moment.result c.args.keys.now c.in_ok-first.found.items c.self.inside.cache.live
-    c.in_ok-first.ensures.seen
+    ∙ found_long c.later-moment.result c.args.keys.now c.in_ok-hits.found.items c.self.inside.cache.live
+    c.in_ok-hits.ensures.seen
     ∙ sym (hashed_long c.args.keys.now c.in_ok-wanted.wanted.items c.in_ok-wanted.ensures)
     ∙ sym (ap length c.as_slice-3.ensures)
 
@@ -52,13 +53,13 @@ invariant_of-self c =
     let i = c.self.inside in
     let keys = c.args.keys.now in
     let m = c.later-moment.result in
-    let found = c.in_ok-first.found.items in
+    let found = c.in_ok-hits.found.items in
     let wanted = c.in_ok-wanted.wanted.items in
     let is = noted_all m i.waiting c.note_all_found.new.waiting c.as_slice-3.result.now wanted c.as_slice-2.result.now found
     c.note_all_found.ensures c.as_slice-2.ensures c.as_slice-3.ensures in
     let all = look_all_now i.cache.live i.waiting i.moment c.args.now keys wanted found m c.in_ok-wanted.ensures
     c.later-moment.ensures
-    c.self.invariant.lazy c.self.invariant.placed c.in_ok-first.ensures.seen in
+    c.self.invariant.lazy c.self.invariant.placed c.in_ok-hits.ensures.seen in
     record {
       sound = c.self.invariant.sound;
       lazy = subst (λ rs. IsLazy (lazy_by i.cache.live rs m)) (sym is) all.0;
@@ -69,26 +70,26 @@ pub returns-clause-first : goal.returns-clause-first
 returns-clause-first c =
     let i = c.self.inside in
     let keys = c.args.keys.now in
-    c.in_ok-first.ensures.hits
+    c.in_ok-hits.ensures.hits
     ∙ peeked_hits (lazy_by i.cache.live i.waiting i.moment) c.args.now c.later-moment.result keys c.self.invariant.lazy
     c.later-moment.ensures
     ∙ ap (λ (z : Delayed). (all_looked_up (λ i. i) keys (advanced (settled (lazy_in z)) c.args.now)).0) c.self.view_is
 
 pub returns-clause-second : goal.returns-clause-second
-returns-clause-second c = c.in_ok-second.ensures ∙ returns-clause-first c
+returns-clause-second c = c.in_ok-kept.ensures ∙ ap (λ hits. kept_by c.args.keep hits) (returns-clause-first c)
 
 pub returns-clause-state : goal.returns-clause-state
 returns-clause-state c =
     let i = c.self.inside in
     let keys = c.args.keys.now in
     let m = c.later-moment.result in
-    let found = c.in_ok-first.found.items in
+    let found = c.in_ok-hits.found.items in
     let wanted = c.in_ok-wanted.wanted.items in
     let is = noted_all m i.waiting c.note_all_found.new.waiting c.as_slice-3.result.now wanted c.as_slice-2.result.now found
     c.note_all_found.ensures c.as_slice-2.ensures c.as_slice-3.ensures in
     let all = look_all_now i.cache.live i.waiting i.moment c.args.now keys wanted found m c.in_ok-wanted.ensures
     c.later-moment.ensures
-    c.self.invariant.lazy c.self.invariant.placed c.in_ok-first.ensures.seen in
+    c.self.invariant.lazy c.self.invariant.placed c.in_ok-hits.ensures.seen in
     ap (with_live (cache_of i.cache)) (ap (λ rs. settled (lazy_by i.cache.live rs m)) is ∙ all.2)
     ∙ ap (λ (z : Delayed). with_live (advance (settled_in z) c.args.now) (all_looked_up (λ i. i) keys
     (advance (settled_in z) c.args.now).live).1)
@@ -99,11 +100,11 @@ returns-clause-waits c =
     let i = c.self.inside in
     let keys = c.args.keys.now in
     let m = c.later-moment.result in
-    let found = c.in_ok-first.found.items in
+    let found = c.in_ok-hits.found.items in
     let wanted = c.in_ok-wanted.wanted.items in
     let is = noted_all m i.waiting c.note_all_found.new.waiting c.as_slice-3.result.now wanted c.as_slice-2.result.now found
     c.note_all_found.ensures c.as_slice-2.ensures c.as_slice-3.ensures in
-    let long = found_long m keys found i.cache.live c.in_ok-first.ensures.seen in
+    let long = found_long m keys found i.cache.live c.in_ok-hits.ensures.seen in
     let same = hashed_long keys wanted c.in_ok-wanted.ensures in
     length_map _ c.note_all_found.new.waiting ∙ ap length is ∙ length-append i.waiting (all_noted m wanted found)
     ∙ omega (

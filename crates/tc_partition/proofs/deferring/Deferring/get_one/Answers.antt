@@ -3,6 +3,7 @@ use Rattle.std.proofs.Common.{◌∷◌, [], sym, ◌∙◌, ap, subst, arith}
 use Rattle.tc_plain.specs.EvictionState.{advanced}
 use Rattle.tc_plain.specs.UserCache.{advance}
 use Rattle.tc_plain.specs.Doing.{with_live, all_looked_up}
+use Rattle.tc_plain.specs.Keeping.{kept_by}
 use Rattle.tc_partition.specs.Deferred.{hit, settled}
 use Rattle.tc_partition.specs.WaitingSlots.{lazy_by, waiting_of}
 use Rattle.tc_partition.specs.SlotCaches.{cache_of}
@@ -52,9 +53,11 @@ returns-clause-second c =
     let key = c.args.key.now in
     let m = c.later-moment.result in
     c.in_ok-both.ensures.second
-    ∙ shown_now (lazy_by i.cache.live i.waiting i.moment) c.args.now m key _ c.self.invariant.lazy c.later-moment.ensures
+    ∙ ap (λ hits. kept_by c.args.keep hits) (
+    shown_now (lazy_by i.cache.live i.waiting i.moment) c.args.now m key _ c.self.invariant.lazy c.later-moment.ensures
     (c.held_at.ensures.placed ∙ placed_sought c.seek_from-place.result m key i.cache.live c.seek_from-place.ensures)
     ∙ ap (λ (z : Delayed). (all_looked_up (λ i. i) (key ∷ []) (advanced (settled (lazy_in z)) c.args.now)).0) c.self.view_is
+    )
 
 pub returns-clause-state : goal.returns-clause-state
 returns-clause-state c =

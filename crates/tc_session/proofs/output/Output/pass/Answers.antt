@@ -1,4 +1,4 @@
-use Rattle.std.proofs.Common.{◌≡◌, ◌≤◌, ◌+◌, ◌-◌, ◌∙◌, ap, arith, rules, sym, drop, length, vec_len}
+use Rattle.std.proofs.Common.{◌≡◌, ◌≤◌, ◌+◌, ◌-◌, ◌∙◌, ap, arith, rules, drop, length, vec_len}
 use Rattle.tc_session.specs.Unsent.{joined, reach}
 use Rattle.tc_session.proofs.Waiting.{piece_sent, reach_first}
 use Rattle.tc_session.proofs.output.Output.pass.Goals as goal

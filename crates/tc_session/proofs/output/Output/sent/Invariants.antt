@@ -1,4 +1,4 @@
-use Rattle.std.proofs.Common.{◌≡◌, ◌<◌, ℕ, drop, length}
+use Rattle.std.proofs.Common.{◌≡◌, ◌<◌, drop, length}
 use Rattle.tc_session.proofs.output.Output.sent.Given as goal
 
 abbrev pub invariant-loop-left : goal.invariant-loop-left

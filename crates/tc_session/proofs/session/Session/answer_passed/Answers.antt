@@ -1,4 +1,4 @@
-use Rattle.std.proofs.Common.{◌≡◌, ◌++◌, ◌∙◌, ap}
+use Rattle.std.proofs.Common.{◌++◌, ◌∙◌, ap}
 use Rattle.tc_grammar.specs.declared.fault.Fault.TheVariants.{NoMemory as OutOfMemory}
 use Rattle.tc_session.specs.SessionView.{SessionView}
 use Rattle.tc_session.specs.Texts.{fault_line, unless_quiet}

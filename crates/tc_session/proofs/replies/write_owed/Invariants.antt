@@ -1,6 +1,6 @@
 use Rattle.std.proofs.Common.{◌≡◌, ◌+◌, ◌≤◌, ◌++◌, drop}
 use Rattle.tc_session.specs.Owing.{owed_text, owed_room, AreMeasured}
-use Rattle.tc_session.proofs.replies.settle.Given as goal
+use Rattle.tc_session.proofs.replies.write_owed.Given as goal
 
 abbrev pub invariant-loop-reply : goal.invariant-loop-reply
 invariant-loop-reply l = record {

@@ -1,5 +1,5 @@
 use Rattle.std.proofs.Common.{append_assoc}
-use Rattle.tc_session.proofs.reply.write_version.Goals as goal
+use Rattle.tc_session.proofs.answering.write_version.Goals as goal
 
 pub returns : goal.returns
 returns c =

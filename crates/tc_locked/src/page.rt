@@ -1,0 +1,182 @@
+//! The entries of a page: in proofs always, and in memory where they are kept.
+ghost use Rattle.std.specs.Prelude.{◌≡◌, ◌+◌, ◌^◌, ◌<◌, ◌≤◌, ◌++◌, ◌∷◌, [], length, take, vec_len, vec_capacity};
+ghost use Rattle.std.specs.Prelude.{IfOk, OnOk, IfErr};
+ghost use Rattle.tc_past.specs.declared.journal.Journal.TheVariants.{On, Off as IsOff};
+ghost use Rattle.tc_plain.specs.Keeping.{kept_by};
+ghost use Rattle.tc_locked.specs.Witnesses.{entry_from};
+ghost use Rattle.tc_locked.specs.Pages.{entries_on, IsPage, HasRoom};
+
+use crate::entry::{Entry, Numbers};
+use crate::old_entries::prefetch;
+use crate::unread::Unread;
+use crate::witness::Witness;
+use http_server::Log;
+use std::alloc::Global;
+use tc_grammar::Command;
+use tc_item::NoMemory;
+use tc_past::Journal;
+use tc_plain::Acted;
+use tc_stats::Outcome;
+
+/// The entries of a page. Where the journal is off, nobody can read them, and they take no memory.
+#[derive(Drop)]
+pub struct Page {
+    /// The entries, in proofs alone.
+    pub(crate) noted: Log<Witness, Numbers>,
+    /// How many there are.
+    pub(crate) used: usize,
+    /// The entries, and behind them such of the page before as are not replaced yet.
+    pub(crate) kept: Vec<Entry>,
+    /// Whether they are kept.
+    pub(crate) journal: Journal,
+}
+
+/// Puts an entry behind the first `used`, in the place of the one there, if there is one.
+fn put(entries: &mut Vec<Entry>, used: usize, entry: Entry)
+    requires within { used ≤ length entries.old.items }
+    requires room { length entries.old.items ≤ used
+        → vec_len entries.old < vec_capacity entries.old }
+    ensures entries { take (used + 1) entries.new.items
+        ≡ take used entries.old.items ++ entry ∷ [] }
+    ensures within { used + 1 ≤ length entries.new.items }
+{
+    if used < entries.len() {
+        prefetch(entries.as_slice(), used);
+        entries[used] = entry;
+    } else {
+        entries.push_reserved(entry);
+    }
+}
+
+/// Keeps an entry behind the first `used`, of what is given to keep of it.
+fn keep(
+    entries: &mut Vec<Entry>,
+    used: usize,
+    journal: Journal,
+    numbers: Numbers,
+    command: &Command,
+    copy: Option<Command>,
+    answer: &Outcome,
+    outcome: Option<Outcome>,
+)
+    requires copy { copy ≡ kept_by journal command.now }
+    requires outcome { outcome ≡ kept_by journal answer.now }
+    requires within { journal ≡ On → used ≤ length entries.old.items }
+    requires room { journal ≡ On → length entries.old.items ≤ used
+        → vec_len entries.old < vec_capacity entries.old }
+    ensures entries { journal ≡ On → take (used + 1) entries.new.items
+        ≡ take used entries.old.items ++ entry_from numbers command.now answer.now ∷ [] }
+    ensures within { journal ≡ On → used + 1 ≤ length entries.new.items }
+{
+    match (copy, outcome) {
+        (Some(command), Some(outcome)) => put(entries, used, Entry::of(numbers, command, outcome)),
+        (_, _) => {}
+    }
+}
+
+impl Page {
+    /// No entry.
+    pub(crate) fn new(alloc: Global, journal: Journal) -> Page
+        ensures page { IsPage result }
+        ensures entries { entries_on result ≡ [] }
+        ensures journal { result.journal ≡ journal }
+    {
+        Page {
+            noted: Log::new(),
+            used: 0,
+            kept: Vec::new(alloc),
+            journal,
+        }
+    }
+
+    /// Room for an entry more, where they are kept.
+    pub(crate) fn reserve(&mut self) -> Result<(), NoMemory>
+        requires { IsPage self.old }
+        ensures page { IsPage self.new }
+        ensures entries { entries_on self.new ≡ entries_on self.old }
+        ensures journal { self.new.journal ≡ self.old.journal }
+        ensures room { OnOk result (HasRoom self.new) }
+    {
+        match self.journal {
+            Journal::On => {
+                if self.kept.len() <= self.used {
+                    self.kept.reserve(1)?;
+                }
+                Ok(())
+            }
+            Journal::Off => Ok(()),
+        }
+    }
+
+    /// An entry more: its numbers, its command with the copy that was made of it to keep, and what the
+    /// command came to.
+    pub(crate) fn add(
+        &mut self,
+        numbers: Numbers,
+        command: &Command,
+        copy: Option<Command>,
+        acted: Acted,
+    ) -> (Outcome, Witness)
+        requires page { IsPage self.old }
+        requires room { HasRoom self.old }
+        requires few { length (entries_on self.old) + 1 < 2 ^ 64 }
+        requires copy { copy ≡ kept_by self.old.journal command.now }
+        requires kept { acted.kept ≡ kept_by self.old.journal acted.answer }
+        ensures page { IsPage self.new }
+        ensures entries { entries_on self.new
+            ≡ entries_on self.old ++ entry_from numbers command.now acted.answer ∷ [] }
+        ensures journal { self.new.journal ≡ self.old.journal }
+        ensures answer { result.0 ≡ acted.answer }
+        ensures entry { result.1 ≡ entry_from numbers command.now acted.answer }
+    {
+        let Acted { answer, kept } = acted;
+        let witness = Witness::of(numbers, command, &answer);
+        self.noted = self.noted.and(&witness, &numbers);
+        keep(
+            &mut self.kept,
+            self.used,
+            self.journal,
+            numbers,
+            command,
+            copy,
+            &answer,
+            kept,
+        );
+        self.used += 1;
+        (answer, witness)
+    }
+
+    /// A new page: no entry, in the same memory. What the page before kept stays until new entries take
+    /// its place, one a call.
+    pub(crate) fn clear(&mut self)
+        requires { IsPage self.old }
+        ensures page { IsPage self.new }
+        ensures entries { entries_on self.new ≡ [] }
+        ensures journal { self.new.journal ≡ self.old.journal }
+        ensures room { 0 < length (entries_on self.old) → HasRoom self.new }
+    {
+        self.noted = Log::new();
+        self.used = 0;
+    }
+
+    /// How many entries there are.
+    pub(crate) fn len(&self) -> usize
+        requires { IsPage self.now }
+        ensures { result ≡ length (entries_on self.now) }
+    {
+        self.used
+    }
+
+    /// The entries, in order; an error exactly where they are not kept.
+    pub(crate) fn entries(&self) -> Result<&[Entry], Unread>
+        requires { IsPage self.now }
+        ensures entries { IfOk result (λ entries. entries.now ≡ entries_on self.now) }
+        ensures kept { IfOk result (λ _. self.now.journal ≡ On) }
+        ensures off { IfErr result (λ _. self.now.journal ≡ IsOff) }
+    {
+        match self.journal {
+            Journal::On => Ok(&self.kept[..self.used]),
+            Journal::Off => Err(Unread::Off),
+        }
+    }
+}
