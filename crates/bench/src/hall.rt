@@ -18,7 +18,7 @@ use std::thread::Threads;
 use std::time::Instant;
 use tc_grammar::Command;
 use tc_kinds::{Journal, Kind};
-use tc_locked::{Entry, Hall, Naming, Opened, Seat};
+use tc_locked::{CallEntry, Hall, Naming, Opened, Seat};
 use tc_partition::Fast;
 use tc_plain::Cache;
 use tc_users::Users;
@@ -252,7 +252,7 @@ fn print_entry(rt: &HostRuntime) -> Result<(), Fault> {
         calls: "entries",
         sum: "bytes",
     };
-    let sum = size_of::<Entry>() as u32;
+    let sum = size_of::<CallEntry>() as u32;
     print_count(rt, topic, Tally { calls: 1, sum })
 }
 

@@ -159,7 +159,7 @@ struct Fed<'a> {
 /// Takes all requests that are there; how many.
 fn take_all(alloc: Global, feed: &mut Feed) -> Result<u32, NoMemory> {
     let mut taken: u32 = 0;
-    for _ in 0..feed.kept() {
+    for _ in 0..feed.unread_len() {
         match feed.next(alloc, LARGEST_ITEM)? {
             None => return Ok(taken),
             Some(_) => taken = taken.wrapping_add(1),
@@ -182,7 +182,7 @@ impl Work for Fed<'_> {
     fn run(&self, alloc: Global) -> Result<Tally, NoMemory> {
         let mut feed = Feed::new(alloc);
         let calls = feed_all(alloc, &mut feed, self.stream)?;
-        let sum = bytes(self.stream.len().saturating_sub(feed.kept()));
+        let sum = bytes(self.stream.len().saturating_sub(feed.unread_len()));
         Ok(Tally { calls, sum })
     }
 }
@@ -223,7 +223,7 @@ impl Cache<'_> {
     /// Does all requests that are there; how many.
     fn serve_all(&self, alloc: Global, session: &mut Session) -> Result<u32, NoMemory> {
         let mut served: u32 = 0;
-        for _ in 0..session.kept() {
+        for _ in 0..session.unread_len() {
             match self.serve_one(alloc, session)? {
                 Turn::Served => served = served.wrapping_add(1),
                 Turn::Said => {}

@@ -16,7 +16,7 @@ use Rattle.tc_grammar.specs.declared.line.Line.{Line}
 use Rattle.tc_grammar.specs.declared.line.Line.TheVariants.{Ready, NeedsBlock, Refused as RefusedLine}
 use Rattle.tc_grammar.specs.Reading.{reading}
 use Rattle.tc_feed.specs.declared.request.Request.TheVariants.{Refused}
-use Rattle.tc_feed.specs.declared.request.Taken.{Taken}
+use Rattle.tc_feed.specs.declared.request.Framed.{Framed}
 use Rattle.tc_feed.specs.declared.passing.Passing.{Passing}
 use Rattle.tc_feed.specs.Passing.{passing_of}
 use Rattle.tc_feed.specs.Stream.{Reader, line_length, line_room, block_request, block_of, line_request, first_by, first, trimmed}
@@ -132,11 +132,11 @@ none_some : {A : Type 0} (x : A) → None ≡ Some x → ⊥
 none_some x e = grind arith
 
 -- a request with a block, where all of it is there
-whole_block : Head → ℕ → ℕ → List ℕ → Option Taken
+whole_block : Head → ℕ → ℕ → List ℕ → Option Framed
 whole_block head line n bytes = Some (record { request = block_request head n bytes; length = line + (n + 2); skip = 0 })
 
 -- a block is within its bytes
-block_within : (head : Head) (line n : ℕ) (bytes : List ℕ) (t : Taken) → block_of head line n bytes ≡ Some t
+block_within : (head : Head) (line n : ℕ) (bytes : List ℕ) (t : Framed) → block_of head line n bytes ≡ Some t
     → t.length ≤ line + length bytes
 unfolding whole_block
 block_within head line n bytes t e = go (nat_lt (length bytes) (n + 2)) refl e
@@ -148,14 +148,14 @@ block_within head line n bytes t e = go (nat_lt (length bytes) (n + 2)) refl e
         let q : line + (n + 2) ≡ t.length = ap (λ r. r.length) (same_some _ t f) in
         let w : n + 2 ≤ length bytes = ltb-false _ _ h in omega arith
 
-line_within_bytes : (line : ℕ) (bytes : List ℕ) (said : Line) (t : Taken) → line_request line bytes said ≡ Some t
+line_within_bytes : (line : ℕ) (bytes : List ℕ) (said : Line) (t : Framed) → line_request line bytes said ≡ Some t
     → t.length ≤ line + length bytes
 line_within_bytes line bytes (Ready command) t e = let q : line ≡ t.length = ap (λ r. r.length) (same_some _ t e) in omega arith
 line_within_bytes line bytes (RefusedLine fault quiet skip) t e =
     let q : line ≡ t.length = ap (λ r. r.length) (same_some _ t e) in omega arith
 line_within_bytes line bytes (NeedsBlock head n) t e = block_within head line n bytes t e
 
-first_by_within : (limit : ℕ) (u : List ℕ) (end : Option ℕ) (t : Taken) → line_length (take line_room u) ≡ end
+first_by_within : (limit : ℕ) (u : List ℕ) (end : Option ℕ) (t : Framed) → line_length (take line_room u) ≡ end
     → first_by limit u end ≡ Some t → t.length ≤ length u
 first_by_within limit u None t h e = go (nat_lt 65536 (length u)) refl e
   where
@@ -172,7 +172,7 @@ first_by_within limit u (Some n) t h e =
     omega (arith, length-drop (n + 1) u)
 
 -- a request takes bytes that are there
-pub first_within : (limit : ℕ) (u : List ℕ) (t : Taken) → first limit u ≡ Some t → t.length ≤ length u
+pub first_within : (limit : ℕ) (u : List ℕ) (t : Framed) → first limit u ≡ Some t → t.length ≤ length u
 first_within limit u t e = first_by_within limit u _ t refl e
 
 -- and so does one that is passed over
@@ -180,7 +180,7 @@ pub passing_within : (limit : ℕ) (u : List ℕ) (p : Passing) → option_map p
     → p.length ≤ length u
 passing_within limit u p e = go (first limit u) (λ t h. first_within limit u t h) e
   where
-    go : (o : Option Taken) → ((t : Taken) → o ≡ Some t → t.length ≤ length u) → option_map passing_of o ≡ Some p
+    go : (o : Option Framed) → ((t : Framed) → o ≡ Some t → t.length ≤ length u) → option_map passing_of o ≡ Some p
         → p.length ≤ length u
     go None f e = absurd (none_some p e)
     go (Some t) f e =
@@ -216,7 +216,7 @@ get_append [] v i lt = absurd (omega arith)
 get_append (x ∷ u) v zero lt = refl
 get_append (x ∷ u) v (suc i) lt = get_append u v i (omega arith)
 
-block_more : (head : Head) (line n : ℕ) (u v : List ℕ) (t : Taken) → block_of head line n u ≡ Some t
+block_more : (head : Head) (line n : ℕ) (u v : List ℕ) (t : Framed) → block_of head line n u ≡ Some t
     → block_of head line n (u ++ v) ≡ Some t
 unfolding whole_block
 block_more head line n u v t e = go (nat_lt (length u) (n + 2)) refl e
@@ -229,13 +229,13 @@ block_more head line n u v t e = go (nat_lt (length u) (n + 2)) refl e
         let long : nat_lt (length (u ++ v)) (n + 2) ≡ false = le-ltb _ _ (omega (arith, length-append u v)) in
         rw (long, take-append-le n u v (omega arith), get_append u v n (omega arith), get_append u v (n + 1) (omega arith)) f
 
-line_request_more : (line : ℕ) (u v : List ℕ) (said : Line) (t : Taken) → line_request line u said ≡ Some t
+line_request_more : (line : ℕ) (u v : List ℕ) (said : Line) (t : Framed) → line_request line u said ≡ Some t
     → line_request line (u ++ v) said ≡ Some t
 line_request_more line u v (Ready command) t e = e
 line_request_more line u v (RefusedLine fault quiet skip) t e = e
 line_request_more line u v (NeedsBlock head n) t e = block_more head line n u v t e
 
-first_more : (limit : ℕ) (u v : List ℕ) (end : Option ℕ) (t : Taken) → line_length (take line_room u) ≡ end
+first_more : (limit : ℕ) (u v : List ℕ) (end : Option ℕ) (t : Framed) → line_length (take line_room u) ≡ end
     → first_by limit u end ≡ Some t → first limit (u ++ v) ≡ Some t
 first_more limit u v (Some n) t h e =
     let ws = take_front line_room u v in

@@ -10,7 +10,7 @@ use Rattle.tc_grammar.specs.declared.line.Line.TheVariants.{Ready, NeedsBlock, R
 use Rattle.tc_grammar.specs.Reading.{reading}
 use Rattle.tc_feed.specs.declared.request.Request.{Request}
 use Rattle.tc_feed.specs.declared.request.Request.TheVariants.{Ask, Refused}
-use Rattle.tc_feed.specs.declared.request.Taken.{Taken}
+use Rattle.tc_feed.specs.declared.request.Framed.{Framed}
 
 -- the bytes that came and are unread, and how many of those to come are skipped; where some are owed, none is unread
 pub record Reader : Type 0 where
@@ -51,35 +51,35 @@ abbrev pub block_request : Head → ℕ → List ℕ → Request
 block_request head n bytes = cond (ends_line n bytes) (Ask (Store head (take n bytes))) (Refused BadChunk head.quiet)
 
 -- the block among the bytes after its line, which is `line` bytes long with its end; nothing where they don't reach
-abbrev pub block_of : Head → ℕ → ℕ → List ℕ → Option Taken
+abbrev pub block_of : Head → ℕ → ℕ → List ℕ → Option Framed
 block_of head line n bytes =
     cond (nat_lt (length bytes) (n + 2)) None
     (Some (record { request = block_request head n bytes; length = line + (n + 2); skip = 0 }))
 
 -- the request of a line, by what it spells and by the bytes after it
-abbrev pub line_request : ℕ → List ℕ → Line → Option Taken
+abbrev pub line_request : ℕ → List ℕ → Line → Option Framed
 line_request line bytes (Ready command) = Some (record { request = Ask command; length = line; skip = 0 })
 line_request line bytes (RefusedLine fault quiet skip) =
     Some (record { request = Refused fault quiet; length = line; skip = skip })
 line_request line bytes (NeedsBlock head n) = block_of head line n bytes
 
 -- the first request, by where the room of a line holds a line feed: with none there the line is too long
-abbrev pub first_by : ℕ → List ℕ → Option ℕ → Option Taken
+abbrev pub first_by : ℕ → List ℕ → Option ℕ → Option Framed
 first_by limit unread None =
     cond (nat_lt longest_line (length unread))
     (Some (record { request = Refused LineTooLong false; length = longest_line + 1; skip = 0 })) None
 first_by limit unread (Some n) = line_request (n + 1) (drop (n + 1) unread) (reading limit (trimmed (take n unread)))
 
 -- the first whole request of unread bytes, where blocks of at most `limit` bytes are taken
-abbrev pub first : ℕ → List ℕ → Option Taken
+abbrev pub first : ℕ → List ℕ → Option Framed
 first limit unread = first_by limit unread (line_length (take line_room unread))
 
 -- the reader behind a request
-abbrev pub reader_behind : List ℕ → Taken → Reader
+abbrev pub reader_behind : List ℕ → Framed → Reader
 reader_behind unread t = more (record { unread = []; owed = t.skip }) (drop t.length unread)
 
 -- the reader after it looked for a request
-abbrev pub left_by : Reader → Option Taken → Reader
+abbrev pub left_by : Reader → Option Framed → Reader
 left_by r None = r
 left_by r (Some t) = reader_behind r.unread t
 

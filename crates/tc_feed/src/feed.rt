@@ -16,7 +16,7 @@ ghost use Rattle.tc_feed.specs.Stream.{found, after_first, reader_behind};
 use crate::line_end::{LONGEST_LINE, trim_line};
 use crate::passing::{Passed, first_passed};
 use crate::reading::{find_end, read_block};
-use crate::request::{Request, Taken};
+use crate::request::{Framed, Request};
 use std::alloc::Global;
 use std::marker::Model;
 use tc_grammar::{Fault, Head, Line, parse_line};
@@ -100,7 +100,7 @@ impl Feed {
     }
 
     /// How many bytes are unread.
-    pub fn kept(&self) -> usize
+    pub fn unread_len(&self) -> usize
         ensures { result ≡ list_length self.now.unread }
     {
         self.bytes.len() - self.start
@@ -133,7 +133,7 @@ impl Feed {
         requires none { line_length (take line_room self.old.unread) ≡ None }
         ensures { IsNext limit self.old self.new result }
     {
-        let unread = self.kept();
+        let unread = self.unread_len();
         if unread <= LONGEST_LINE {
             self.wait(limit, unread, unread + 1);
             return None;
@@ -142,7 +142,7 @@ impl Feed {
             fault: Fault::LineTooLong,
             quiet: false,
         };
-        Some(self.take(alloc, Taken::whole(request, LONGEST_LINE + 1)))
+        Some(self.take(alloc, Framed::whole(request, LONGEST_LINE + 1)))
     }
 
     /// The request of the first line, which ends at a place.
@@ -166,7 +166,7 @@ impl Feed {
                 return self.next_block(alloc, limit, end, head, length as usize);
             }
         };
-        let taken = Taken {
+        let taken = Framed {
             request,
             length: end + 1,
             skip: skip as usize,
@@ -193,17 +193,17 @@ impl Feed {
         ensures unchanged_on_err { OnErr result (self.new ≡ self.old) }
     {
         let needed = end + 1 + (length + 2);
-        if self.kept() < needed {
+        if self.unread_len() < needed {
             self.wait(limit, end, needed);
             return Ok(None);
         }
         let bytes = &self.bytes[self.start + (end + 1)..];
         let request = read_block(alloc, head, length, bytes)?;
-        Ok(Some(self.take(alloc, Taken::whole(request, needed))))
+        Ok(Some(self.take(alloc, Framed::whole(request, needed))))
     }
 
     /// Takes a request out of the unread bytes, with those after it that are skipped.
-    fn take(&mut self, alloc: Global, taken: Taken) -> Request
+    fn take(&mut self, alloc: Global, taken: Framed) -> Request
         requires { taken.length ≤ list_length self.old.unread }
         ensures request { result ≡ taken.request }
         ensures after { self.new ≡ reader_behind self.old.unread taken }
@@ -251,7 +251,7 @@ impl Feed {
         ensures stays { IsTrue result → after_first limit self.now ≡ self.now }
         ensures bounded { IsTrue result → list_length self.now.unread ≤ limit + (longest_line + 2) }
     {
-        self.limit == limit && self.kept() < self.needed
+        self.limit == limit && self.unread_len() < self.needed
     }
 
     /// Goes past the bytes of a request, and past more of those that came or are to come.

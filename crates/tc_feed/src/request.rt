@@ -14,18 +14,18 @@ pub enum Request {
 
 /// A request, how many bytes it takes, and how many bytes after it are skipped.
 #[derive(Debug, PartialEq, Eq, Drop)]
-pub(crate) struct Taken {
+pub(crate) struct Framed {
     pub request: Request,
     pub length: usize,
     pub skip: usize,
 }
 
-impl Taken {
+impl Framed {
     /// A request of so many bytes, with none skipped after it.
-    pub fn whole(request: Request, length: usize) -> Taken
+    pub fn whole(request: Request, length: usize) -> Framed
         ensures { result ≡ record { request = request; length = length; skip = 0 } }
     {
-        Taken {
+        Framed {
             request,
             length,
             skip: 0,

@@ -6,7 +6,7 @@ use Rattle.std.proofs.Math.ListN.{length-set}
 use Rattle.std.proofs.lemmas.Bool.{eqb-true, eqb-false}
 use Rattle.std.proofs.lemmas.List.{get_or-set_same, get_or-set_other, length-map}
 use Rattle.tc_index.specs.Links.{tag_of, tags_of, nexts_of, tag_at}
-use Rattle.tc_index.specs.Chains.{AreChained, AreChains, IsPlace, bucket_of, bucket_at, bucket_in, heads_led, nexts_led}
+use Rattle.tc_index.specs.Chains.{AreChained, AreChains, IsPosition, bucket_of, bucket_at, bucket_in, heads_led, nexts_led}
 use Rattle.tc_index.specs.declared.links.Link.{Link}
 use Rattle.tc_index.proofs.Chained.{set_at, inserted_first, inserted_behind, removed_first, removed_behind, chained_along}
 use Rattle.tc_index.proofs.Walked.{bucket_within}
@@ -42,7 +42,7 @@ led_long None b x hs = length-set hs b x
 led_long (Some p) b x hs = refl
 
 module _ (heads : List ℕ) (links : List Link) (h : AreChains heads links) (slot b number : ℕ) (o : Option ℕ)
-    (within : slot < length links) (bucket : b < length heads) (place : IsPlace o number b slot heads links)
+    (within : slot < length links) (bucket : b < length heads) (place : IsPosition o number b slot heads links)
     (gs : List ℕ) (ms : List Link) where
   -- a tag was written
   module _ (t : Option ℕ) (tags : tags_of ms ≡ slice_set (tags_of links) slot t) (long_heads : length gs ≡ length heads) where
@@ -93,7 +93,7 @@ module _ (heads : List ℕ) (links : List Link) (h : AreChains heads links) (slo
       free : bucket_at heads links slot ≡ None
       free = ap (λ z. option_map (bucket_of (length heads)) z) nowhere
 
-      go : (o : Option ℕ) → IsPlace o number b slot heads links → gs ≡ heads_led o b (slot + 1) heads
+      go : (o : Option ℕ) → IsPosition o number b slot heads links → gs ≡ heads_led o b (slot + 1) heads
           → nexts_of ms ≡ nexts_led o (slot + 1) (slice_set (nexts_of links) slot number)
           → AreChained (set_at slot (Some b) (bucket_at heads links)) (slice_index gs) (slice_index (nexts_of ms)) (length heads)
           (length links)
@@ -138,7 +138,7 @@ module _ (heads : List ℕ) (links : List Link) (h : AreChains heads links) (slo
           at false t is =
               sym (ap (λ z. slice_index z k) em ∙ get_or-set_other (nexts_of mid) slot k mark 0 (eqb-false k slot t))
 
-      go : (o : Option ℕ) → IsPlace o number b slot heads links → gs ≡ heads_led o b (slice_index (nexts_of links) slot) heads
+      go : (o : Option ℕ) → IsPosition o number b slot heads links → gs ≡ heads_led o b (slice_index (nexts_of links) slot) heads
           → nexts_of mid ≡ nexts_led o (slice_index (nexts_of links) slot) (nexts_of links)
           → AreChained (set_at slot None (bucket_at heads links)) (slice_index gs) (slice_index (nexts_of mid)) (length heads)
           (length links)

@@ -44,7 +44,7 @@ Reaches (Some before) number bucket heads links =
     (bucket_at heads links before ≡ Some bucket) × (number ≡ slice_index (nexts_of links) before)
 
 -- where a slot of this bucket stands or would: behind higher ones, and before lower ones
-pub record IsPlace (before : Option ℕ) (number bucket slot : ℕ) (heads : List ℕ) (links : List Link) : Type 0 where
+pub record IsPosition (before : Option ℕ) (number bucket slot : ℕ) (heads : List ℕ) (links : List Link) : Type 0 where
   pub reached : Reaches before number bucket heads links
   pub higher : (other : ℕ) → before ≡ Some other → slot < other
   pub lower : number ≤ slot + 1

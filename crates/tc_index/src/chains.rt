@@ -3,14 +3,14 @@ ghost use Rattle.std.specs.Prelude.{◌≡◌, ℕ, ◌+◌, ◌-◌, ◌<◌, �
 ghost use Rattle.std.specs.Prelude.{true, false, length, slice_set, Option, Some, None, IsSome};
 ghost use Rattle.tc_index.specs.Tags.{Tells, FindsRight};
 ghost use Rattle.tc_index.specs.Links.{tags_of, nexts_of, tag_at};
-ghost use Rattle.tc_index.specs.Chains.{AreChains, IsPlace, bucket_of, bucket_at, heads_led, nexts_led};
+ghost use Rattle.tc_index.specs.Chains.{AreChains, IsPosition, bucket_of, bucket_at, heads_led, nexts_led};
 
 use crate::links::{Link, Tag, free, lead, next, put};
 use tc_item::Slot;
 
 /// Where a slot stands in a chain, or would: the slot before it, if it isn't the first, and the number there.
 #[derive(Clone, Copy)]
-struct Place {
+struct Position {
     before: Option<usize>,
     number: usize,
 }
@@ -65,11 +65,11 @@ where
 }
 
 /// Where a slot of this bucket stands, or would.
-fn place_of(heads: &[u32], links: &[Link], bucket: usize, slot: usize) -> Place
+fn position_of(heads: &[u32], links: &[Link], bucket: usize, slot: usize) -> Position
     requires chains { AreChains heads.now links.now }
     requires bucket { bucket < length heads.now }
     requires slot { slot < length links.now }
-    ensures { IsPlace result.before result.number bucket slot heads.now links.now }
+    ensures { IsPosition result.before result.number bucket slot heads.now links.now }
 {
     let mut before = None;
     let mut number = heads[bucket] as usize;
@@ -77,7 +77,7 @@ fn place_of(heads: &[u32], links: &[Link], bucket: usize, slot: usize) -> Place
         before = Some(number - 1);
         number = next(links, number - 1);
     }
-    Place { before, number }
+    Position { before, number }
 }
 
 /// Lets a place of a bucket's chain have this number.
@@ -110,7 +110,7 @@ pub(crate) fn insert(heads: &mut [u32], links: &mut [Link], slot: usize, tag: Ta
     ensures tags { tags_of links.new ≡ slice_set (tags_of links.old) slot (Some tag.0) }
 {
     let bucket = bucket(heads, tag);
-    let Place { before, number } = place_of(heads, links, bucket, slot);
+    let Position { before, number } = position_of(heads, links, bucket, slot);
     put(links, slot, number, tag);
     lead_to(heads, links, bucket, before, slot + 1);
 }
@@ -124,7 +124,7 @@ pub(crate) fn remove(heads: &mut [u32], links: &mut [Link], slot: usize)
 {
     let Link { next: behind, tag } = links[slot];
     let bucket = bucket(heads, tag);
-    let before = place_of(heads, links, bucket, slot).before;
+    let before = position_of(heads, links, bucket, slot).before;
     lead_to(heads, links, bucket, before, behind as usize);
     free(links, slot);
 }

@@ -18,12 +18,12 @@ pub trait TryCopy: Drop {
 /// Items in order; an item may stand twice. Copies of many share one list.
 #[derive(Drop)]
 pub struct Few<T> {
-    held: Held<T>,
+    held: Repr<T>,
 }
 
 /// Most lists have one item, so one alone is kept in place, in an array that is lent as a slice.
 #[derive(Drop)]
-enum Held<T> {
+enum Repr<T> {
     Nothing,
     One([T; 1]),
     Many(Arc<Vec<T>>),
@@ -68,7 +68,7 @@ impl<T> Few<T> {
         ensures { result ≡ [] }
     {
         Few {
-            held: Held::Nothing,
+            held: Repr::Nothing,
         }
     }
 
@@ -77,7 +77,7 @@ impl<T> Few<T> {
         ensures { result ≡ item ∷ [] }
     {
         Few {
-            held: Held::One([item]),
+            held: Repr::One([item]),
         }
     }
 
@@ -100,9 +100,9 @@ impl<T> Few<T> {
         ensures { result.now ≡ self.now }
     {
         match &self.held {
-            Held::Nothing => &[],
-            Held::One(one) => one.as_slice(),
-            Held::Many(shared) => shared.as_slice(),
+            Repr::Nothing => &[],
+            Repr::One(one) => one.as_slice(),
+            Repr::Many(shared) => shared.as_slice(),
         }
     }
 }
@@ -115,7 +115,7 @@ impl<T: TryCopy> Few<T> {
         if items.len() > 1 {
             let shared = Arc::new(alloc, items)?;
             return Ok(Few {
-                held: Held::Many(shared),
+                held: Repr::Many(shared),
             });
         }
         match items.pop() {
@@ -130,12 +130,12 @@ impl<T: TryCopy> Few<T> {
         ensures unchanged_on_err { OnErr result (self.new ≡ self.old) }
     {
         match &mut self.held {
-            Held::Nothing => self.held = Held::One([item]),
-            Held::One(_) => {
+            Repr::Nothing => self.held = Repr::One([item]),
+            Repr::One(_) => {
                 let items = lengthened(alloc, self.as_slice(), item)?;
-                self.held = Held::Many(items);
+                self.held = Repr::Many(items);
             }
-            Held::Many(shared) => push_shared(alloc, shared, item)?,
+            Repr::Many(shared) => push_shared(alloc, shared, item)?,
         }
         Ok(())
     }
@@ -145,9 +145,9 @@ impl<T: TryCopy> Few<T> {
         ensures { IfOk result (λ few. few ≡ self.now) }
     {
         let held = match &self.held {
-            Held::Nothing => Held::Nothing,
-            Held::One([item]) => Held::One([item.try_copy(alloc)?]),
-            Held::Many(shared) => Held::Many(shared.clone()?),
+            Repr::Nothing => Repr::Nothing,
+            Repr::One([item]) => Repr::One([item.try_copy(alloc)?]),
+            Repr::Many(shared) => Repr::Many(shared.clone()?),
         };
         Ok(Few { held })
     }

@@ -12,33 +12,33 @@ use Rattle.tc_stats.specs.declared.outcome.Outcome.{Outcome}
 use Rattle.tc_plain.specs.UserCache.{UserCache, advance}
 use Rattle.tc_plain.specs.Doing.{act}
 use Rattle.tc_plain.specs.Laws.{user_caching}
-use Rattle.tc_locked.specs.declared.entry.Entry.{Entry}
+use Rattle.tc_locked.specs.declared.call_entry.CallEntry.{CallEntry}
 use Rattle.tc_fresh.specs.Beginning.{IsEmptyCache}
 use Rattle.tc_locked.specs.Books.{BookState, events_of, Start, first_start, moment_after, counts_after, IsNext, AreNumbered}
-use Rattle.tc_locked.specs.Books.{Stands, IsBook, entry_of, after_call, after_maintain, page_turned, turn_if, fresh_book}
+use Rattle.tc_locked.specs.Books.{Stands, IsBook, entry_of, after_call, after_maintain, page_turned, fresh_book}
 use Rattle.tc_locked.specs.Closing.{HasLegalPage}
 use Rattle.tc_plain.proofs.Left.{leaves_advanced, advance-earlier, advance-advance, act-advance, advance-empty}
 
 -- ---- one entry more
 -- the state that entries leave
-abbrev pub left_by : UserCache → List Entry → UserCache
+abbrev pub left_by : UserCache → List CallEntry → UserCache
 left_by k es = state_after user_caching k (events_of es)
 
-replays_push : (from : ℕ) (k : UserCache) (es : List Entry) (e : Entry) → Replays user_caching from k (events_of es)
+replays_push : (from : ℕ) (k : UserCache) (es : List CallEntry) (e : CallEntry) → Replays user_caching from k (events_of es)
     → moment_after from es ≤ e.moment
     → (act (left_by k es) e.moment e.command).0 ≡ e.outcome → Replays user_caching from k (events_of (es ++ e ∷ []))
 replays_push from k [] e h le is = (le, is, tt)
 replays_push from k (x ∷ es) e h le is = (h.0, h.1, replays_push x.moment (act k x.moment x.command).1 es e h.2 le is)
 
-left_push : (k : UserCache) (es : List Entry) (e : Entry) → left_by k (es ++ e ∷ []) ≡ (act (left_by k es) e.moment e.command).1
+left_push : (k : UserCache) (es : List CallEntry) (e : CallEntry) → left_by k (es ++ e ∷ []) ≡ (act (left_by k es) e.moment e.command).1
 left_push k [] e = refl
 left_push k (x ∷ es) e = left_push (act k x.moment x.command).1 es e
 
-moment_push : (from : ℕ) (es : List Entry) (e : Entry) → moment_after from (es ++ e ∷ []) ≡ e.moment
+moment_push : (from : ℕ) (es : List CallEntry) (e : CallEntry) → moment_after from (es ++ e ∷ []) ≡ e.moment
 moment_push from [] e = refl
 moment_push from (x ∷ es) e = moment_push x.moment es e
 
-numbered_push : (number : ℕ) (counts : List ℕ) (es : List Entry) (e : Entry) → AreNumbered number counts es
+numbered_push : (number : ℕ) (counts : List ℕ) (es : List CallEntry) (e : CallEntry) → AreNumbered number counts es
     → IsNext (number + length es) (counts_after counts es) e → AreNumbered number counts (es ++ e ∷ [])
 numbered_push number counts [] e h is =
     (record { number_is = let n = is.number_is in omega arith; seat = is.seat; tally = is.tally }, tt)
@@ -48,14 +48,14 @@ numbered_push number counts (x ∷ es) e h is = (
       (record { number_is = let n = is.number_is in omega arith; seat = is.seat; tally = is.tally }),
 )
 
-counts_push : (counts : List ℕ) (es : List Entry) (e : Entry)
+counts_push : (counts : List ℕ) (es : List CallEntry) (e : CallEntry)
     → counts_after counts (es ++ e ∷ []) ≡ slice_set (counts_after counts es) e.seat e.tally
 counts_push counts [] e = refl
 counts_push counts (x ∷ es) e = counts_push (slice_set counts x.seat x.tally) es e
 
 -- ---- what leads to the book
 -- a call's entry goes on with any entries that led to the book
-pub stands_call : (start : Start) (es : List Entry) (b : BookState) (seat now conn : ℕ) (command : Command)
+pub stands_call : (start : Start) (es : List CallEntry) (b : BookState) (seat now conn : ℕ) (command : Command)
     → seat < length b.counts → Stands start es b
     → Stands start (es ++ entry_of b seat now conn command ∷ []) (after_call b (entry_of b seat now conn command))
 stands_call start es b seat now conn command lt s =
@@ -82,7 +82,7 @@ stands_call start es b seat now conn command lt s =
       counts = counts_push start.counts es e ∙ ap (λ (l : List ℕ). slice_set l seat (slice_index b.counts seat + 1)) s.counts;
     }
 
-pub stands_maintain : (start : Start) (es : List Entry) (b : BookState) (now : ℕ) → Stands start es b
+pub stands_maintain : (start : Start) (es : List CallEntry) (b : BookState) (now : ℕ) → Stands start es b
     → Stands start es (after_maintain b now)
 stands_maintain start es b now s =
     let le = s.moment in record {
@@ -98,7 +98,7 @@ stands_maintain start es b now s =
 abbrev pub here : BookState → Start
 here b = record { cache = b.settled; moment = b.moment; number = b.number; counts = b.counts }
 
-pub is_settled : (start : Start) (es : List Entry) (b : BookState) → Stands start es b → advance b.settled b.moment ≡ b.settled
+pub is_settled : (start : Start) (es : List CallEntry) (b : BookState) → Stands start es b → advance b.settled b.moment ≡ b.settled
 is_settled start es b s =
     ap (λ (k : UserCache). advance k b.moment) (sym s.settled)
     ∙ advance-earlier (left_by start.cache es) b.moment b.moment (omega arith) ∙ s.settled
@@ -185,21 +185,13 @@ book_fresh k seats keeps empty = record {
   turned = omega arith;
 }
 
-pub turn_if-some : (es : List Entry) (b : BookState) → 0 < length es → turn_if es b ≡ page_turned b
-turn_if-some [] b lt = absurd (omega arith)
-turn_if-some (e ∷ es) b lt = refl
-
--- a book that is seen as this one is turned as this one
-pub turned_is : (v b : BookState) → v ≡ b → 0 < length v.entries → page_turned v ≡ turn_if b.entries b
-turned_is v b is some = sym (turn_if-some v.entries v some) ∙ ap (λ (x : BookState). turn_if x.entries x) is
-
 -- a turned page and a call on it
 pub turned_call : (b : BookState) (seat now conn : ℕ) (command : Command) → 0 < length b.entries → seat < length b.counts
     → IsBook b → IsBook (after_call (page_turned b) (entry_of b seat now conn command))
 turned_call b seat now conn command some lt h = book_call (page_turned b) seat now conn command lt (book_turn b some h)
 
 -- ---- the page
-replays_from_zero : (from : ℕ) (k : UserCache) (es : List Entry) → Replays user_caching from k (events_of es)
+replays_from_zero : (from : ℕ) (k : UserCache) (es : List CallEntry) → Replays user_caching from k (events_of es)
     → Replays user_caching 0 k (events_of es)
 replays_from_zero from k [] h = tt
 replays_from_zero from k (e ∷ es) h = (omega arith, h.1, h.2)

@@ -7,7 +7,7 @@ use Rattle.std.specs.Prelude.{slice_index, slice_set, leb}
 use Rattle.std.proofs.lemmas.List.{append-nil, map-append, length-set, length-replicate, get_or-set_same, get_or-set_other}
 use Rattle.std.proofs.lemmas.Bool.Decides.{nat_tests}
 use Rattle.tc_grammar.specs.declared.command.Command.{Command}
-use Rattle.tc_locked.specs.declared.entry.Entry.{Entry}
+use Rattle.tc_locked.specs.declared.call_entry.CallEntry.{CallEntry}
 use Rattle.tc_locked.specs.declared.view.Note.{Note}
 use Rattle.tc_locked.specs.Views.{note, by_seat, of_user}
 use Rattle.tc_locked.specs.Books.{first_start, Stands, AreNumbered, counts_after, entry_of, after_call, after_maintain}
@@ -25,7 +25,7 @@ all_later : (p : ℕ) (ns : List Note) → AllBefore p ns → AllBefore (suc p) 
 all_later p [] h = tt
 all_later p (n ∷ ns) h = (let lt = h.0 in omega arith, all_later p ns h.1)
 
-all_on : (u p : ℕ) (es : List Entry) → AllBefore (suc p) (on_page u p es)
+all_on : (u p : ℕ) (es : List CallEntry) → AllBefore (suc p) (on_page u p es)
 all_on u p [] = tt
 all_on u p (e ∷ es) = (omega arith, all_on u p es)
 
@@ -66,7 +66,7 @@ kept_push terms k seat now conn c lt few h =
       older = h.older;
       page =
           ap (λ l. l ++ n ∷ []) h.page ∙ append_assoc h.older (on_page k.user k.book.turns k.book.entries) (n ∷ [])
-          ∙ ap (λ l. h.older ++ l) (sym (map-append (λ (x : Entry). note k.user k.book.turns x) k.book.entries (e ∷ [])));
+          ∙ ap (λ l. h.older ++ l) (sym (map-append (λ (x : CallEntry). note k.user k.book.turns x) k.book.entries (e ∷ [])));
       turned = h.turned;
       room = omega (arith, length-append k.book.entries (e ∷ []));
     }
@@ -127,10 +127,10 @@ kept_maintain terms k now h = record {
 }
 
 -- ---- a seat's count is the number of its entries
-abbrev of_seat : ℕ → List Entry → List Entry
-of_seat s es = filter (λ (e : Entry). e.seat == s) es
+abbrev of_seat : ℕ → List CallEntry → List CallEntry
+of_seat s es = filter (λ (e : CallEntry). e.seat == s) es
 
-counts_step : (counts : List ℕ) (e : Entry) (es : List Entry) (s : ℕ) → s < length counts
+counts_step : (counts : List ℕ) (e : CallEntry) (es : List CallEntry) (s : ℕ) → s < length counts
     → e.tally ≡ slice_index counts e.seat + 1 → (n : ℕ)
     → n ≡ slice_index (slice_set counts e.seat e.tally) s + length (of_seat s es) → Dec (e.seat ≡ s)
     → n ≡ slice_index counts s + length (of_seat s (e ∷ es))
@@ -149,7 +149,7 @@ counts_step counts e es s lt tally n is (no apart) =
     ap (λ (b : Bool). cond b (e ∷ of_seat s es) (of_seat s es)) (ne_eqb e.seat s apart) in
     let more = ap length kept in omega arith
 
-counts_in : (number : ℕ) (counts : List ℕ) (es : List Entry) (s : ℕ) → AreNumbered number counts es → s < length counts
+counts_in : (number : ℕ) (counts : List ℕ) (es : List CallEntry) (s : ℕ) → AreNumbered number counts es → s < length counts
     → slice_index (counts_after counts es) s ≡ slice_index counts s + length (of_seat s es)
 counts_in number counts [] s l lt = omega arith
 counts_in number counts (e ∷ es) s l lt =

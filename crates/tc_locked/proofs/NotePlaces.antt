@@ -4,7 +4,7 @@ use Rattle.std.proofs.Common.{◌∷◌, ◌++◌, map, length, refl, sym, ap, �
 use Rattle.std.specs.Prelude.{slice_get, slice_set, replicate, IfSome, IfNone, Option, None, IfOk, Result, Ok, Err}
 use Rattle.std.specs.List.{filter}
 use Rattle.std.proofs.lemmas.List.{length-map}
-use Rattle.tc_locked.specs.declared.entry.Entry.{Entry}
+use Rattle.tc_locked.specs.declared.call_entry.CallEntry.{CallEntry}
 use Rattle.tc_locked.specs.declared.view.Note.{Note}
 use Rattle.tc_locked.specs.Views.{note, by_seat, of_user}
 use Rattle.tc_locked.specs.Books.{AreNumbered}
@@ -13,11 +13,11 @@ use Rattle.tc_locked.proofs.KeptBooks.{AllBefore, pages_before}
 use Rattle.tc_locked.proofs.ClosedHalls.{tied_at, kept_at}
 use Rattle.tc_locked.specs.KeptBooks.{Terms, KeptState, SeatState, IsKept, entries_in, on_page}
 
-pub numbers : (number : ℕ) (counts : List ℕ) (es : List Entry) (p : ℕ) (e : Entry) → AreNumbered number counts es
+pub numbers : (number : ℕ) (counts : List ℕ) (es : List CallEntry) (p : ℕ) (e : CallEntry) → AreNumbered number counts es
     → slice_get es p ≡ Some e → e.number ≡ number + p + 1
 numbers number counts [] p e l at = absurd (cc)
 numbers number counts (x ∷ es) zero e l at =
-    let same : x ≡ e = cc in let n = l.0.number_is in let k = ap (λ (y : Entry). y.number) same in omega arith
+    let same : x ≡ e = cc in let n = l.0.number_is in let k = ap (λ (y : CallEntry). y.number) same in omega arith
 numbers number counts (x ∷ es) (suc p) e l at =
     let r = numbers (number + 1) (slice_set counts x.seat x.tally) es p e l.1 at in omega arith
 
@@ -32,14 +32,14 @@ before_at t [] p n h at = absurd (cc)
 before_at t (x ∷ ns) zero n h at = let same : x ≡ n = cc in subst (λ (y : Note). y.page < t) same h.0
 before_at t (x ∷ ns) (suc p) n h at = before_at t ns p n h.1 at
 
-on_page_at : (u t : ℕ) (es : List Entry) (j : ℕ) (n : Note) → slice_get (on_page u t es) j ≡ Some n
+on_page_at : (u t : ℕ) (es : List CallEntry) (j : ℕ) (n : Note) → slice_get (on_page u t es) j ≡ Some n
     → (slice_get es j ≡ Some n.entry) × (n.page ≡ t)
 on_page_at u t [] j n at = absurd (cc)
 on_page_at u t (e ∷ es) zero n at =
     let same : note u t e ≡ n = cc in (ap (λ (y : Note). Some y.entry) same, sym (ap (λ (y : Note). y.page) same))
 on_page_at u t (e ∷ es) (suc j) n at = on_page_at u t es j n at
 
-parts_at : (u t : ℕ) (older : List Note) (es : List Entry) (p : ℕ) (n : Note) → slice_get (older ++ on_page u t es) p ≡ Some n
+parts_at : (u t : ℕ) (older : List Note) (es : List CallEntry) (p : ℕ) (n : Note) → slice_get (older ++ on_page u t es) p ≡ Some n
     → (slice_get older p ≡ Some n) ⊎ ((j : ℕ) × (p ≡ length older + j) × (slice_get es j ≡ Some n.entry) × (n.page ≡ t))
 parts_at u t [] es p n at = let h = on_page_at u t es p n at in inr (p, omega arith, h.0, h.1)
 parts_at u t (x ∷ older) es zero n at = inl at
@@ -59,7 +59,7 @@ where_is terms k p n h at =
     let len : length (entries_in k.log) ≡ length k.log = length-map k.log (λ (x : Note). x.entry) in
     let lens : length k.log ≡ length h.older + length k.book.entries =
     ap length h.page ∙ length-append h.older (on_page k.user k.book.turns k.book.entries)
-    ∙ ap (λ m. length h.older + m) (length-map k.book.entries (λ (x : Entry). note k.user k.book.turns x)) in
+    ∙ ap (λ m. length h.older + m) (length-map k.book.entries (λ (x : CallEntry). note k.user k.book.turns x)) in
     ⊎_elim
     (λ (o : slice_get h.older p ≡ Some n). inl (before_at k.book.turns h.older p n
     (pages_before k.user terms.journal k.book.turns h.older h.turned) o))

@@ -8,7 +8,7 @@ use mathlib.Core.Option.{none, some, some-ne-none, some-injective}
 use lib.ListN.{get_elem?}
 use Rattle.atomic_table.specs.Table.{Me, step, keeps, Allows, Splits, Joins, opening}
 use Rattle.atomic_table.proofs.Lists.{at_set, set_again, set_here}
-use Rattle.tc_locked.specs.declared.entry.Entry.{Entry}
+use Rattle.tc_locked.specs.declared.call_entry.CallEntry.{CallEntry}
 use Rattle.tc_locked.specs.declared.view.Note.{Note}
 use Rattle.tc_locked.specs.declared.view.Face.{Face}
 use Rattle.tc_locked.specs.declared.view.View.{View}
@@ -111,7 +111,7 @@ still_bounded t n b s h = (
   (λ u le. by_other_seat u t.log n (λ same. omega arith) ∙ h.1 u le),
 )
 
-pub adds : (views : List View) (id u s : ℕ) (xs ys : List Note) (p : ℕ) (e : Entry) → e.seat ≡ s → Kept views
+pub adds : (views : List View) (id u s : ℕ) (xs ys : List Note) (p : ℕ) (e : CallEntry) → e.seat ≡ s → Kept views
     → get_elem? views id ≡ some (joined_view u xs s ys)
     → Kept (set views id (joined_view u (xs ++ note u p e ∷ []) s (ys ++ note u p e ∷ [])))
 adds views id u s xs ys p e by h at =
@@ -157,7 +157,7 @@ fits_gathered t other id j v apart h = (
   h.3,
 )
 
-pub joins : (id : ℕ) (v : View) (other : ℕ) (w : View) → Joins {S = Entry} Holds id v other w (both_of v w) blank
+pub joins : (id : ℕ) (v : View) (other : ℕ) (w : View) → Joins {S = CallEntry} Holds id v other w (both_of v w) blank
 joins id v other w s h at apart there =
     let t = h.0 in
     let to = gathered t other id in
@@ -227,7 +227,7 @@ parted t id new = record {
   seat_at = t.seat_at;
 }
 
-pub parts : (id : ℕ) (v : View) → Splits {S = Entry} Holds id v (seats_of v) (books_of v)
+pub parts : (id : ℕ) (v : View) → Splits {S = CallEntry} Holds id v (seats_of v) (books_of v)
 parts id v s h at =
     let t = h.0 in
     let new = length s.views in
@@ -267,7 +267,7 @@ more_books t new = record {
 old_book : (k n new at : ℕ) → k < n → cond (eqb k n) new at ≡ at
 old_book k n new at lt = ap (λ (b : Bool). cond b new at) (ne_eqb k n (λ same. omega arith))
 
-pub adds_book : (id : ℕ) (v : View) → v.mints ≡ true → Splits {S = Entry} Holds id v (with_book v) (new_book v)
+pub adds_book : (id : ℕ) (v : View) → v.mints ≡ true → Splits {S = CallEntry} Holds id v (with_book v) (new_book v)
 adds_book id v is s h at =
     let t = h.0 in
     let new = length s.views in
@@ -305,7 +305,7 @@ more_seats t new = record {
   seat_at = λ k. cond (eqb k t.seats) new (t.seat_at k);
 }
 
-pub adds_seat : (id : ℕ) (v : View) → v.mints ≡ true → Splits {S = Entry} Holds id v (with_seat v) (new_seat v)
+pub adds_seat : (id : ℕ) (v : View) → v.mints ≡ true → Splits {S = CallEntry} Holds id v (with_seat v) (new_seat v)
 adds_seat id v is s h at =
     let t = h.0 in
     let new = length s.views in
@@ -344,7 +344,7 @@ tied views id v h at =
     ∙ sym (ap (of_user f.number) y.2)) mine.2) mine.1
 
 -- ---- as the table asks
-pub adds_allows : (id u s : ℕ) (xs ys : List Note) (p n i k : ℕ) (e : Entry) (f : ℕ → ℕ) → e.seat ≡ s
+pub adds_allows : (id u s : ℕ) (xs ys : List Note) (p n i k : ℕ) (e : CallEntry) (f : ℕ → ℕ) → e.seat ≡ s
     → Allows Holds n id (joined_view u xs s ys, []) i f (Adds (step n i p k (some e)) (joined_view u xs s ys, []))
 adds_allows id u s xs ys p n i k e f by st h len at fits =
     let w = joined_view u (xs ++ note u p e ∷ []) s (ys ++ note u p e ∷ []) in
@@ -356,7 +356,7 @@ adds_allows id u s xs ys p n i k e f by st h len at fits =
       (refl, tied (set st.views id w) id w after (set_here st.views id w (below_length st.views id (joined_view u xs s ys) at))),
     )
 
-pub ties_allows : (n id : ℕ) (me : Me Entry View) (i : ℕ) → Allows Holds n id me i (λ x. x) (Ties (step n i 0 0 none) me)
+pub ties_allows : (n id : ℕ) (me : Me CallEntry View) (i : ℕ) → Allows Holds n id me i (λ x. x) (Ties (step n i 0 0 none) me)
 ties_allows n id me i st h len at fits =
     let mine = h.2 id me.0 at in (
       me.0,
@@ -371,8 +371,8 @@ ties_allows n id me i st h len at fits =
       ),
     )
 
-pub adds_allows_at : (id u s : ℕ) (me : Me Entry View) (xs ys : List Note) (p n i k : ℕ) (e : Entry) (f : ℕ → ℕ)
+pub adds_allows_at : (id u s : ℕ) (me : Me CallEntry View) (xs ys : List Note) (p n i k : ℕ) (e : CallEntry) (f : ℕ → ℕ)
     → me ≡ (joined_view u xs s ys, []) → e.seat ≡ s → Allows Holds n id me i f (Adds (step n i p k (some e)) me)
 adds_allows_at id u s me xs ys p n i k e f is by =
-    subst (λ (m : Me Entry View). Allows Holds n id m i f (Adds (step n i p k (some e)) m)) (sym is)
+    subst (λ (m : Me CallEntry View). Allows Holds n id m i f (Adds (step n i p k (some e)) m)) (sym is)
     (adds_allows id u s xs ys p n i k e f by)

@@ -9,14 +9,16 @@ use Rattle.tc_plain.specs.UserCache.{UserCache, advance}
 use Rattle.tc_plain.specs.Doing.{act}
 use Rattle.tc_plain.specs.Laws.{user_caching}
 use Rattle.tc_fresh.specs.Beginning.{IsEmptyCache}
-use Rattle.tc_locked.specs.declared.entry.Entry.{Entry}
-use Rattle.tc_locked.specs.declared.entry.Slip.{Slip}
+use Rattle.tc_locked.specs.declared.call_entry.CallEntry.{CallEntry}
+use Rattle.tc_locked.specs.declared.call_fault.CallFault.{CallFault}
+use Rattle.tc_locked.specs.declared.call_fault.CallFault.TheVariants.{Worn, NoUser, OtherBook}
+use Rattle.tc_locked.specs.declared.call_entry.Slip.{Slip}
 
 -- a book, as callers see it
 pub record BookState : Type 0 where
   -- the state that the page began with, and the calls since
   pub opening : UserCache
-  pub entries : List Entry
+  pub entries : List CallEntry
   -- the state that the cache stands for
   pub settled : UserCache
   -- the latest moment of a call or of maintenance
@@ -30,11 +32,11 @@ pub record BookState : Type 0 where
   pub keeps : Journal
 
 -- an entry as an event of the cache's history
-abbrev pub event_of : Entry → Event Command Outcome
+abbrev pub event_of : CallEntry → Event Command Outcome
 event_of e = record { moment = e.moment; command = e.command; outcome = e.outcome }
 
 -- entries as events, in order
-abbrev pub events_of : List Entry → List (Event Command Outcome)
+abbrev pub events_of : List CallEntry → List (Event Command Outcome)
 events_of es = map event_of es
 
 -- where a list of entries begins
@@ -49,28 +51,28 @@ abbrev pub first_start : UserCache → ℕ → Start
 first_start k seats = record { cache = k; moment = 0; number = 0; counts = replicate seats 0 }
 
 -- the last moment of the entries, or this one
-abbrev pub moment_after : ℕ → List Entry → ℕ
+abbrev pub moment_after : ℕ → List CallEntry → ℕ
 moment_after from [] = from
 moment_after from (e ∷ es) = moment_after e.moment es
 
 -- how many entries each seat has, once these are made
-abbrev pub counts_after : List ℕ → List Entry → List ℕ
+abbrev pub counts_after : List ℕ → List CallEntry → List ℕ
 counts_after counts [] = counts
 counts_after counts (e ∷ es) = counts_after (slice_set counts e.seat e.tally) es
 
 -- entries are numbered one after another, and each has its seat's count
-pub record IsNext (number : ℕ) (counts : List ℕ) (e : Entry) : Type 0 where
+pub record IsNext (number : ℕ) (counts : List ℕ) (e : CallEntry) : Type 0 where
   pub number_is : e.number ≡ number + 1
   pub seat : e.seat < length counts
   pub tally : e.tally ≡ slice_index counts e.seat + 1
 
 -- each entry is the next after those before it
-abbrev pub AreNumbered : ℕ → List ℕ → List Entry → Type 0
+abbrev pub AreNumbered : ℕ → List ℕ → List CallEntry → Type 0
 AreNumbered number counts [] = Unit {0}
 AreNumbered number counts (e ∷ es) = IsNext number counts e × AreNumbered (number + 1) (slice_set counts e.seat e.tally) es
 
 -- from here the entries are a history of the cache, which leaves the book's state
-pub record Stands (start : Start) (es : List Entry) (b : BookState) : Type 0 where
+pub record Stands (start : Start) (es : List CallEntry) (b : BookState) : Type 0 where
   -- commands give the outcomes that are kept, at moments that never fall
   pub replays : Replays user_caching start.moment start.cache (events_of es)
   -- the last state, at the book's moment, is what the cache stands for
@@ -92,7 +94,7 @@ pub record IsBook (b : BookState) : Type 0 where
   pub turned : b.turns + length b.entries ≤ b.number
 
 -- the entry that a call makes
-abbrev pub entry_of : BookState → ℕ → ℕ → ℕ → Command → Entry
+abbrev pub entry_of : BookState → ℕ → ℕ → ℕ → Command → CallEntry
 entry_of b seat now conn command = record {
   seat = seat;
   tally = slice_index b.counts seat + 1;
@@ -104,7 +106,7 @@ entry_of b seat now conn command = record {
 }
 
 -- a book once this entry of a call is made
-abbrev pub after_call : BookState → Entry → BookState
+abbrev pub after_call : BookState → CallEntry → BookState
 after_call b e = record {
   opening = b.opening;
   entries = b.entries ++ e ∷ [];
@@ -116,8 +118,16 @@ after_call b e = record {
   keeps = b.keeps;
 }
 
+-- an entry of this number has this place on a book's page
+abbrev pub IsNumberAt : ℕ → ℕ → BookState → Type 0
+IsNumberAt number place b = number + length b.entries ≡ b.number + place + 1
+
+-- why a book that made so many entries refuses a call: for want of memory, or because its numbers are used up
+abbrev pub IsBookFault : ℕ → CallFault → Type 0
+IsBookFault number fault = (fault ≡ Worn → number ≡ 2 ^ 64 - 1) × (fault ≢ NoUser) × (fault ≢ OtherBook)
+
 -- what a call's caller is told
-abbrev pub slip_of : BookState → Entry → Slip
+abbrev pub slip_of : BookState → CallEntry → Slip
 slip_of b e = record { page = b.turns; number = e.number; tally = e.tally; moment = e.moment; outcome = e.outcome }
 
 -- a book once it was maintained at a moment
@@ -145,11 +155,6 @@ page_turned b = record {
   counts = b.counts;
   keeps = b.keeps;
 }
-
--- a page with entries is turned
-abbrev pub turn_if : List Entry → BookState → BookState
-turn_if [] b = b
-turn_if (e ∷ es) b = page_turned b
 
 -- a page that has `journal` entries is turned
 abbrev pub paged : ℕ → BookState → BookState

@@ -8,8 +8,8 @@ use Rattle.tc_model.specs.Caching.{Replays}
 use Rattle.tc_plain.specs.Laws.{user_caching}
 use Rattle.tc_plain.specs.Freshness.{IsCell, hits_in}
 use Rattle.tc_locked.specs.declared.audit.Audit.{Audit}
-use Rattle.tc_locked.specs.declared.entry.Entry.{Entry}
-use Rattle.tc_locked.specs.declared.entry.Slip.{Slip}
+use Rattle.tc_locked.specs.declared.call_entry.CallEntry.{CallEntry}
+use Rattle.tc_locked.specs.declared.call_entry.Slip.{Slip}
 use Rattle.tc_locked.specs.Books.{BookState, events_of}
 use Rattle.tc_locked.specs.Calls.{IsUser}
 use Rattle.tc_locked.specs.KeptBooks.{Terms, KeptState, SeatState, IsKept, entries_in}
@@ -152,7 +152,7 @@ HasLegalPage b = Replays user_caching 0 b.opening (events_of b.entries)
 -- its moment: never an item expired, deleted or flushed
 abbrev pub ShowsFresh : KeptState → Type 0
 ShowsFresh k =
-    (before after : List Entry) (e : Entry) → entries_in k.log ≡ before ++ e ∷ after
+    (before after : List CallEntry) (e : CallEntry) → entries_in k.log ≡ before ++ e ∷ after
     → All (IsCell (events_of before) e.moment) (hits_in e.outcome)
 
 -- the same of all books

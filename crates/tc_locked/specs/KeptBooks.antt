@@ -6,7 +6,7 @@ use Rattle.tc_grammar.specs.declared.command.Command.{Command}
 use Rattle.tc_past.specs.declared.journal.Journal.{Journal}
 use Rattle.tc_past.specs.declared.journal.Journal.TheVariants.{Off}
 use Rattle.tc_plain.specs.UserCache.{UserCache}
-use Rattle.tc_locked.specs.declared.entry.Entry.{Entry}
+use Rattle.tc_locked.specs.declared.call_entry.CallEntry.{CallEntry}
 use Rattle.tc_locked.specs.declared.view.Note.{Note}
 use Rattle.tc_locked.specs.declared.view.Face.{Face}
 use Rattle.tc_locked.specs.declared.view.View.{View}
@@ -52,11 +52,11 @@ log_of [] = []
 log_of (v ∷ vs) = notes_of v.books
 
 -- the entries of notes
-abbrev pub entries_in : List Note → List Entry
+abbrev pub entries_in : List Note → List CallEntry
 entries_in log = map (λ n. n.entry) log
 
 -- the notes of a page
-abbrev pub on_page : ℕ → ℕ → List Entry → List Note
+abbrev pub on_page : ℕ → ℕ → List CallEntry → List Note
 on_page user page es = map (λ e. note user page e) es
 
 -- the notes of so many pages, the first being page 0, each of which has `journal` entries
@@ -64,7 +64,7 @@ abbrev pub ArePages : ℕ → ℕ → ℕ → List Note → Type 0
 ArePages user journal zero notes = notes ≡ []
 ArePages user journal (suc page) notes =
     (before : List Note)
-    × (es : List Entry)
+    × (es : List CallEntry)
     × (notes ≡ before ++ on_page user page es)
     × (length es ≡ journal)
     × ArePages user journal page before

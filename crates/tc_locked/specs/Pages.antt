@@ -1,11 +1,11 @@
 -- A page: its entries in proofs, and in memory where they are kept. Source: this project's own.
 use Rattle.std.specs.Prelude.{◌≡◌, ◌<◌, ◌≤◌, List, length, map, take, vec_len, vec_capacity}
 use Rattle.tc_past.specs.declared.journal.Journal.TheVariants.{On}
-use Rattle.tc_locked.specs.declared.entry.Entry.{Entry}
+use Rattle.tc_locked.specs.declared.call_entry.CallEntry.{CallEntry}
 use Rattle.tc_locked.specs.declared.page.Page.{Page}
 
 -- the entries of a page
-abbrev pub entries_on : Page → List Entry
+abbrev pub entries_on : Page → List CallEntry
 entries_on p = map (λ n. n.0) p.noted.items
 
 -- the entries are counted, and where they are kept, they stand at the front of the list

@@ -3,7 +3,7 @@ use Rattle.std.specs.Prelude.{◌≡◌, ◌≢◌, ℕ, ◌<◌, ◌≤◌, tru
 use mathlib.Core.Option.{some}
 use lib.ListN.{get_elem?}
 use Rattle.atomic_table.specs.Table.{State, Me, Step}
-use Rattle.tc_locked.specs.declared.entry.Entry.{Entry}
+use Rattle.tc_locked.specs.declared.call_entry.CallEntry.{CallEntry}
 use Rattle.tc_locked.specs.declared.view.Note.{Note}
 use Rattle.tc_locked.specs.declared.view.Face.{Face}
 use Rattle.tc_locked.specs.declared.view.View.{View}
@@ -56,7 +56,7 @@ abbrev pub Kept : List View → Type 0
 Kept views = (t : Truth) × Bounded t × ((by : ℕ) (v : View) → get_elem? views by ≡ some v → Fits t by v)
 
 -- the rule: it asks nothing of the word
-abbrev pub Holds : State Entry View → Type 0
+abbrev pub Holds : State CallEntry View → Type 0
 Holds s = Kept s.views
 
 -- of each book and each seat that one view has, the book's notes of the seat are the seat's notes of the book
@@ -64,10 +64,10 @@ abbrev pub Tied : View → Type 0
 Tied v = Each (λ f. Each (λ g. by_seat g.number f.notes ≡ of_user f.number g.notes) v.seats) v.books
 
 -- the step's entry goes into both lists of the seat, under the page that it names
-abbrev pub Adds : Step Entry → Me Entry View → ℕ → Me Entry View → Type 0
+abbrev pub Adds : Step CallEntry → Me CallEntry View → ℕ → Me CallEntry View → Type 0
 Adds step me found me' = (me' ≡ (added me.0 step.said step.first, me.1)) × Tied me'.0
 
 -- the view is tied, and of a view that hands out books, no book is twice, and none is past the last
-abbrev pub Ties : Step Entry → Me Entry View → ℕ → Me Entry View → Type 0
+abbrev pub Ties : Step CallEntry → Me CallEntry View → ℕ → Me CallEntry View → Type 0
 Ties step me found me' =
     (me' ≡ me) × Tied me.0 × Apart me.0.books × (me.0.mints ≡ true → Each (λ f. f.number < me.0.books_made) me.0.books)

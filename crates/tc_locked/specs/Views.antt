@@ -2,7 +2,7 @@
 use Rattle.std.specs.Prelude.{ℕ, ◌==◌, ◌+◌, true, false, List, [], ◌∷◌, ◌++◌}
 use Rattle.std.specs.List.{filter}
 use mathlib.Core.Option.{Option, none, some}
-use Rattle.tc_locked.specs.declared.entry.Entry.{Entry}
+use Rattle.tc_locked.specs.declared.call_entry.CallEntry.{CallEntry}
 use Rattle.tc_locked.specs.declared.view.Note.{Note}
 use Rattle.tc_locked.specs.declared.view.Face.{Face}
 use Rattle.tc_locked.specs.declared.view.View.{View}
@@ -12,7 +12,7 @@ abbrev pub table_words : ℕ
 table_words = 512
 
 -- an entry in a user's book, on a page
-abbrev pub note : ℕ → ℕ → Entry → Note
+abbrev pub note : ℕ → ℕ → CallEntry → Note
 note u p e = record { user = u; page = p; entry = e }
 
 -- the notes in this user's book
@@ -104,7 +104,7 @@ add_first [] n = []
 add_first (f ∷ fs) n = face f.number (f.notes ++ n ∷ []) ∷ fs
 
 -- a note goes into both lists
-abbrev pub added : View → Option Entry → ℕ → View
+abbrev pub added : View → Option CallEntry → ℕ → View
 added v none p = v
 added v (some e) p = record {
   mints = v.mints;

@@ -4,8 +4,8 @@ use Rattle.tc_grammar.specs.declared.command.Command.{Command}
 use Rattle.tc_grammar.specs.declared.command.Command.TheVariants.{Quit}
 use Rattle.tc_stats.specs.declared.outcome.Outcome.{Outcome}
 use Rattle.tc_stats.specs.declared.outcome.Outcome.TheVariants.{Done}
-use Rattle.tc_locked.specs.declared.entry.Entry.{Entry}
-use Rattle.tc_locked.specs.declared.entry.Numbers.{Numbers}
+use Rattle.tc_locked.specs.declared.call_entry.CallEntry.{CallEntry}
+use Rattle.tc_locked.specs.declared.call_entry.Numbers.{Numbers}
 
 -- the numbers and the command that were noted first
 abbrev pub first_command : List (Numbers × Command) → Numbers × Command
@@ -18,7 +18,7 @@ first_outcome [] = Done
 first_outcome (x ∷ xs) = x.1
 
 -- an entry, from its numbers, its command and its outcome
-abbrev pub entry_from : Numbers → Command → Outcome → Entry
+abbrev pub entry_from : Numbers → Command → Outcome → CallEntry
 entry_from n command outcome = record {
   seat = n.seat;
   tally = n.tally;
@@ -30,5 +30,5 @@ entry_from n command outcome = record {
 }
 
 -- the entry of what was noted
-abbrev pub entry_seen : Numbers × Command → Outcome → Entry
+abbrev pub entry_seen : Numbers × Command → Outcome → CallEntry
 entry_seen said outcome = entry_from said.0 said.1 outcome

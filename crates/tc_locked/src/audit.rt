@@ -3,7 +3,7 @@ ghost use Rattle.std.specs.Prelude.{◌≡◌, IfOk, OnOk};
 ghost use Rattle.tc_plain.specs.Doing.{act};
 ghost use Rattle.tc_locked.specs.Audits.{IsAuditOf};
 
-use crate::entry::Entry;
+use crate::call_entry::CallEntry;
 use std::alloc::Global;
 use tc_item::NoMemory;
 use tc_past::Journal;
@@ -32,7 +32,7 @@ pub struct Audit {
 }
 
 /// Does an entry's command again at its moment: what it comes to.
-fn do_again(alloc: Global, cache: &mut Plain, entry: &Entry) -> Result<Outcome, NoMemory>
+fn do_again(alloc: Global, cache: &mut Plain, entry: &CallEntry) -> Result<Outcome, NoMemory>
     ensures outcome { IfOk result (λ again. again
         ≡ (act cache.old entry.now.moment entry.now.command).0) }
     ensures state { OnOk result (cache.new ≡ (act cache.old entry.now.moment entry.now.command).1) }
@@ -43,7 +43,7 @@ fn do_again(alloc: Global, cache: &mut Plain, entry: &Entry) -> Result<Outcome, 
 
 /// Does the calls of a page again on the cache that it began with, which is the definition's reading of
 /// each command, and compares what each comes to with what was kept of it.
-pub fn audit_page(alloc: Global, opening: Plain, entries: &[Entry]) -> Result<Audit, NoMemory>
+pub fn audit_page(alloc: Global, opening: Plain, entries: &[CallEntry]) -> Result<Audit, NoMemory>
     ensures { IfOk result (λ audit. IsAuditOf opening entries.now audit) }
 {
     let mut cache = opening;

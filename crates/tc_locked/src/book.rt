@@ -2,18 +2,17 @@
 ghost use Rattle.std.specs.Prelude.{◌≡◌, ◌≢◌, ℕ, ◌+◌, ◌-◌, ◌^◌, ◌<◌, ◌≤◌, length, IfOk, OnOk, IfErr, OnErr, slice_get};
 ghost use Rattle.std.specs.Prelude.{slice_index, slice_set, vec_len, vec_capacity, Some, IfSome, IfNone};
 ghost use Rattle.tc_past.specs.declared.journal.Journal.TheVariants.{Off as IsOff};
-ghost use Rattle.tc_plain.specs.Keeping.{kept_by};
-ghost use Rattle.tc_locked.specs.declared.entry.Entry.{Entry};
+ghost use Rattle.tc_plain.specs.Keeping.{kept_by, IsActed};
+ghost use Rattle.tc_locked.specs.declared.call_entry.CallEntry.{CallEntry};
 ghost use Rattle.tc_locked.specs.Pages.{entries_on, IsPage, HasRoom};
 ghost use Rattle.tc_fresh.specs.Beginning.{IsEmptyCache};
 ghost use Rattle.tc_plain.specs.Doing.{act};
-ghost use Rattle.tc_locked.specs.Books.{entry_of, after_call, slip_of, after_maintain, page_turned, turn_if, paged, fresh_book};
+ghost use Rattle.tc_locked.specs.Books.{entry_of, after_call, slip_of, after_maintain, page_turned, paged, fresh_book, IsBookFault, IsNumberAt};
 ghost use Rattle.tc_locked.specs.Closing.{HasLegalPage};
-ghost use Rattle.tc_locked.specs.declared.call_fault.CallFault.TheVariants.{Worn, NoUser, OtherBook};
 
+use crate::call_entry::{CallEntry, Numbers, Slip};
 use crate::call_fault::CallFault;
 use crate::called::Called;
-use crate::entry::{Entry, Numbers, Slip};
 use crate::page::Page;
 use crate::unread::Unread;
 use std::alloc::Global;
@@ -88,9 +87,7 @@ fn make_ready(page: &mut Page, number: u64) -> Result<(), CallFault>
     ensures journal { page.new.journal ≡ page.old.journal }
     ensures room { OnOk result (HasRoom page.new) }
     ensures number { OnOk result (number + 1 < 2 ^ 64) }
-    ensures worn { IfErr result (λ fault. (fault ≡ Worn → number ≡ 2 ^ 64 - 1)
-        × (fault ≢ NoUser)) }
-    ensures own { IfErr result (λ fault. fault ≢ OtherBook) }
+    ensures fault { IfErr result (IsBookFault number) }
 {
     if number == u64::MAX {
         return Err(CallFault::Worn);
@@ -111,19 +108,13 @@ fn act_on_next<C: Cache>(
     command: &Command,
     keep: Journal,
 ) -> Result<Acted, CallFault>
-    ensures answer { IfOk result (λ r. r.answer
-        ≡ (act (C.settled cache.old) moment command.now).0) }
-    ensures kept { IfOk result (λ r. r.kept
-        ≡ kept_by keep (act (C.settled cache.old) moment command.now).0) }
-    ensures state { OnOk result (C.settled cache.new
-        ≡ (act (C.settled cache.old) moment command.now).1) }
+    ensures acted { IfOk result (λ r. IsActed keep
+        (act (C.settled cache.old) moment command.now) r (C.settled cache.new)) }
     ensures opening { C.opened cache.new ≡ C.opened cache.old }
     ensures next { OnOk result (C.next cache.new ≡ C.settled cache.old) }
     ensures room { OnOk result (vec_len left.new < vec_capacity left.new) }
     ensures number { OnOk result (number + 1 < 2 ^ 64) }
-    ensures worn { IfErr result (λ fault. (fault ≡ Worn → number ≡ 2 ^ 64 - 1)
-        × (fault ≢ NoUser)) }
-    ensures own { IfErr result (λ fault. fault ≢ OtherBook) }
+    ensures fault { IfErr result (IsBookFault number) }
     ensures unchanged_on_err { OnErr result (C.settled cache.new ≡ C.settled cache.old) }
 {
     if number == u64::MAX {
@@ -180,9 +171,7 @@ impl<C: Cache> Book<C> {
             ≡ entry_of self.old seat_no now conn command.now) }
         ensures entered { OnOk result (self.new
             ≡ after_call self.old (entry_of self.old seat_no now conn command.now)) }
-        ensures worn { IfErr result (λ fault. (fault ≡ Worn → self.old.number ≡ 2 ^ 64 - 1)
-            × (fault ≢ NoUser)) }
-        ensures own { IfErr result (λ fault. fault ≢ OtherBook) }
+        ensures fault { IfErr result (IsBookFault self.old.number) }
         ensures unchanged_on_err { OnErr result (self.new ≡ self.old) }
     {
         let moment = self.moment.later(now);
@@ -220,22 +209,6 @@ impl<C: Cache> Book<C> {
         self.cache.maintain(now, limit)
     }
 
-    /// Begins a new page at what the cache stands for, where the page has entries. A refusal changes
-    /// nothing.
-    pub fn turn_page(&mut self, alloc: Global) -> Result<(), NoMemory>
-        ensures turned { OnOk result (self.new ≡ turn_if self.old.entries self.old) }
-        ensures unchanged_on_err { OnErr result (self.new ≡ self.old) }
-    {
-        if self.page.len() == 0 {
-            return Ok(());
-        }
-        self.cache.prepare(alloc)?;
-        drop(self.cache.turn());
-        self.page.clear();
-        self.turns += 1;
-        Ok(())
-    }
-
     /// `call` on a new page, which begins at what the cache stands for. The turn's memory is taken before
     /// the call, and the page is turned after it, so a refusal changes nothing. The entries of the page
     /// before stay until new ones take their places, one a call.
@@ -257,9 +230,7 @@ impl<C: Cache> Book<C> {
             ≡ entry_of self.old seat_no now conn command.now) }
         ensures entered { OnOk result (self.new ≡ after_call (page_turned self.old)
             (entry_of self.old seat_no now conn command.now)) }
-        ensures worn { IfErr result (λ fault. (fault ≡ Worn → self.old.number ≡ 2 ^ 64 - 1)
-            × (fault ≢ NoUser)) }
-        ensures own { IfErr result (λ fault. fault ≢ OtherBook) }
+        ensures fault { IfErr result (IsBookFault self.old.number) }
         ensures unchanged_on_err { OnErr result (self.new ≡ self.old) }
     {
         let moment = self.moment.later(now);
@@ -317,9 +288,7 @@ impl<C: Cache> Book<C> {
             ≡ entry_of self.old seat_no now conn command.now) }
         ensures entered { OnOk result (self.new ≡ after_call (paged journal self.old)
             (entry_of self.old seat_no now conn command.now)) }
-        ensures worn { IfErr result (λ fault. (fault ≡ Worn → self.old.number ≡ 2 ^ 64 - 1)
-            × (fault ≢ NoUser)) }
-        ensures own { IfErr result (λ fault. fault ≢ OtherBook) }
+        ensures fault { IfErr result (IsBookFault self.old.number) }
         ensures unchanged_on_err { OnErr result (self.new ≡ self.old) }
     {
         if self.page.len() < journal {
@@ -338,10 +307,10 @@ impl<C: Cache> Book<C> {
     }
 
     /// The entry of that number, if it stands on this page; an error only where none are kept.
-    pub fn entry(&self, number: u64) -> Result<Option<&Entry>, Unread>
-        ensures found { IfOk result (λ found. (j : ℕ) (e : Entry)
+    pub fn entry(&self, number: u64) -> Result<Option<&CallEntry>, Unread>
+        ensures found { IfOk result (λ found. (j : ℕ) (e : CallEntry)
             → slice_get self.now.entries j ≡ Some e
-            → number + length self.now.entries ≡ self.now.number + j + 1
+            → IsNumberAt number j self.now
             → IfSome found (λ x. x.now ≡ e) × IfNone found ⊥) }
         ensures off { IfErr result (λ fault. self.now.keeps ≡ IsOff) }
     {
@@ -380,7 +349,7 @@ impl<C: Cache> Book<C> {
     }
 
     /// The entries of the page, in order; an error only where they are not kept.
-    pub fn page(&self) -> Result<&[Entry], Unread>
+    pub fn page(&self) -> Result<&[CallEntry], Unread>
         ensures entries { IfOk result (λ entries. entries.now ≡ self.now.entries) }
         ensures off { IfErr result (λ _. self.now.keeps ≡ IsOff) }
         ensures legal { HasLegalPage self.now }

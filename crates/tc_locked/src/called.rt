@@ -1,5 +1,5 @@
 //! What a call under a user's lock gives back.
-use crate::entry::Slip;
+use crate::call_entry::Slip;
 use crate::witness::Witness;
 use tc_plain::LeftOver;
 

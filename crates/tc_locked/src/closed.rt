@@ -8,8 +8,8 @@ ghost use Rattle.tc_locked.specs.Closing.{HasLegalPage, all_agree};
 ghost use Rattle.tc_locked.specs.declared.view.Note.{Note};
 
 use crate::audit::Audit;
+use crate::call_entry::CallEntry;
 use crate::closing::Shut;
-use crate::entry::Entry;
 use crate::hall::Hall;
 use crate::naming::{Naming, TableSeat};
 use crate::receipt::Receipt;
@@ -89,7 +89,7 @@ impl<C: Cache, N: Naming> Closed<C, N> {
 
     /// The entry of a receipt: none exactly where its page was turned, and an error only where the hall's
     /// journal is off.
-    pub fn entry_of(&self, receipt: &Receipt<N>) -> Result<Option<&Entry>, Unread>
+    pub fn entry_of(&self, receipt: &Receipt<N>) -> Result<Option<&CallEntry>, Unread>
         ensures found { IfOk result (λ found. (n : Note) → HasNote self.now.seats n
             → IsNoteOf receipt.now.user receipt.now.slip n
             → IsUser (length N.terms.begins) receipt.now.user
@@ -123,7 +123,7 @@ impl<C: Cache, N: Naming> Closed<C, N> {
 
     /// The entries of the last page of a user's book; `None` exactly where there is no such user, and an
     /// error only where the hall's journal is off.
-    pub fn page(&self, user: UserNo) -> Result<Option<&[Entry]>, Unread>
+    pub fn page(&self, user: UserNo) -> Result<Option<&[CallEntry]>, Unread>
         ensures page { IfOk result (λ page. option_copied page
             ≡ option_map (λ book. book.entries) (book_of user self.now.books)) }
         ensures known { IfOk result (λ page. IfSome page

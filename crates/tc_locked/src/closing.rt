@@ -6,12 +6,13 @@ ghost use Rattle.tc_locked.specs.Rule.{Tied, Apart};
 ghost use Rattle.tc_past.specs.declared.journal.Journal.TheVariants.{Off as IsOff};
 ghost use Rattle.tc_locked.specs.declared.unread.Unread.TheVariants.{Off};
 ghost use Rattle.tc_locked.specs.KeptBooks.{IsKept};
-ghost use Rattle.tc_locked.specs.declared.entry.Entry.{Entry};
+ghost use Rattle.tc_locked.specs.declared.call_entry.CallEntry.{CallEntry};
+ghost use Rattle.tc_locked.specs.Books.{IsNumberAt};
 ghost use Rattle.tc_locked.specs.Closing.{seat_face, add_seats, shut_of, TookBooks, HasLegalPage, all_agree};
 
 use crate::audit::{Audit, audit_page};
 use crate::book::Book;
-use crate::entry::Entry;
+use crate::call_entry::CallEntry;
 use crate::kept::Kept;
 use crate::naming::{Naming, Shared, TableSeat};
 use crate::seat::Seat;
@@ -56,12 +57,12 @@ impl<C: Cache> Shut<C> {
     }
 
     /// The entry of that page and that number, if the page was not turned.
-    pub fn entry(&self, page: u64, number: u64) -> Result<Option<&Entry>, Unread>
+    pub fn entry(&self, page: u64, number: u64) -> Result<Option<&CallEntry>, Unread>
         ensures other { IfOk result (λ found. page ≢ self.now.book.turns
             → IfSome found (λ _. ⊥)) }
-        ensures found { IfOk result (λ found. page ≡ self.now.book.turns → (j : ℕ) (e : Entry)
+        ensures found { IfOk result (λ found. page ≡ self.now.book.turns → (j : ℕ) (e : CallEntry)
             → slice_get self.now.book.entries j ≡ Some e
-            → number + length self.now.book.entries ≡ self.now.book.number + j + 1
+            → IsNumberAt number j self.now.book
             → IfSome found (λ x. x.now ≡ e) × IfNone found ⊥) }
         ensures off { IfErr result (λ _. self.now.book.keeps ≡ IsOff) }
     {
@@ -80,7 +81,7 @@ impl<C: Cache> Shut<C> {
     }
 
     /// The entries of the page.
-    pub fn page(&self) -> Result<&[Entry], Unread>
+    pub fn page(&self) -> Result<&[CallEntry], Unread>
         ensures entries { IfOk result (λ entries. entries.now ≡ self.now.book.entries) }
         ensures off { IfErr result (λ _. self.now.book.keeps ≡ IsOff) }
         ensures legal { HasLegalPage self.now.book }

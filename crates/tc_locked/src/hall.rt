@@ -1,8 +1,7 @@
 //! A hall: each user's book under a lock of its own.
-ghost use Rattle.std.specs.Prelude.{◌≡◌, ◌<◌, ◌≤◌, ◌++◌, ◌∷◌, [], length, IfOk, OnOk, IfErr, OnErr, vec_len};
+ghost use Rattle.std.specs.Prelude.{◌≡◌, ◌↔◌, ◌<◌, ◌≤◌, ◌++◌, ◌∷◌, [], length, IfOk, OnOk, IfErr, OnErr, vec_len};
 ghost use Rattle.tc_locked.specs.Closing.{AllKept, AllTied, AllThere, AllFresh};
-ghost use Rattle.tc_locked.specs.Calls.{IsUser, Wrote};
-ghost use Rattle.tc_locked.specs.Outcomes.{IsOutcomeOf};
+ghost use Rattle.tc_locked.specs.Calls.{IsUser, IsAnswered};
 ghost use Rattle.tc_locked.specs.Refusals.{refusal};
 ghost use Rattle.tc_locked.specs.declared.call_fault.CallFault.TheVariants.{NoUser, NoMemory as OutOfMemory};
 ghost use Rattle.tc_plain.specs.Keeping.{kept_by};
@@ -105,12 +104,9 @@ impl<C: Cache, N: Naming> Hall<C, N> {
     ) -> Result<Receipt<N>, CallFault>
         requires held { F.pre held }
         ensures receipt { IfOk result (λ receipt. receipt.user ≡ user) }
-        ensures wrote { IfOk result (λ receipt. Wrote user seat.old now conn command.now
-            receipt.slip seat.new) }
-        ensures outcome { IfOk result (λ receipt. IsOutcomeOf command.now receipt.slip.outcome) }
-        ensures known { IfOk result (λ _. IsUser self.now user) }
-        ensures unknown { IfErr result (λ fault. (fault ≡ NoUser → IsUser self.now user → ⊥)
-            × ((IsUser self.now user → ⊥) → fault ≡ NoUser)) }
+        ensures answered { IfOk result (λ receipt. IsAnswered self.now user seat.old now conn
+            command.now receipt.slip seat.new) }
+        ensures unknown { IfErr result (λ fault. (fault ≡ NoUser) ↔ (IsUser self.now user → ⊥)) }
         ensures unchanged_on_err { OnErr result (seat.new ≡ seat.old) }
         ensures refused { IfErr result (λ fault. refusals.new
             ≡ refusals.old ++ refusal user conn fault command.now ∷ []) }
@@ -139,12 +135,9 @@ impl<C: Cache, N: Naming> Hall<C, N> {
     ) -> Result<Receipt<N>, CallFault>
         requires held { F.pre held }
         ensures receipt { IfOk result (λ receipt. receipt.user ≡ user) }
-        ensures wrote { IfOk result (λ receipt. Wrote user seat.old now conn command.now
-            receipt.slip seat.new) }
-        ensures outcome { IfOk result (λ receipt. IsOutcomeOf command.now receipt.slip.outcome) }
-        ensures known { IfOk result (λ _. IsUser self.now user) }
-        ensures unknown { IfErr result (λ fault. (fault ≡ NoUser → IsUser self.now user → ⊥)
-            × ((IsUser self.now user → ⊥) → fault ≡ NoUser)) }
+        ensures answered { IfOk result (λ receipt. IsAnswered self.now user seat.old now conn
+            command.now receipt.slip seat.new) }
+        ensures unknown { IfErr result (λ fault. (fault ≡ NoUser) ↔ (IsUser self.now user → ⊥)) }
         ensures unchanged_on_err { OnErr result (seat.new ≡ seat.old) }
     {
         let number = user.number();
@@ -197,12 +190,9 @@ impl<C: Cache, N: Naming> Hall<C, N> {
         command: &Command,
     ) -> Result<Receipt<N>, CallFault>
         ensures receipt { IfOk result (λ receipt. receipt.user ≡ user) }
-        ensures wrote { IfOk result (λ receipt. Wrote user seat.old now conn command.now
-            receipt.slip seat.new) }
-        ensures outcome { IfOk result (λ receipt. IsOutcomeOf command.now receipt.slip.outcome) }
-        ensures known { IfOk result (λ _. IsUser self.now user) }
-        ensures unknown { IfErr result (λ fault. (fault ≡ NoUser → IsUser self.now user → ⊥)
-            × ((IsUser self.now user → ⊥) → fault ≡ NoUser)) }
+        ensures answered { IfOk result (λ receipt. IsAnswered self.now user seat.old now conn
+            command.now receipt.slip seat.new) }
+        ensures unknown { IfErr result (λ fault. (fault ≡ NoUser) ↔ (IsUser self.now user → ⊥)) }
         ensures unchanged_on_err { OnErr result (seat.new ≡ seat.old) }
     {
         let mut lease = Lease::none(alloc);

@@ -1,16 +1,15 @@
 //! What lies under a user's lock: the user's book, beside its own seat of the hall's table.
-ghost use Rattle.std.specs.Prelude.{◌≡◌, ◌≢◌, ◌-◌, ◌^◌, ◌<◌, ◌≤◌, IfOk, OnOk, IfErr, OnErr, length};
+ghost use Rattle.std.specs.Prelude.{◌≡◌, ◌<◌, ◌≤◌, IfOk, OnOk, IfErr, OnErr, length};
 ghost use Rattle.tc_plain.specs.Keeping.{kept_by};
 ghost use Rattle.tc_locked.specs.Views.{table_words, of_user};
-ghost use Rattle.tc_locked.specs.Books.{entry_of, slip_of, paged, after_maintain};
+ghost use Rattle.tc_locked.specs.Books.{entry_of, slip_of, paged, after_maintain, IsBookFault};
 ghost use Rattle.tc_locked.specs.KeptBooks.{kept_after, seat_after};
-ghost use Rattle.tc_locked.specs.declared.call_fault.CallFault.TheVariants.{Worn, NoUser, OtherBook};
 
 use crate::book::Book;
 use crate::call_fault::CallFault;
 use crate::called::Called;
+use crate::entering::note_both;
 use crate::naming::{Naming, Shared};
-use crate::noting::note_both;
 use crate::seat::Seat;
 use crate::view::View;
 use atomic_table::Badge;
@@ -71,9 +70,7 @@ impl<C: Cache, N: Naming> Kept<C, N> {
             ≡ seat_after journal self.old seat.old now conn command.now) }
         ensures tally { IfOk result (λ called. called.slip.tally
             ≡ length (of_user self.old.user seat.new.notes)) }
-        ensures worn { IfErr result (λ fault. (fault ≡ Worn → self.old.book.number ≡ 2 ^ 64 - 1)
-            × (fault ≢ NoUser)) }
-        ensures own { IfErr result (λ fault. fault ≢ OtherBook) }
+        ensures fault { IfErr result (IsBookFault self.old.book.number) }
         ensures unchanged_on_err { OnErr result ((self.new ≡ self.old) × (seat.new ≡ seat.old)) }
     {
         let called = self

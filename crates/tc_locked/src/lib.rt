@@ -43,18 +43,18 @@
 
 mod audit;
 mod book;
+mod call_entry;
 mod call_fault;
 mod called;
 mod clock;
 mod closed;
 mod closing;
-mod entry;
+mod entering;
 mod hall;
 mod kept;
 mod lease;
 mod locking;
 pub mod naming;
-mod noting;
 mod old_entries;
 mod opening;
 mod page;
@@ -67,11 +67,11 @@ mod witness;
 
 pub use audit::{Audit, Difference, audit_page};
 pub use book::Book;
+pub use call_entry::{CallEntry, Numbers, Slip};
 pub use call_fault::CallFault;
 pub use called::Called;
 pub use clock::Clock;
 pub use closed::{Closed, Missing};
-pub use entry::{Entry, Numbers, Slip};
 pub use hall::Hall;
 pub use kept::Kept;
 pub use lease::Lease;

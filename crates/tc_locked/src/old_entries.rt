@@ -1,5 +1,5 @@
 //! Reads the entries of a page that was turned, before new ones take their places.
-use crate::entry::Entry;
+use crate::call_entry::CallEntry;
 use std::sync::atomic::{AtomicU64, Ordering};
 use tc_grammar::Command;
 use tc_stats::{Hits, Outcome};
@@ -17,7 +17,7 @@ fn data_of_hits(hits: &Hits) -> u64 {
 }
 
 /// The same of an entry that holds one item's data at most.
-fn data_of_one(entry: &Entry) -> u64 {
+fn data_of_one(entry: &CallEntry) -> u64 {
     if let Command::Store(_, blob) = &entry.command {
         return blob.len() as u64;
     }
@@ -28,7 +28,7 @@ fn data_of_one(entry: &Entry) -> u64 {
 }
 
 /// The same of an entry that holds more.
-fn data_of_many(entry: &Entry) -> u64 {
+fn data_of_many(entry: &CallEntry) -> u64 {
     match &entry.outcome {
         Outcome::Values(hits) if hits.len() > 1 => data_of_hits(hits),
         _ => 0,
@@ -36,7 +36,7 @@ fn data_of_many(entry: &Entry) -> u64 {
 }
 
 /// The same of the entries of one item each from a place on, where it is a sixteenth.
-fn data_from(entries: &[Entry], from: usize) -> u64 {
+fn data_from(entries: &[CallEntry], from: usize) -> u64 {
     let mut sum: u64 = 0;
     if from % AT_ONCE == 0 {
         for place in from..from.saturating_add(AT_ONCE) {
@@ -53,7 +53,7 @@ fn data_from(entries: &[Entry], from: usize) -> u64 {
 /// wait for the memory of each data, whose holders are counted by an atomic that no later read
 /// overtakes; these reads wait together. What they come to goes to an atomic, so that a compiler leaves
 /// them in.
-pub(crate) fn prefetch(entries: &[Entry], from: usize) {
+pub(crate) fn prefetch(entries: &[CallEntry], from: usize) {
     let Some(entry) = entries.get(from) else {
         return;
     };

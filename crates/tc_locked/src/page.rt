@@ -6,7 +6,7 @@ ghost use Rattle.tc_plain.specs.Keeping.{kept_by};
 ghost use Rattle.tc_locked.specs.Witnesses.{entry_from};
 ghost use Rattle.tc_locked.specs.Pages.{entries_on, IsPage, HasRoom};
 
-use crate::entry::{Entry, Numbers};
+use crate::call_entry::{CallEntry, Numbers};
 use crate::old_entries::prefetch;
 use crate::unread::Unread;
 use crate::witness::Witness;
@@ -26,13 +26,13 @@ pub struct Page {
     /// How many there are.
     pub(crate) used: usize,
     /// The entries, and behind them such of the page before as are not replaced yet.
-    pub(crate) kept: Vec<Entry>,
+    pub(crate) kept: Vec<CallEntry>,
     /// Whether they are kept.
     pub(crate) journal: Journal,
 }
 
 /// Puts an entry behind the first `used`, in the place of the one there, if there is one.
-fn put(entries: &mut Vec<Entry>, used: usize, entry: Entry)
+fn put(entries: &mut Vec<CallEntry>, used: usize, entry: CallEntry)
     requires within { used ≤ length entries.old.items }
     requires room { length entries.old.items ≤ used
         → vec_len entries.old < vec_capacity entries.old }
@@ -50,7 +50,7 @@ fn put(entries: &mut Vec<Entry>, used: usize, entry: Entry)
 
 /// Keeps an entry behind the first `used`, of what is given to keep of it.
 fn keep(
-    entries: &mut Vec<Entry>,
+    entries: &mut Vec<CallEntry>,
     used: usize,
     journal: Journal,
     numbers: Numbers,
@@ -69,7 +69,11 @@ fn keep(
     ensures within { journal ≡ On → used + 1 ≤ length entries.new.items }
 {
     match (copy, outcome) {
-        (Some(command), Some(outcome)) => put(entries, used, Entry::of(numbers, command, outcome)),
+        (Some(command), Some(outcome)) => put(
+            entries,
+            used,
+            CallEntry::of(numbers, command, outcome),
+        ),
         (_, _) => {}
     }
 }
@@ -168,7 +172,7 @@ impl Page {
     }
 
     /// The entries, in order; an error exactly where they are not kept.
-    pub(crate) fn entries(&self) -> Result<&[Entry], Unread>
+    pub(crate) fn entries(&self) -> Result<&[CallEntry], Unread>
         requires { IsPage self.now }
         ensures entries { IfOk result (λ entries. entries.now ≡ entries_on self.now) }
         ensures kept { IfOk result (λ _. self.now.journal ≡ On) }

@@ -1,5 +1,5 @@
 //! What the seats of a hall's table know, and the table's rule. No value of these structs is made.
-use crate::entry::Entry;
+use crate::call_entry::CallEntry;
 use crate::witness::Witness;
 use atomic_table::{Join, Play, Split, TableRule};
 use std::collections::LinkedList;
@@ -9,7 +9,7 @@ use tc_users::UserNo;
 pub struct Note {
     pub user: UserNo,
     pub page: u64,
-    pub entry: Entry,
+    pub entry: CallEntry,
 }
 
 /// The notes of a user's book, or of a caller's seat.

@@ -2,7 +2,7 @@
 ghost use Rattle.std.specs.Prelude.{◌≡◌};
 ghost use Rattle.tc_locked.specs.Witnesses.{entry_from};
 
-use crate::entry::Numbers;
+use crate::call_entry::Numbers;
 use http_server::Log;
 use std::marker::Model;
 use tc_grammar::Command;
@@ -17,10 +17,10 @@ pub struct Witness {
 }
 
 impl Model for Witness {
-    ghost use Rattle.tc_locked.specs.declared.entry.Entry.{Entry};
+    ghost use Rattle.tc_locked.specs.declared.call_entry.CallEntry.{CallEntry};
     ghost use Rattle.tc_locked.specs.Witnesses.{entry_seen, first_command, first_outcome};
 
-    ghost Value = { Entry };
+    ghost Value = { CallEntry };
 
     ghost view = { λ w. entry_seen (first_command w.said.items) (first_outcome w.given.items) };
 }

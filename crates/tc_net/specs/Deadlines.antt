@@ -1,7 +1,7 @@
 -- When a connection has stayed too long. Source: docs/OPERATING.md, 'Settings': `login_seconds`, `stalled_seconds` and
 -- `idle_seconds`. Seconds are counted from the server's start, and a second that began is not a whole one.
 use Rattle.std.specs.Prelude.{ℕ, ◌+◌, Bool, false, nat_lt, ◌||◌, Option, Some, None}
-use Rattle.tc_users.specs.declared.limits.Limits.{Limits}
+use Rattle.tc_users.specs.declared.limits.ConnectionLimits.{ConnectionLimits}
 use Rattle.tc_users.specs.declared.limits.UserLimits.{UserLimits}
 use Rattle.tc_net.specs.declared.overdue.Stay.{Stay}
 
@@ -16,10 +16,10 @@ is_stalled limit None now = false
 is_stalled limit (Some since) now = is_past limit since now
 
 -- it has not logged in for too long; or its user is known, and it has asked for nothing for too long
-abbrev pub is_silent : Limits → Option UserLimits → Stay → ℕ → Bool
+abbrev pub is_silent : ConnectionLimits → Option UserLimits → Stay → ℕ → Bool
 is_silent limits None stay now = is_past limits.login_seconds stay.came now
 is_silent limits (Some own) stay now = is_past own.idle_seconds stay.heard now
 
 -- either
-abbrev pub is_overdue : Limits → Option UserLimits → Stay → ℕ → Bool
+abbrev pub is_overdue : ConnectionLimits → Option UserLimits → Stay → ℕ → Bool
 is_overdue limits own stay now = is_silent limits own stay now || is_stalled limits.stalled_seconds stay.stuck now

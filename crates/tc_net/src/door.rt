@@ -7,7 +7,7 @@ use std::net::SocketAddr;
 use std::sync::Wait;
 use std::sync::atomic::AtomicU64;
 use std::sync::atomic::Ordering::SeqCst;
-use tc_users::{Limits, LimitsByUser, UserNo};
+use tc_users::{ConnectionLimits, LimitsByUser, UserNo};
 use tc_workers::{News, Remark};
 
 /// The most open connections.
@@ -98,7 +98,7 @@ impl Place {
 #[derive(Drop)]
 pub(crate) struct Door {
     places: Vec<Place>,
-    limits: Limits,
+    limits: ConnectionLimits,
     user_limits: LimitsByUser,
     /// The second that it is, counted from 1 at the server's start.
     second: AtomicU64,
@@ -118,7 +118,7 @@ pub(crate) struct Door {
 impl Door {
     pub(crate) fn new(
         alloc: Global,
-        limits: Limits,
+        limits: ConnectionLimits,
         user_limits: LimitsByUser,
     ) -> Result<Door, AllocError> {
         let mut places = Vec::with_capacity(alloc, MOST_OPEN)?;

@@ -2,7 +2,7 @@
 ghost use Rattle.std.specs.Prelude.{◌≡◌};
 ghost use Rattle.tc_net.specs.Deadlines.{is_past, is_stalled, is_silent, is_overdue};
 
-use tc_users::{Limits, UserLimits};
+use tc_users::{ConnectionLimits, UserLimits};
 
 /// What a connection's stay is judged by, in seconds of the server.
 #[derive(Clone, Copy, Debug, PartialEq, Eq)]
@@ -39,7 +39,7 @@ fn is_stalled(limit: Option<u32>, stuck: Option<u64>, now: u64) -> bool
 }
 
 /// Whether it has not logged in for too long; or where its user is known, whether it asked for nothing.
-fn is_silent(limits: Limits, own: Option<UserLimits>, stay: Stay, now: u64) -> bool
+fn is_silent(limits: ConnectionLimits, own: Option<UserLimits>, stay: Stay, now: u64) -> bool
     ensures { result ≡ is_silent limits own stay now }
 {
     match own {
@@ -49,7 +49,12 @@ fn is_silent(limits: Limits, own: Option<UserLimits>, stay: Stay, now: u64) -> b
 }
 
 /// Whether a connection has stayed too long, under these limits and those of its user.
-pub(crate) fn is_overdue(limits: Limits, own: Option<UserLimits>, stay: Stay, now: u64) -> bool
+pub(crate) fn is_overdue(
+    limits: ConnectionLimits,
+    own: Option<UserLimits>,
+    stay: Stay,
+    now: u64,
+) -> bool
     ensures { result ≡ is_overdue limits own stay now }
 {
     is_silent(limits, own, stay, now) || is_stalled(limits.stalled_seconds, stay.stuck, now)

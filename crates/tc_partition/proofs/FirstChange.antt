@@ -13,7 +13,7 @@ use Rattle.tc_plain.specs.declared.shared.change.Change.{Change}
 use Rattle.tc_plain.specs.declared.shared.change.Was.{Was}
 use Rattle.tc_plain.specs.declared.shared.change.Was.TheVariants.{Held, Due}
 use Rattle.tc_partition.specs.Agreement.{set_at}
-use Rattle.tc_partition.specs.Undoing.{Noted, Notes, undo, undo_one, was_in, keeps_by, keeps, is_kept, is_told, back_by, level_by, IsNoted, IsLog}
+use Rattle.tc_partition.specs.Undoing.{ChangeLog, Notes, undo, undo_one, was_in, keeps_by, keeps, is_kept, is_told, back_by, level_by, IsNoted, IsLog}
 use Rattle.tc_partition.proofs.Undoing.{set_other, set_same, held_pushed, due_pushed}
 use Rattle.tc_partition.proofs.Moves.{fun_same}
 
@@ -216,7 +216,7 @@ log_begun marks part none fits = record {
 }
 
 -- ---- a change that is noted, or comes back anyway
-need_not : (slot : ℕ) (log : Noted) (s t : Slab Entry) → undo log.since (slab_get t) ≡ undo log.since (slab_get s)
+need_not : (slot : ℕ) (log : ChangeLog) (s t : Slab Entry) → undo log.since (slab_get t) ≡ undo log.since (slab_get s)
     → IsNoted slot log log s t
 need_not slot log s t same = record {
   then = λ i. record { page = undo log.before (same i); next = same i };
@@ -227,23 +227,23 @@ need_not slot log s t same = record {
 }
 
 -- what a slot held
-pub noted_held : (slot : ℕ) (o x : Option Entry) (old new : Noted) (s t : Slab Entry) → o ≡ slab_get s slot
+pub noted_held : (slot : ℕ) (o x : Option Entry) (old new : ChangeLog) (s t : Slab Entry) → o ≡ slab_get s slot
     → Notes (record { slot = slot; was = Held o }) old new
     → ((n : ℕ) → slab_get t n ≡ set_at slot x (slab_get s) n) → IsNoted slot old new s t
 noted_held slot o x old new s t was (inl is) put = held_pushed slot o x old new s t was is put
 noted_held slot o x old new s t was (inr same) put =
-    subst (λ (z : Noted). IsNoted slot old z s t) (sym same.0)
+    subst (λ (z : ChangeLog). IsNoted slot old z s t) (sym same.0)
     (need_not slot old s t (ap (undo old.since) (fun_same (slab_get t) (set_at slot x (slab_get s)) put)
     ∙ undo_again slot x old.since (slab_get s) same.1))
 
 -- the due that was
-pub noted_due : (slot : ℕ) (was due : KeptDue) (e : Entry) (old new : Noted) (s t : Slab Entry) → slab_get s slot ≡ Some e
+pub noted_due : (slot : ℕ) (was due : KeptDue) (e : Entry) (old new : ChangeLog) (s t : Slab Entry) → slab_get s slot ≡ Some e
     → was ≡ e.item.due → Notes (record { slot = slot; was = Due was }) old new
     → ((n : ℕ) → slab_get t n ≡ set_at slot (Some (with_item e (with_due due e.item))) (slab_get s) n)
     → IsNoted slot old new s t
 noted_due slot was due e old new s t at own (inl is) put = due_pushed slot was due e old new s t at own is put
 noted_due slot was due e old new s t at own (inr same) put =
-    subst (λ (z : Noted). IsNoted slot old z s t) (sym same.0)
+    subst (λ (z : ChangeLog). IsNoted slot old z s t) (sym same.0)
     (need_not slot old s t
     (ap (undo old.since) (fun_same (slab_get t) (set_at slot (Some (with_item e (with_due due e.item))) (slab_get s)) put)
     ∙ undo_due_again slot due e old.since (slab_get s) at same.1))

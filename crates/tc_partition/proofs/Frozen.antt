@@ -4,7 +4,7 @@ use Rattle.std.proofs.Common.{◌≡◌, ℕ, zero, suc, ◌+◌, ◌≤◌, ◌
 use Rattle.std.proofs.Common.{ap, subst, arith}
 use Rattle.std.proofs.lemmas.List.{take_all}
 use Rattle.tc_model.specs.Areas.{Limits, total}
-use Rattle.tc_readbuf.specs.declared.noted.Noted.{Noted}
+use Rattle.tc_readbuf.specs.declared.look_up.LookUp.{LookUp}
 use Rattle.tc_plain.specs.declared.shared.entry.Entry.{Entry}
 use Rattle.tc_plain.specs.Entries.{weight}
 use Rattle.tc_plain.specs.EvictionState.{EvictionState, advanced}
@@ -51,8 +51,8 @@ order_take zero low high (r ∷ rs) h = ends_at low high (r ∷ rs) h
 order_take (suc n) low high (r ∷ rs) h = (h.0, order_take n r.moment high rs h.1)
 
 -- one more record
-pub replay_more : (f : Noted × ℕ → Waiting) (l j : EvictionState) (rs : List (Noted × ℕ)) (i : ℕ) → i < length rs
-    → ((r : Noted × ℕ) → slice_get rs i ≡ Some r → j ≡ replay_one (replay l (take i (map f rs))) (f r))
+pub replay_more : (f : LookUp × ℕ → Waiting) (l j : EvictionState) (rs : List (LookUp × ℕ)) (i : ℕ) → i < length rs
+    → ((r : LookUp × ℕ) → slice_get rs i ≡ Some r → j ≡ replay_one (replay l (take i (map f rs))) (f r))
     → j ≡ replay l (take (suc i) (map f rs))
 replay_more f l j [] i lt h = absurd (omega (arith, lt))
 replay_more f l j (r ∷ rs) zero lt h = h r refl
@@ -73,7 +73,7 @@ pub light_by : (a b : Limits) → a ≡ b → b.window + b.main < 2 ^ 32 → a.w
 light_by a b e h = omega (arith, h, ap (λ (k : Limits). k.window) e, ap (λ (k : Limits). k.main) e)
 
 -- all that waits is done
-pub all_replayed : (l j : EvictionState) (slots : List (Option Entry)) (rs : List (Noted × ℕ)) (n : ℕ) → length rs ≤ n
+pub all_replayed : (l j : EvictionState) (slots : List (Option Entry)) (rs : List (LookUp × ℕ)) (n : ℕ) → length rs ≤ n
     → j ≡ replay l (take n (map (waiting_of slots) rs)) → j ≡ replay l (map (waiting_of slots) rs)
 all_replayed l j slots rs n le e =
     e ∙ ap (replay l) (take_all n (map (waiting_of slots) rs) (omega (arith, length_map (waiting_of slots) rs, le)))
@@ -95,7 +95,7 @@ settled_sound k f sound h e =
     sound_with k (settled f) sound limits width (subst (λ (t : Limits). AreSound t (settled f).areas) limits there)
 
 -- what a copy comes to once all that waits is done to it
-pub frozen_sound : (k : UserCache) (l j : EvictionState) (slots : List (Option Entry)) (rs : List (Noted × ℕ)) (m : ℕ) → IsSound k
+pub frozen_sound : (k : UserCache) (l j : EvictionState) (slots : List (Option Entry)) (rs : List (LookUp × ℕ)) (m : ℕ) → IsSound k
     → IsLazy (lazy_over k.live slots rs m) → l ≡ k.live → j ≡ settled (lazy_over l slots rs m) → IsSound (with_live k j)
 frozen_sound k l j slots rs m sound lazy e f =
     subst (λ (z : EvictionState). IsSound (with_live k z))

@@ -3,7 +3,7 @@ use Rattle.std.specs.Prelude.{max, map, nat_lt, option_map, option_to_list}
 use Rattle.std.proofs.Common.{◌≡◌, ℕ, zero, suc, ◌+◌, ◌<◌, ◌≤◌, Bool, true, false, cond, List, [], ◌∷◌, ◌++◌, length, get_or}
 use Rattle.std.proofs.Common.{Option, Some, None, refl, sym, ◌∙◌, ap, subst, append_assoc, append-nil, arith}
 use Rattle.tc_item.specs.declared.slot.Slot.{Slot}
-use Rattle.tc_readbuf.specs.declared.noted.Noted.{Noted}
+use Rattle.tc_readbuf.specs.declared.look_up.LookUp.{LookUp}
 use Rattle.tc_sketch.specs.Sketch.{hash}
 use Rattle.tc_plain.specs.declared.shared.entry.Entry.{Entry}
 use Rattle.tc_plain.specs.Entries.{hit_of}
@@ -22,19 +22,19 @@ use Rattle.tc_partition.proofs.Deferral.{look_state, noted_lazy, raised_lazy, ra
 use Rattle.tc_partition.proofs.Draining.{IsPut, put_hit, put_miss}
 use Rattle.tc_partition.proofs.Sought.{held_then, placed_sought}
 
-pub put_found : (s : LiveSlots) (rs : List (Noted × ℕ)) (m : ℕ) (key : List ℕ) (h : ℕ) (place : Option Slot) → h ≡ hash key
+pub put_found : (s : LiveSlots) (rs : List (LookUp × ℕ)) (m : ℕ) (key : List ℕ) (h : ℕ) (place : Option Slot) → h ≡ hash key
     → SeeksSlot place m key s → ArePlaced s.held.slots rs → IsPut s rs m key (rs ++ (noted_at h place, m) ∷ [])
 put_found s rs m key h None eh at p = put_miss s rs m key h eh at p
 put_found s rs m key h (Some slot) eh at p = put_hit s rs m key slot h at.0 eh at.1 at.2 at.3 p
 
 -- what is true once it waits, at the moment that the cache then comes to
-pub record IsLookedUp (s : LiveSlots) (rs : List (Noted × ℕ)) (before now : ℕ) (key : List ℕ) (rs' : List (Noted × ℕ)) (m : ℕ)
+pub record IsLookedUp (s : LiveSlots) (rs : List (LookUp × ℕ)) (before now : ℕ) (key : List ℕ) (rs' : List (LookUp × ℕ)) (m : ℕ)
     : Type 0 where
   pub lazy : IsLazy (lazy_by s rs' m)
   pub placed : ArePlaced s.held.slots rs'
   pub settled : settled (lazy_by s rs' m) ≡ hit key (advanced (settled (lazy_by s rs before)) now)
 
-pub look_now : (s : LiveSlots) (rs : List (Noted × ℕ)) (before now : ℕ) (key : List ℕ) (k : ℕ) (place : Option Slot) (m : ℕ)
+pub look_now : (s : LiveSlots) (rs : List (LookUp × ℕ)) (before now : ℕ) (key : List ℕ) (k : ℕ) (place : Option Slot) (m : ℕ)
     → k ≡ hash key → m ≡ max before now → IsLazy (lazy_by s rs before) → ArePlaced s.held.slots rs → SeeksSlot place m key s
     → IsLookedUp s rs before now key (rs ++ (noted_at k place, m) ∷ []) m
 look_now s rs before now key k place m ek e h p at =
@@ -65,12 +65,12 @@ shown_now f now m key o h e seen =
 
 -- the same of keys, one after another, at the moment that the cache then comes to
 module _ (s : LiveSlots) (m : ℕ) where
-  pub record AreLookedUp (rs : List (Noted × ℕ)) (keys : List (List ℕ)) (rs' : List (Noted × ℕ)) : Type 0 where
+  pub record AreLookedUp (rs : List (LookUp × ℕ)) (keys : List (List ℕ)) (rs' : List (LookUp × ℕ)) : Type 0 where
     pub lazy : IsLazy (lazy_by s rs' m)
     pub placed : ArePlaced s.held.slots rs'
     pub settled : settled (lazy_by s rs' m) ≡ (all_looked_up (λ i. i) keys (settled (lazy_by s rs m))).1
 
-  look_each : (rs : List (Noted × ℕ)) (keys : List (List ℕ)) (wanted : List Wanted) (found : List (Option Slot))
+  look_each : (rs : List (LookUp × ℕ)) (keys : List (List ℕ)) (wanted : List Wanted) (found : List (Option Slot))
       → AreHashed keys wanted → IsLazy (lazy_by s rs m) → ArePlaced s.held.slots rs → SeekSlots m keys found s
       → AreLookedUp rs keys (rs ++ all_noted m wanted found)
   look_each rs [] [] found hs h p at =
@@ -79,7 +79,7 @@ module _ (s : LiveSlots) (m : ℕ) where
   look_each rs (key ∷ keys) [] found hs h p at = absurd hs
   look_each rs (key ∷ keys) (w ∷ wanted) [] hs h p at = absurd at
   look_each rs (key ∷ keys) (w ∷ wanted) (place ∷ found) hs h p at =
-      let r : Noted × ℕ = (noted_at w.hash place, m) in
+      let r : LookUp × ℕ = (noted_at w.hash place, m) in
       let put = put_found s rs m key w.hash place hs.0 at.0 p in
       let up : IsLazy (lazy_by s (rs ++ r ∷ []) m) = subst IsLazy (sym put.state) (noted_lazy (lazy_by s rs m) key h) in
       let one : settled (lazy_by s (rs ++ r ∷ []) m) ≡ hit key (settled (lazy_by s rs m)) =
@@ -91,7 +91,7 @@ module _ (s : LiveSlots) (m : ℕ) where
         settled = rest.settled ∙ ap (λ l. (all_looked_up (λ i. i) keys l).1) one;
       })
 
-pub look_all_now : (s : LiveSlots) (rs : List (Noted × ℕ)) (before now : ℕ) (keys : List (List ℕ)) (wanted : List Wanted)
+pub look_all_now : (s : LiveSlots) (rs : List (LookUp × ℕ)) (before now : ℕ) (keys : List (List ℕ)) (wanted : List Wanted)
     (found : List (Option Slot)) (m : ℕ) → AreHashed keys wanted → m ≡ max before now → IsLazy (lazy_by s rs before)
     → ArePlaced s.held.slots rs → SeekSlots m keys found s
     → (let rs' = rs ++ all_noted m wanted found in

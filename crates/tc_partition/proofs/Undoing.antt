@@ -15,7 +15,7 @@ use Rattle.tc_item.specs.declared.moment.Due.{Due as KeptDue}
 use Rattle.tc_plain.specs.Entries.{with_item, with_due}
 use Rattle.tc_partition.specs.Agreement.{set_at}
 use Rattle.slab.specs.Slab.{Slab, get as slab_get, slab_len, Updates}
-use Rattle.tc_partition.specs.Undoing.{Noted, at_slots, undo, undo_one, AreBelow, IsNoted, AreNoted, IsLogged}
+use Rattle.tc_partition.specs.Undoing.{ChangeLog, at_slots, undo, undo_one, AreBelow, IsNoted, AreNoted, IsLogged}
 
 -- ---- a function with another value at a slot
 pub set_same : (s : ℕ) (f : ℕ → Option Entry) (o : Option Entry) → set_at s o f s ≡ o
@@ -69,11 +69,11 @@ length_push : (cs : List Change) (c : Change) → length (cs ++ c ∷ []) ≡ le
 length_push cs c = simp length-append (omega arith)
 
 -- a change that undoes to what was held
-pub noted_by : (d : Change) (old new : Noted) (s t : Slab Entry) → new ≡ record old { since = old.since ++ d ∷ [] }
+pub noted_by : (d : Change) (old new : ChangeLog) (s t : Slab Entry) → new ≡ record old { since = old.since ++ d ∷ [] }
     → undo_one d (slab_get t) ≡ slab_get s → IsNoted d.slot old new s t
 noted_by d old new s t is back =
     let then = undo_push old.since d (slab_get s) (slab_get t) back in
-    subst (λ (z : Noted). IsNoted d.slot old z s t) (sym is)
+    subst (λ (z : ChangeLog). IsNoted d.slot old z s t) (sym is)
     (record {
       then = λ i. record { page = undo old.before (then i); next = then i };
       before = refl;
@@ -83,7 +83,7 @@ noted_by d old new s t is back =
     })
 
 -- what was held is noted
-pub held_pushed : (slot : ℕ) (o x : Option Entry) (old new : Noted) (s t : Slab Entry) → o ≡ slab_get s slot
+pub held_pushed : (slot : ℕ) (o x : Option Entry) (old new : ChangeLog) (s t : Slab Entry) → o ≡ slab_get s slot
     → new ≡ record old { since = old.since ++ (let d : Change = record { slot = slot; was = Held o } in d) ∷ [] }
     → ((n : ℕ) → slab_get t n ≡ set_at slot x (slab_get s) n) → IsNoted slot old new s t
 held_pushed slot o x old new s t was is put =
@@ -91,7 +91,7 @@ held_pushed slot o x old new s t was is put =
     (ap (λ k. undo_one (record { slot = slot; was = Held k }) (slab_get t)) was ∙ undo_held slot x (slab_get s) (slab_get t) put)
 
 -- the due that was is noted
-pub due_pushed : (slot : ℕ) (was due : KeptDue) (e : Entry) (old new : Noted) (s t : Slab Entry) → slab_get s slot ≡ Some e
+pub due_pushed : (slot : ℕ) (was due : KeptDue) (e : Entry) (old new : ChangeLog) (s t : Slab Entry) → slab_get s slot ≡ Some e
     → was ≡ e.item.due
     → new ≡ record old { since = old.since ++ (let d : Change = record { slot = slot; was = Due was } in d) ∷ [] }
     → ((n : ℕ) → slab_get t n ≡ set_at slot (Some (with_item e (with_due due e.item))) (slab_get s) n)
@@ -110,7 +110,7 @@ updated s t k x h n = go (eqb_tells n k)
     go (inr e) = h.others n e.1 ∙ sym (ap (λ b. cond b x (slab_get s n)) e.0)
 
 -- ---- room in the log
-pub logged_noted : (n m slot k e : ℕ) (old new : Noted) (s t : Slab Entry) → IsLogged n old k → IsNoted slot old new s t → slot < n
+pub logged_noted : (n m slot k e : ℕ) (old new : ChangeLog) (s t : Slab Entry) → IsLogged n old k → IsNoted slot old new s t → slot < n
     → m ≡ n → length old.since + 1 + e ≤ old.capacity → IsLogged m new e
 logged_noted n m slot k e old new s t h d lt same room = record {
   before = subst (λ j. AreBelow j new.before) (sym same) (subst (AreBelow n) (sym d.before) h.before);
@@ -123,7 +123,7 @@ below_more : (n m : ℕ) (cs : List Change) → n ≤ m → AreBelow n cs → Ar
 below_more n m [] le h = tt
 below_more n m (c ∷ cs) le h = (omega (arith, le, h.0), below_more n m cs le h.1)
 
-pub logged_more : (n m k : ℕ) (log : Noted) → n ≤ m → IsLogged n log k → IsLogged m log k
+pub logged_more : (n m k : ℕ) (log : ChangeLog) → n ≤ m → IsLogged n log k → IsLogged m log k
 logged_more n m k log le h = record {
   before = below_more n m log.before le h.before;
   since = below_more n m log.since le h.since;
@@ -163,7 +163,7 @@ none_set s n f h = go (eqb_tells n s)
     go (inl e) = ap (λ b. cond b None (f n)) e.0
     go (inr e) = ap (λ b. cond b None (f n)) e.0 ∙ h e.1
 
-pub noted_then : (n : ℕ) (old mid new : Noted) (s t u : Slab Entry) → AreNoted n old mid s t → AreNoted (n + 1) mid new t u
+pub noted_then : (n : ℕ) (old mid new : ChangeLog) (s t u : Slab Entry) → AreNoted n old mid s t → AreNoted (n + 1) mid new t u
     → AreNoted (n + 1) old new s u
 noted_then n old mid new s t u a b = record {
   then = b.then ∙ a.then;
@@ -180,7 +180,7 @@ none_counts (x ∷ xs) h =
     let none : f x ≡ 0 = ap f (h 0) in
     omega (arith, sum_by-cons f x xs, none, none_counts xs (λ n. h (suc n)))
 
-pub logged_all : (n m slots k e : ℕ) (old new : Noted) (s t : Slab Entry) → IsLogged n old (slab_len s) → AreNoted slots old new s t
+pub logged_all : (n m slots k e : ℕ) (old new : ChangeLog) (s t : Slab Entry) → IsLogged n old (slab_len s) → AreNoted slots old new s t
     → slots ≤ n → m ≡ n → e ≤ slab_len t → IsLogged m new e
 logged_all n m slots k e old new s t h d le same fewer = record {
   before = subst (λ j. AreBelow j new.before) (sym same) (subst (AreBelow n) (sym d.before) h.before);
@@ -193,7 +193,7 @@ below_both n [] ds h k = k
 below_both n (c ∷ cs) ds h k = (h.0, below_both n cs ds h.1 k)
 
 -- ---- the next page is prepared
-pub logged_prepared : (n k : ℕ) (old new : Noted) → IsLogged n old k → new.before ≡ old.before ++ old.since → new.since ≡ []
+pub logged_prepared : (n k : ℕ) (old new : ChangeLog) → IsLogged n old k → new.before ≡ old.before ++ old.since → new.since ≡ []
     → k ≤ new.capacity → IsLogged n new k
 logged_prepared n k old new h before since room = record {
   before = subst (AreBelow n) (sym before) (below_both n old.before old.since h.before h.since);
@@ -201,7 +201,7 @@ logged_prepared n k old new h before since room = record {
   roomy = omega (arith, ap (λ (cs : List Change). length cs) since, room);
 }
 
-pub page_prepared : (old new : Noted) (S : ℕ → Option Entry) → new.before ≡ old.before ++ old.since → new.since ≡ []
+pub page_prepared : (old new : ChangeLog) (S : ℕ → Option Entry) → new.before ≡ old.before ++ old.since → new.since ≡ []
     → undo new.before (undo new.since S) ≡ undo old.before (undo old.since S)
 page_prepared old new S before since =
     ap (λ cs. undo cs (undo new.since S)) before ∙ ap (λ cs. undo (old.before ++ old.since) (undo cs S)) since

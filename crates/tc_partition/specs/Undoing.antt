@@ -11,7 +11,7 @@ use Rattle.tc_plain.specs.Entries.{with_item, with_due}
 use Rattle.tc_partition.specs.Agreement.{set_at}
 
 -- a log, as callers see it: changes before the next page was prepared and since, the oldest first, and for how many there is room
-pub record Noted : Type 0 where
+pub record ChangeLog : Type 0 where
   pub before : List Change
   pub since : List Change
   pub capacity : ℕ
@@ -35,7 +35,7 @@ undo [] S = S
 undo (c ∷ cs) S = undo_one c (undo cs S)
 
 -- both, by the log and what slots hold now
-abbrev pub then_by : Noted → (ℕ → Option Entry) → Then (ℕ → Option Entry)
+abbrev pub then_by : ChangeLog → (ℕ → Option Entry) → Then (ℕ → Option Entry)
 then_by log S = record { page = undo log.before (undo log.since S); next = undo log.since S }
 
 -- every change is of a slot below a number
@@ -44,7 +44,7 @@ AreBelow n [] = Unit {0}
 AreBelow n (c ∷ cs) = (c.slot < n) × AreBelow n cs
 
 -- a change of this slot was noted, or comes back anyway: what slots held before is as it was
-pub record IsNoted (slot : ℕ) (old new : Noted) (s t : Slab Entry) : Type 0 where
+pub record IsNoted (slot : ℕ) (old new : ChangeLog) (s t : Slab Entry) : Type 0 where
   pub then : then_by new (slab_get t) ≡ then_by old (slab_get s)
   pub before : new.before ≡ old.before
   pub since : (n : ℕ) → slot < n → AreBelow n old.since → AreBelow n new.since
@@ -52,7 +52,7 @@ pub record IsNoted (slot : ℕ) (old new : Noted) (s t : Slab Entry) : Type 0 wh
   pub capacity : new.capacity ≡ old.capacity
 
 -- the same of each entry that was taken out, of slots below a number
-pub record AreNoted (slots : ℕ) (old new : Noted) (s t : Slab Entry) : Type 0 where
+pub record AreNoted (slots : ℕ) (old new : ChangeLog) (s t : Slab Entry) : Type 0 where
   pub then : then_by new (slab_get t) ≡ then_by old (slab_get s)
   pub before : new.before ≡ old.before
   pub since : (n : ℕ) → slots ≤ n → AreBelow n old.since → AreBelow n new.since
@@ -60,7 +60,7 @@ pub record AreNoted (slots : ℕ) (old new : Noted) (s t : Slab Entry) : Type 0 
   pub capacity : new.capacity ≡ old.capacity
 
 -- the slots of all changes are below a number, and there is room for a change of each of so many entries
-pub record IsLogged (slots : ℕ) (log : Noted) (entries : ℕ) : Type 0 where
+pub record IsLogged (slots : ℕ) (log : ChangeLog) (entries : ℕ) : Type 0 where
   pub before : AreBelow slots log.before
   pub since : AreBelow slots log.since
   pub roomy : length log.since + entries ≤ log.capacity
@@ -70,6 +70,7 @@ abbrev pub keeps_by : Bool → Was → Bool
 keeps_by b (Held o) = b
 keeps_by b (Due due) = false
 
+-- the same, of one slot
 abbrev pub keeps : ℕ → Change → Bool
 keeps s c = keeps_by (c.slot == s) c.was
 
@@ -89,7 +90,7 @@ back_by s cs (Held o) = is_kept s cs
 back_by s cs (Due due) = is_told s cs
 
 -- a change was noted behind the others, or comes back anyway
-abbrev pub Notes : Change → Noted → Noted → Type 0
+abbrev pub Notes : Change → ChangeLog → ChangeLog → Type 0
 Notes c old new =
     (new ≡ record old { since = old.since ++ c ∷ [] })
     ⊎ ((new ≡ old) × (back_by c.slot old.since c.was ≡ true))

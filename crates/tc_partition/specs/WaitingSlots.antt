@@ -1,8 +1,8 @@
 -- What waits, as the code keeps it: by slot. Source: this project's own.
 use Rattle.std.specs.Prelude.{◌≡◌, ℕ, List, [], ◌∷◌, Option, Some, None, map, slice_index_or}
 use Rattle.tc_item.specs.declared.slot.Slot.{Slot}
-use Rattle.tc_readbuf.specs.declared.noted.Noted.{Noted}
-use Rattle.tc_readbuf.specs.declared.noted.Noted.TheVariants.{Hit as HitNoted, Miss as MissNoted}
+use Rattle.tc_readbuf.specs.declared.look_up.LookUp.{LookUp}
+use Rattle.tc_readbuf.specs.declared.look_up.LookUp.TheVariants.{Hit as HitNoted, Miss as MissNoted}
 use Rattle.tc_sketch.specs.Sketch.{hash}
 use Rattle.tc_plain.specs.declared.shared.entry.Entry.{Entry}
 use Rattle.tc_plain.specs.EvictionState.{EvictionState, held}
@@ -12,29 +12,29 @@ use Rattle.tc_partition.specs.LiveSlots.{live_of}
 use Rattle.tc_partition.specs.declared.live_slots.LiveSlots.{LiveSlots}
 
 -- a noted hit by the key of what its slot holds
-abbrev pub note_at : List (Option Entry) → Noted → Note
+abbrev pub note_at : List (Option Entry) → LookUp → Note
 note_at slots (HitNoted slot h) = Hit (entry_or (slice_index_or slots slot.0 None)).key
 note_at slots (MissNoted h) = Miss h
 
 -- what waits, by key
-abbrev pub waiting_of : List (Option Entry) → Noted × ℕ → Waiting
+abbrev pub waiting_of : List (Option Entry) → LookUp × ℕ → Waiting
 waiting_of slots r = record { note = note_at slots r.0; moment = r.1 }
 
 -- what was done last, what waits by these slots, and the moment
-abbrev pub lazy_over : EvictionState → List (Option Entry) → List (Noted × ℕ) → ℕ → Lazy
+abbrev pub lazy_over : EvictionState → List (Option Entry) → List (LookUp × ℕ) → ℕ → Lazy
 lazy_over l slots rs moment = record { base = l; waiting = map (waiting_of slots) rs; moment = moment }
 
 -- a live, what waits and the moment
-abbrev pub lazy_by : LiveSlots → List (Noted × ℕ) → ℕ → Lazy
+abbrev pub lazy_by : LiveSlots → List (LookUp × ℕ) → ℕ → Lazy
 lazy_by s rs moment = lazy_over (live_of s) s.held.slots rs moment
 
 -- a noted hit's slot holds something, whose key has the noted hash
-abbrev pub IsPlaced : List (Option Entry) → Noted → Type 0
+abbrev pub IsPlaced : List (Option Entry) → LookUp → Type 0
 IsPlaced slots (HitNoted slot h) = (e : Entry) × (slice_index_or slots slot.0 None ≡ Some e) × (h ≡ hash e.key)
 IsPlaced slots (MissNoted h) = Unit {0}
 
 -- and so does that of each
-abbrev pub ArePlaced : List (Option Entry) → List (Noted × ℕ) → Type 0
+abbrev pub ArePlaced : List (Option Entry) → List (LookUp × ℕ) → Type 0
 ArePlaced slots [] = Unit {0}
 ArePlaced slots (r ∷ rs) = IsPlaced slots r.0 × ArePlaced slots rs
 

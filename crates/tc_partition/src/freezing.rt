@@ -10,20 +10,20 @@ ghost use Rattle.tc_partition.specs.WaitingSlots.{note_at, waiting_of, lazy_over
 use crate::slots::Slots;
 use tc_item::Moment;
 use tc_plain::EvictionState;
-use tc_readbuf::{Noted, ReadBuf};
+use tc_readbuf::{LookUp, ReadBuf};
 
 /// Does what was noted: a hit by the key of what its slot holds.
-fn do_noted(live: &mut EvictionState, slots: &Slots, noted: Noted)
+fn do_noted(live: &mut EvictionState, slots: &Slots, noted: LookUp)
     requires weight { total weight (areas_of live.old.areas) < 2 ^ 32 }
     requires room { HasRoom 0 live.old.areas }
     ensures live { live_of live.new ≡ do_note (note_at slots.now.slots noted) (live_of live.old) }
     ensures room { HasRoom 0 live.new.areas }
 {
     match noted {
-        Noted::Hit(slot, _) => {
+        LookUp::Hit(slot, _) => {
             let _held = live.look(slots.key_at(slot), None);
         }
-        Noted::Miss(hash) => live.sketch.record(hash),
+        LookUp::Miss(hash) => live.sketch.record(hash),
     }
 }
 
@@ -32,7 +32,7 @@ fn replay_at(live: &mut EvictionState, slots: &Slots, waiting: &ReadBuf, place: 
     requires sound { AreSound live.old.limits (areas_of live.old.areas) }
     requires light { live.old.limits.window + live.old.limits.main < 2 ^ 32 }
     requires room { HasRoom 0 live.old.areas }
-    ensures live { (r : Noted × ℕ) → slice_get waiting.now place ≡ Some r
+    ensures live { (r : LookUp × ℕ) → slice_get waiting.now place ≡ Some r
         → live_of live.new ≡ replay_one (live_of live.old) (waiting_of slots.now.slots r) }
     ensures room { HasRoom 0 live.new.areas }
 {

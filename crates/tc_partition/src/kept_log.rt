@@ -48,9 +48,9 @@ pub struct KeptLog {
 
 impl Model for KeptLog {
     ghost use Rattle.std.specs.Prelude.{vec_capacity};
-    ghost use Rattle.tc_partition.specs.Undoing.{Noted};
+    ghost use Rattle.tc_partition.specs.Undoing.{ChangeLog};
 
-    ghost Value = { Noted };
+    ghost Value = { ChangeLog };
 
     ghost view = { λ l. record {
       before = l.before.items;

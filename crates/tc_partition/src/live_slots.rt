@@ -17,7 +17,7 @@ ghost use Rattle.tc_plain.specs.Plans.{outcome_of, planned, IsLightPlan};
 ghost use Rattle.tc_partition.specs.Held.{IsFound};
 ghost use Rattle.tc_partition.specs.Deferred.{Miss, hit, do_note, peeked};
 ghost use Rattle.tc_partition.specs.WaitingSlots.{SeeksSlot, placed_in, IsPlaced};
-ghost use Rattle.tc_readbuf.specs.declared.noted.Noted.{Noted};
+ghost use Rattle.tc_readbuf.specs.declared.look_up.LookUp.{LookUp};
 ghost use Rattle.tc_partition.specs.LiveSlots.{live_of, then_live, seen_of, plan_of};
 ghost use Rattle.tc_partition.specs.Working.{is_new, is_vacant, IsTarget, IsAimed};
 
@@ -30,7 +30,7 @@ use crate::work::{Target, Work};
 use std::alloc::Global;
 use tc_item::{Due, Key, Moment, NoMemory, Slot, alive};
 use tc_plain::{Areas, Change, End, Entry, EvictionState, Limits};
-use tc_readbuf::Noted;
+use tc_readbuf::LookUp;
 use tc_sketch::{PastSketch, hash};
 use tc_slru::Area;
 use tc_stats::Counters;
@@ -213,7 +213,7 @@ impl LiveSlots {
 
     /// One look-up of the key of what a slot holds, which has this hash.
     pub(crate) fn hit_at(&mut self, slot: Slot, key_hash: u64)
-        requires held { IsPlaced self.old.held.slots (Noted.Hit slot key_hash) }
+        requires held { IsPlaced self.old.held.slots (LookUp.Hit slot key_hash) }
         requires sound { AreSound self.old.held.limits self.old.held.areas }
         requires weight { total weight self.old.held.areas < 2 ^ 32 }
         requires alive { (e : Entry) → slice_index_or self.old.held.slots slot.0 None ≡ Some e
@@ -231,15 +231,15 @@ impl LiveSlots {
 
     /// Reads what a look-up that was noted will change: its counters, and its links in the lists. What that
     /// comes to says nothing.
-    pub(crate) fn read_noted(&self, noted: Noted) -> u64
+    pub(crate) fn read_noted(&self, noted: LookUp) -> u64
         requires { IsPlaced self.now.held.slots noted }
     {
         match noted {
-            Noted::Hit(slot, hash) => {
+            LookUp::Hit(slot, hash) => {
                 let links = self.held.read_links(slot);
                 links ^ self.sketch.read(hash)
             }
-            Noted::Miss(hash) => self.sketch.read(hash),
+            LookUp::Miss(hash) => self.sketch.read(hash),
         }
     }
 

@@ -27,9 +27,9 @@ pub struct Log {
 }
 
 impl Model for Log {
-    ghost use Rattle.tc_partition.specs.Undoing.{Noted};
+    ghost use Rattle.tc_partition.specs.Undoing.{ChangeLog};
 
-    ghost Value = { Noted };
+    ghost Value = { ChangeLog };
 
     ghost use Rattle.tc_partition.specs.Logs.{noted_of};
 

@@ -18,26 +18,22 @@
 //! 3. `within`: each slot that holds an entry has a place in the wheel.
 //!
 //! So what the lists stand for under a key is what is found under its tag.
-ghost use Rattle.std.specs.Prelude.{◌≡◌, ℕ, true, false, IfOk, length, ◌+◌, ◌<◌, ◌≤◌, ◌^◌, Some, None, is_some, IsSome, OnOk, OnErr};
-ghost use Rattle.std.specs.Prelude.{slice_index_or, slice_set};
-ghost use Rattle.tc_model.specs.Areas.{Limits as AreaLimits, total, settle, accessed};
+ghost use Rattle.std.specs.Prelude.{◌≡◌, ℕ, true, IfOk, length, ◌+◌, ◌<◌, ◌≤◌, ◌^◌, Some, None, IsSome, OnOk, slice_index_or};
+ghost use Rattle.tc_model.specs.Areas.{total, accessed};
 ghost use Rattle.std.specs.Option.{option_copied};
-ghost use Rattle.tc_stats.specs.UserCounters.{more};
-ghost use Rattle.tc_plain.specs.AreaLists.{frequency_in, areas_of};
-ghost use Rattle.tc_plain.specs.Soundness.{AreSound};
-ghost use Rattle.tc_plain.specs.Entries.{weight, has_key, lives, with_item, with_due};
-ghost use Rattle.tc_plain.specs.EvictionState.{held, kept, no_entries, entries_of};
-ghost use Rattle.tc_plain.specs.Placing.{without_key};
+ghost use Rattle.tc_plain.specs.Entries.{weight, has_key, with_item, with_due};
+ghost use Rattle.tc_plain.specs.EvictionState.{held, no_entries, entries_of};
 ghost use Rattle.tc_slru.specs.InAreas.{fronted_in};
 ghost use Rattle.tc_plain.specs.declared.shared.entry.Entry.{Entry};
 ghost use Rattle.tc_plain.specs.BySlot.{entry_or};
-ghost use Rattle.tc_partition.specs.Held.{filled, IsFound, FindsSlot, DropsEntry};
+ghost use Rattle.tc_partition.specs.Held.{IsFound, FindsSlot};
+
+mod leaving;
+mod paging;
 
 use crate::log::Log;
-use crate::opened::copy_areas;
-use crate::parts::{
-    copy_at, copy_then, drop_next, empty_all, grow, is_of, key_tag, put, put_due, reached,
-    reached_by, take_in, time, vacate, weight_at,
+use crate::steps::{
+    grow, is_of, key_tag, put, put_due, reached, reached_by, take_in, time, weight_at,
 };
 use crate::tables::Tables;
 use slab::Slab;
@@ -45,19 +41,11 @@ use std::alloc::Global;
 use std::hash::RandomState;
 use std::marker::Model;
 use tc_index::Index;
-use tc_item::{Due, Key, Moment, NoMemory, Slot};
+use tc_item::{Due, Key, NoMemory, Slot};
 use tc_past::Journal;
-use tc_plain::{Areas, Change, Entry, Limits};
-use tc_sketch::PastSketch;
+use tc_plain::{Entry, Limits};
 use tc_slru::{Area, Lists};
 use tc_wheel::Wheel;
-
-/// For how many changes a new log has room at least, beside those of entries that are taken out.
-const LOG_ROOM: usize = 64;
-
-/// Entries are few where they are less than one in so many slots: to take one out alone costs about what it
-/// costs to pass so many.
-const FEW_OF: usize = 32;
 
 /// Tables with places for so many slots are large: some 900 KiB.
 const LARGE: usize = 4096;
@@ -439,233 +427,5 @@ impl Slots {
     {
         let weight = self.lists.weight_of(slot);
         self.lists.access(slot, weight);
-    }
-
-    /// Takes a slot's entry out.
-    pub fn empty(&mut self, slot: Slot)
-        requires { IsSome (slice_index_or self.old.slots slot.0 None) }
-        ensures limits { self.new.limits ≡ self.old.limits }
-        ensures areas { (e : Entry) → slice_index_or self.old.slots slot.0 None ≡ Some e
-            → self.new.areas ≡ without_key e.key self.old.areas }
-        ensures slots { self.new.slots ≡ slice_set self.old.slots slot.0 None }
-        ensures room { self.old.has_room ≡ true → self.new.has_room ≡ true }
-        ensures then { self.new.then ≡ self.old.then }
-        ensures spare { self.old.spare ≤ self.new.spare }
-    {
-        vacate(&mut self.index, &mut self.entries, &mut self.log, slot);
-        self.lists.remove(slot);
-        self.wheel.remove(slot);
-    }
-
-    /// Takes out what a key holds, and says whether it held anything.
-    pub fn remove(&mut self, key: &Key) -> bool
-        ensures held { result ≡ is_some (held key.now self.old.areas) }
-        ensures areas { self.new.areas ≡ without_key key.now self.old.areas }
-        ensures limits { self.new.limits ≡ self.old.limits }
-        ensures room { self.old.has_room ≡ true → self.new.has_room ≡ true }
-        ensures then { self.new.then ≡ self.old.then }
-        ensures spare { self.old.spare ≤ self.new.spare }
-    {
-        match self.find(key) {
-            Some(slot) => {
-                self.empty(slot);
-                true
-            }
-            None => false,
-        }
-    }
-
-    /// Takes the entries of a list out one by one, if there is memory to tell them.
-    fn empty_area(&mut self, area: Area)
-        ensures limits { self.new.limits ≡ self.old.limits }
-        ensures room { self.old.has_room ≡ true → self.new.has_room ≡ true }
-        ensures then { self.new.then ≡ self.old.then }
-        ensures spare { self.old.spare ≤ self.new.spare }
-    {
-        let alloc = self.index.allocator();
-        let Ok(slots) = self.lists.slots_in(alloc, area) else {
-            return;
-        };
-        for slot in &slots {
-            if self.entry(*slot).is_some() {
-                self.empty(*slot);
-            }
-        }
-    }
-
-    /// Takes entries out one by one.
-    fn empty_each(&mut self)
-        ensures limits { self.new.limits ≡ self.old.limits }
-        ensures room { self.old.has_room ≡ true → self.new.has_room ≡ true }
-        ensures then { self.new.then ≡ self.old.then }
-        ensures spare { self.old.spare ≤ self.new.spare }
-    {
-        self.empty_area(Area::Window);
-        self.empty_area(Area::Probation);
-        self.empty_area(Area::Protected);
-    }
-
-    /// Takes all entries out, each of the four in one pass. Where the journal is off, their memory is given
-    /// back later, few with each change.
-    fn clear_whole(&mut self)
-        ensures limits { self.new.limits ≡ self.old.limits }
-        ensures areas { self.new.areas ≡ no_entries }
-        ensures room { self.old.has_room ≡ true → self.new.has_room ≡ true }
-        ensures then { self.new.then ≡ self.old.then }
-        ensures spare { self.old.spare ≤ self.new.spare }
-    {
-        self.index.clear();
-        empty_all(&mut self.entries, &mut self.log, self.wheel.slots());
-        self.entries.clear();
-        self.lists.clear();
-        self.wheel.clear();
-    }
-
-    /// Takes all entries out: one by one where few of the slots hold one, so that it costs what is held.
-    pub fn clear(&mut self)
-        ensures limits { self.new.limits ≡ self.old.limits }
-        ensures areas { self.new.areas ≡ no_entries }
-        ensures room { self.old.has_room ≡ true → self.new.has_room ≡ true }
-        ensures then { self.new.then ≡ self.old.then }
-        ensures spare { self.old.spare ≤ self.new.spare }
-    {
-        if self.count() < self.wheel.slots() / FEW_OF {
-            self.empty_each();
-        }
-        if self.count() > 0 {
-            self.clear_whole();
-        }
-    }
-
-    /// Drops the next entry that settle drops, and says whether there was one.
-    pub fn settle_next(&mut self, sketch: &PastSketch) -> bool
-        ensures limits { self.new.limits ≡ self.old.limits }
-        ensures next { DropsEntry result sketch.now.live self.old self.new }
-        ensures fewer { result ≡ true → filled self.new.slots + 1 ≡ filled self.old.slots }
-        ensures room { self.old.has_room ≡ true → self.new.has_room ≡ true }
-        ensures then { self.new.then ≡ self.old.then }
-        ensures spare { self.old.spare ≤ self.new.spare }
-    {
-        match drop_next(&mut self.lists, &self.entries, sketch) {
-            Some(victim) => {
-                vacate(&mut self.index, &mut self.entries, &mut self.log, victim);
-                self.wheel.remove(victim);
-                true
-            }
-            None => false,
-        }
-    }
-
-    /// Brings each area within its limit, and counts each entry that is dropped.
-    pub fn settle(&mut self, sketch: &PastSketch, mut evictions: u64) -> u64
-        ensures areas { self.new.areas ≡ (settle weight
-            (frequency_in sketch.now.live) self.old.limits self.old.areas).areas }
-        ensures counted { result ≡ more evictions (length (settle weight
-            (frequency_in sketch.now.live) self.old.limits self.old.areas).dropped) }
-        ensures limits { self.new.limits ≡ self.old.limits }
-        ensures room { self.old.has_room ≡ true → self.new.has_room ≡ true }
-        ensures then { self.new.then ≡ self.old.then }
-        ensures spare { self.old.spare ≤ self.new.spare }
-    {
-        while self.settle_next(sketch) {
-            evictions = evictions.saturating_add(1);
-        }
-        evictions
-    }
-
-    /// Takes out one entry that is not alive at the moment, and says whether there was one.
-    pub fn expire_next(&mut self, moment: Moment) -> bool
-        ensures limits { self.new.limits ≡ self.old.limits }
-        ensures kept { kept (lives moment) self.new.areas ≡ kept (lives moment) self.old.areas }
-        ensures none { result ≡ false → kept (lives moment) self.new.areas ≡ self.new.areas }
-        ensures alive { (n : ℕ) (e : Entry) → slice_index_or self.old.slots n None ≡ Some e
-            → lives moment e ≡ true → slice_index_or self.new.slots n None ≡ Some e }
-        ensures fewer { result ≡ true → filled self.new.slots + 1 ≡ filled self.old.slots }
-        ensures sound { (limits : AreaLimits) → AreSound limits self.old.areas
-            → AreSound limits self.new.areas }
-        ensures room { self.old.has_room ≡ true → self.new.has_room ≡ true }
-        ensures then { self.new.then ≡ self.old.then }
-        ensures spare { self.old.spare ≤ self.new.spare }
-    {
-        let _seconds = moment.seconds();
-        match self.wheel.advance(moment) {
-            Some(due) => {
-                vacate(&mut self.index, &mut self.entries, &mut self.log, due);
-                self.lists.remove(due);
-                true
-            }
-            None => false,
-        }
-    }
-
-    /// Takes out what is not alive at the moment.
-    pub fn expire(&mut self, moment: Moment)
-        ensures limits { self.new.limits ≡ self.old.limits }
-        ensures areas { self.new.areas ≡ kept (lives moment) self.old.areas }
-        ensures alive { (n : ℕ) (e : Entry) → slice_index_or self.old.slots n None ≡ Some e
-            → lives moment e ≡ true → slice_index_or self.new.slots n None ≡ Some e }
-        ensures room { self.old.has_room ≡ true → self.new.has_room ≡ true }
-        ensures then { self.new.then ≡ self.old.then }
-        ensures spare { self.old.spare ≤ self.new.spare }
-    {
-        while self.expire_next(moment) {}
-    }
-
-    /// Equal entries in the same order, over the same data.
-    pub fn copy(&self, alloc: Global) -> Result<Areas, NoMemory>
-        ensures { IfOk result (λ areas. areas_of areas ≡ self.now.areas) }
-    {
-        let _ = &self.index;
-        let first = self.lists.slots_in(alloc, Area::Window)?;
-        let window = copy_at(alloc, &self.entries, &first)?;
-        let second = self.lists.slots_in(alloc, Area::Probation)?;
-        let probation = copy_at(alloc, &self.entries, &second)?;
-        let third = self.lists.slots_in(alloc, Area::Protected)?;
-        let protected = copy_at(alloc, &self.entries, &third)?;
-        Ok(Areas {
-            window,
-            probation,
-            protected,
-        })
-    }
-
-    /// The entries when the page began, in their lists, over the same data. Where the journal is off it is
-    /// refused.
-    pub fn opened(&self, alloc: Global) -> Result<Areas, NoMemory>
-        ensures { IfOk result (λ areas. areas_of areas ≡ self.now.then.page) }
-    {
-        let _ = &self.index;
-        let slots = copy_then(alloc, &self.entries, &self.log, self.wheel.slots())?;
-        let lists = self.lists.opened(alloc)?;
-        copy_areas(alloc, &slots, &lists)
-    }
-
-    /// The next page begins with what is held now. A refusal changes nothing.
-    pub fn prepare(&mut self, alloc: Global) -> Result<(), NoMemory>
-        ensures areas { self.new.areas ≡ self.old.areas }
-        ensures limits { self.new.limits ≡ self.old.limits }
-        ensures slots { self.new.slots ≡ self.old.slots }
-        ensures page { self.new.then.page ≡ self.old.then.page }
-        ensures next { OnOk result (self.new.then.next ≡ self.new.areas) }
-        ensures unchanged_on_err { OnErr result (self.new ≡ self.old) }
-    {
-        let held = self.entries.len();
-        let room = held.saturating_add(held / 4).saturating_add(LOG_ROOM);
-        self.log.prepare(alloc, room)?;
-        self.lists.prepare();
-        Ok(())
-    }
-
-    /// Begins the page at what was prepared, and gives what slots held before its changes.
-    pub fn turn(&mut self) -> Option<Vec<Change>>
-        ensures areas { self.new.areas ≡ self.old.areas }
-        ensures limits { self.new.limits ≡ self.old.limits }
-        ensures slots { self.new.slots ≡ self.old.slots }
-        ensures page { self.new.then.page ≡ self.old.then.next }
-        ensures next { self.new.then.next ≡ self.old.then.next }
-    {
-        let _ = &self.index;
-        self.lists.turn();
-        self.log.turn()
     }
 }

@@ -25,9 +25,9 @@ pub struct UnkeptLog {
 }
 
 impl Model for UnkeptLog {
-    ghost use Rattle.tc_partition.specs.Undoing.{Noted};
+    ghost use Rattle.tc_partition.specs.Undoing.{ChangeLog};
 
-    ghost Value = { Noted };
+    ghost Value = { ChangeLog };
 
     ghost use Rattle.tc_partition.specs.Seen.{noted_in};
 

@@ -1,7 +1,7 @@
 -- What is remembered of the past, with the journal on or off.
 use Rattle.std.specs.Prelude.{◌≡◌, ℕ, List, length}
 use Rattle.tc_past.specs.Told.{Told}
-use Rattle.tc_past.specs.Noted.{undone}
+use Rattle.tc_past.specs.FirstChanges.{undone}
 use Rattle.tc_past.specs.Logs.{AreLogs, HaveRoom}
 use Rattle.tc_past.specs.Pages.{Paged, page_of}
 use Rattle.tc_past.specs.declared.remembered.Remembered.{Remembered}

@@ -1,7 +1,7 @@
 //! Two logs that lead back from what is held to what was held.
 ghost use Rattle.std.specs.Prelude.{◌≡◌, ℕ, List, ◌<◌, ◌≤◌, ◌^◌, [], length, slice_index_or, OnOk};
 ghost use Rattle.tc_model.specs.Ring.{AreBelow};
-ghost use Rattle.tc_past.specs.Noted.{no_notes, places, undone, noted};
+ghost use Rattle.tc_past.specs.FirstChanges.{no_notes, places, undone, noted};
 ghost use Rattle.tc_past.specs.Logs.{told, AreLogs, HaveRoom};
 ghost use Rattle.tc_past.specs.Told.{prepared, turned};
 

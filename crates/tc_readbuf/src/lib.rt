@@ -5,8 +5,8 @@
 //! alone takes memory. Nothing is said of where the records lie.
 #![tactic(auto)]
 
-mod noted;
+mod look_up;
 mod read_buf;
 
-pub use noted::Noted;
+pub use look_up::LookUp;
 pub use read_buf::{Full, PLACES, ReadBuf};

@@ -3,7 +3,7 @@ ghost use Rattle.std.specs.Prelude.{◌≡◌, ◌↔◌, ◌≤◌, ◌∷◌, 
 ghost use Rattle.std.specs.Prelude.{slice_get};
 ghost use Rattle.tc_readbuf.specs.Places.{places};
 
-use crate::noted::Noted;
+use crate::look_up::LookUp;
 use circular_buffer::HeapCircularBuffer;
 use std::alloc::Global;
 use std::error::Error;
@@ -29,15 +29,15 @@ impl Error for Full {}
 /// Up to 128 records that wait, each what was noted and its moment, in the order noted.
 #[derive(Drop)]
 pub struct ReadBuf {
-    ring: HeapCircularBuffer<(Noted, Moment)>,
+    ring: HeapCircularBuffer<(LookUp, Moment)>,
 }
 
 impl Model for ReadBuf {
     ghost use Rattle.std.specs.Prelude.{◌≡◌, ◌≤◌, ℕ, List, length};
     ghost use Rattle.tc_readbuf.specs.Places.{places};
-    ghost use Rattle.tc_readbuf.specs.declared.noted.Noted.{Noted};
+    ghost use Rattle.tc_readbuf.specs.declared.look_up.LookUp.{LookUp};
 
-    ghost Value = { List (Noted × ℕ) };
+    ghost Value = { List (LookUp × ℕ) };
 
     ghost view = { λ b. b.ring.items };
 
@@ -58,7 +58,7 @@ impl ReadBuf {
 
     /// Notes what a look-up found at a moment, behind the records that wait. `Full` where 128 wait,
     /// and nothing changes.
-    pub fn note(&mut self, noted: Noted, moment: Moment) -> Result<(), Full>
+    pub fn note(&mut self, noted: LookUp, moment: Moment) -> Result<(), Full>
         ensures noted { OnOk result (self.new ≡ self.old ++ (noted, moment) ∷ []) }
         ensures full { IsErr result ↔ (length self.old ≡ places) }
         ensures unchanged_on_err { OnErr result (self.new ≡ self.old) }
@@ -70,7 +70,7 @@ impl ReadBuf {
     }
 
     /// Takes the record that was noted first, if one waits.
-    pub fn take(&mut self) -> Option<(Noted, Moment)>
+    pub fn take(&mut self) -> Option<(LookUp, Moment)>
         ensures { MatchOption result ((self.old ≡ []) × (self.new ≡ []))
             (λ first. self.old ≡ first ∷ self.new) }
     {
@@ -78,7 +78,7 @@ impl ReadBuf {
     }
 
     /// The record at a place in the order noted, the first at 0; none where fewer wait.
-    pub fn get(&self, place: usize) -> Option<(Noted, Moment)>
+    pub fn get(&self, place: usize) -> Option<(LookUp, Moment)>
         ensures { result ≡ slice_get self.now place }
     {
         self.ring.get(place).copied()

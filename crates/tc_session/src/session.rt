@@ -353,10 +353,10 @@ impl Session {
     }
 
     /// How many bytes came and are unread.
-    pub fn kept(&self) -> usize
+    pub fn unread_len(&self) -> usize
         ensures { result ≡ length self.now.endpoint.reader.unread }
     {
-        self.feed.kept()
+        self.feed.unread_len()
     }
 
     /// Whose the connection is, once it has logged in and is not closed.

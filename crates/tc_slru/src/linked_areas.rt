@@ -32,7 +32,7 @@ use tc_ring::PastRing;
 
 /// A slot of a list, and what it weighs.
 #[derive(Clone, Copy)]
-pub struct Held {
+pub struct Listed {
     pub slot: Slot,
     pub weight: u32,
 }
@@ -247,7 +247,7 @@ impl LinkedAreas {
 
     /// Moves a slot to the front of a list, maybe its own.
     #[inline(always)]
-    pub fn move_to(&mut self, area: Area, held: Held)
+    pub fn move_to(&mut self, area: Area, held: Listed)
         requires held { holds held.slot.0 self.old.live.areas ≡ true }
         requires fits { total weigh (without_slot held.slot.0 self.old.live.areas) + held.weight
             < 2 ^ 64 }
@@ -268,13 +268,13 @@ impl LinkedAreas {
     }
 
     /// The last of a list.
-    pub fn last(&self, area: Area) -> Held
+    pub fn last(&self, area: Area) -> Listed
         requires { 0 < length (list_in area self.now.live.areas) }
         ensures { IsLast (placed result.slot.0 result.weight) area self.now.live.areas }
     {
         let at = self.nodes.node(end_of(area)).prev as usize;
         let node = self.nodes.node(at);
-        Held {
+        Listed {
             slot: Slot(at - MARKS),
             weight: node.note.weight,
         }

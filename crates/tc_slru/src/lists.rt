@@ -8,7 +8,7 @@ ghost use Rattle.tc_slru.specs.Victims.{Counts};
 ghost use Rattle.tc_slru.specs.SlotLists.{fresh, reserved, cleared, pushed, removed, accessed_at, weights_of, DropsNext};
 
 use crate::area::Area;
-use crate::linked_areas::{Held, LinkedAreas};
+use crate::linked_areas::{LinkedAreas, Listed};
 use crate::opened_areas::OpenedAreas;
 use crate::settle::{Limits, drop_next, hold_protected};
 use std::alloc::Global;
@@ -194,7 +194,7 @@ impl Lists {
     {
         let to = self.areas.area_of(slot).raised();
         let weight = weight as u32;
-        self.areas.move_to(to, Held { slot, weight });
+        self.areas.move_to(to, Listed { slot, weight });
         hold_protected(&mut self.areas, self.limits.protected);
     }
 

@@ -7,7 +7,7 @@ use Rattle.tc_users.specs.Bounds.{most_seconds, most_connections}
 use Rattle.tc_users.specs.declared.limits.Limit.{Limit}
 use Rattle.tc_users.specs.declared.limits.Limit.TheVariants.{LoginSeconds, StalledSeconds, UnboundConnections, Connections}
 use Rattle.tc_users.specs.declared.limits.Limit.TheVariants.{IdleSeconds}
-use Rattle.tc_users.specs.declared.limits.Limits.{Limits}
+use Rattle.tc_users.specs.declared.limits.ConnectionLimits.{ConnectionLimits}
 use Rattle.tc_users.specs.declared.limits.UserLimits.{UserLimits}
 use Rattle.tc_users.specs.declared.settings_fault.Field.TheVariants.{Limited}
 use Rattle.tc_users.specs.declared.settings_fault.SettingsFault.{SettingsFault}
@@ -40,7 +40,7 @@ limit_fault_in limit d =
     (range_fault 1 (most_of limit) (LimitRange limit) (number_in (field_in (Limited limit) d))))
 
 -- the limits on all connections
-abbrev pub limits_in : Data → Limits
+abbrev pub limits_in : Data → ConnectionLimits
 limits_in d = record {
   login_seconds = limit_in LoginSeconds d;
   stalled_seconds = limit_in StalledSeconds d;

@@ -4,7 +4,7 @@
 //! the list of the rows, whose users are numbered from 1 in that order. `Users::build` takes rows
 //! that have no fault, else gives the first one (`specs/Faults.antt`); `Users::login` is the first
 //! row that the data opens (`specs/Login.antt`). What connections may come to stands beside the rows, as
-//! `Limits` and, by user, `LimitsByUser` (`specs/LimitFields.antt`). `Settings::from_toml` answers by the table that a
+//! `ConnectionLimits` and, by user, `LimitsByUser` (`specs/LimitFields.antt`). `Settings::from_toml` answers by the table that a
 //! text is for the TOML reader (`specs/SettingsTable.antt`): its contract is `IsAnswer`. No clause
 //! says where a text that is not TOML is wrong, nor, of a text with more than white space and
 //! comments, that memory suffices.
@@ -26,7 +26,7 @@ pub use bounds::{
     DEFAULT_PAGE, LARGEST_PAGE, LONGEST_NAME, LONGEST_TOKEN, MOST_CONNECTIONS, MOST_SECONDS,
     MOST_WORKERS, SMALLEST_PAGE,
 };
-pub use limits::{Limit, Limits, LimitsByUser, UserLimits};
+pub use limits::{ConnectionLimits, Limit, LimitsByUser, UserLimits};
 pub use settings::{Address, Settings};
 pub use settings_fault::{Field, Found, SettingsFault, TextFault};
 pub use text::Text;

@@ -7,7 +7,7 @@ ghost use Rattle.tc_users.specs.LimitFields.{limit_in, limit_fault_in, limits_in
 ghost use Rattle.tc_users.specs.LimitFields.{user_limits_fault, limits_fault_after};
 
 use crate::fields::{find_field, read_number};
-use crate::{Field, Limit, Limits, LimitsByUser, SettingsFault, UserLimits};
+use crate::{ConnectionLimits, Field, Limit, LimitsByUser, SettingsFault, UserLimits};
 use std::alloc::Global;
 use tc_item::NoMemory;
 use toml::Value;
@@ -29,14 +29,14 @@ fn read_limit(limit: Limit, table: &Value) -> Result<Option<u32>, SettingsFault>
 }
 
 /// The limits on all connections.
-pub fn read_limits(table: &Value) -> Result<Limits, SettingsFault>
+pub fn read_limits(table: &Value) -> Result<ConnectionLimits, SettingsFault>
     ensures fault { result_err result ≡ limits_fault_in (view table.now) }
     ensures limits { IfOk result (λ limits. limits ≡ limits_in (view table.now)) }
 {
     let login_seconds = read_limit(Limit::LoginSeconds, table)?;
     let stalled_seconds = read_limit(Limit::StalledSeconds, table)?;
     let unbound_connections = read_limit(Limit::UnboundConnections, table)?;
-    Ok(Limits {
+    Ok(ConnectionLimits {
         login_seconds,
         stalled_seconds,
         unbound_connections,

@@ -84,7 +84,7 @@ impl Limit {
 
 /// The limits on all connections. `None` is no limit.
 #[derive(Clone, Copy, Debug, PartialEq, Eq)]
-pub struct Limits {
+pub struct ConnectionLimits {
     /// A connection that has not logged in after so many seconds is closed.
     pub login_seconds: Option<u32>,
     /// A connection that takes no byte of what waits for it for so many seconds is closed.

@@ -14,8 +14,8 @@ use crate::fields::{find_field, found_of, read_number, read_text};
 use crate::limit_fields::{read_each_limits, read_limits};
 use crate::user_table::read_rows;
 use crate::{
-    DEFAULT_PAGE, Field, Found, LARGEST_PAGE, Limits, LimitsByUser, MOST_WORKERS, SMALLEST_PAGE,
-    SettingsFault, Users,
+    ConnectionLimits, DEFAULT_PAGE, Field, Found, LARGEST_PAGE, LimitsByUser, MOST_WORKERS,
+    SMALLEST_PAGE, SettingsFault, Users,
 };
 use std::alloc::Global;
 use std::marker::Model;
@@ -64,7 +64,7 @@ pub struct Settings {
     /// How many entries a journal's page has, 16 to 65,536; 16 where the text says nothing.
     pub journal: usize,
     /// The limits on all connections.
-    pub limits: Limits,
+    pub limits: ConnectionLimits,
     /// Where the metrics are told, if they are.
     pub metrics: Option<Address>,
     /// At least one user.

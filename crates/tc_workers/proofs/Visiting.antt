@@ -11,7 +11,8 @@ use Rattle.tc_workers.specs.Talks.{DeskState, Goes, Notes, Talks, Carries}
 use Rattle.tc_workers.specs.Lives.{TalkState, IsOpen}
 use Rattle.tc_workers.specs.Turns.{WorkerState, Visit, Moved, Dropped, IsMoved, IsDropped, AllVisits, moves_of, moves_in}
 use Rattle.tc_workers.specs.Turns.{Serves, Ends, GoesOnOrEnds, goes_on}
-use Rattle.tc_workers.proofs.Talking.{notes-still, notes-as, notes-more, notes-append, carries-talks, carries-same}
+use Rattle.tc_workers.proofs.Talking.{notes-still, notes-as, notes-more, notes-append, carries-talks}
+use Rattle.tc_workers.proofs.SingleMoves.{carries-same}
 
 all_visits-append : (rows : List UserSpec) (a b c : List (Option TalkState)) (vs ws : List Visit) → AllVisits rows a vs b
     → AllVisits rows b ws c → AllVisits rows a (vs ++ ws) c

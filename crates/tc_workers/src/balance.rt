@@ -195,10 +195,10 @@ impl Home {
 
     /// Whether more workers pay where so much is sent a look with them, at such a load.
     fn pays(&self, sent: u64, load: u64) -> bool {
-        let more = sent.saturating_sub(self.usual);
-        if more < self.usual / GAIN {
+        if sent < self.usual.saturating_add(self.usual / GAIN) {
             return false;
         }
+        let more = sent.saturating_sub(self.usual);
         self.width <= 2 || more >= self.usual / LARGE_GAIN || self.is_as_cheap(sent, load)
     }
 

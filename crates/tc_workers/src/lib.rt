@@ -83,7 +83,7 @@ mod worker;
 pub use balance::Balance;
 pub use crew::{CrewFault, Returned, Why, run_crew};
 pub use did::{Did, Traffic};
-pub use gate::{Gate, Open, Place};
+pub use gate::{Gate, Open, Stage};
 pub use homes::{Homes, home_of};
 pub use keeper::{Keeper, Source};
 pub use laws::{answering, staying_open};

@@ -206,7 +206,7 @@ impl<W: Wire + Drop> Link<W> {
     pub(crate) fn holding(&self) -> Holding {
         Holding {
             user: self.user(),
-            unread: self.session.kept(),
+            unread: self.session.unread_len(),
             unsent: self.session.about_out(),
         }
     }
@@ -224,10 +224,10 @@ impl<W: Wire + Drop> Link<W> {
     }
 
     /// How many of its bytes are unread.
-    pub(crate) fn kept(&self) -> usize
+    pub(crate) fn unread_len(&self) -> usize
         ensures { result ≤ most_kept }
     {
-        self.session.kept()
+        self.session.unread_len()
     }
 
     /// The first part of a turn: reads. Whether it goes on.

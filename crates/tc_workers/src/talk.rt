@@ -162,11 +162,11 @@ impl<W: Wire + Drop> Talk<W> {
     }
 
     /// How many of its bytes are unread.
-    pub(crate) fn kept(&self) -> usize
+    pub(crate) fn unread_len(&self) -> usize
         ensures most { result ≤ most_kept }
         ensures talk { HasTalk self.now }
     {
-        self.link.kept()
+        self.link.unread_len()
     }
 
     /// The first part of a turn (`Link::take_in`). Whether it goes on.

@@ -3,14 +3,14 @@
 use std::process::Abort;
 use std::test::Fail;
 use tc_item::{Moment, Slot};
-use tc_readbuf::{Full, Noted, ReadBuf};
+use tc_readbuf::{Full, LookUp, ReadBuf};
 
 /// A hit for an even number, a miss for an odd one.
-fn noted(number: usize) -> Noted {
+fn noted(number: usize) -> LookUp {
     if number % 2 == 0 {
-        Noted::Hit(Slot(number), 7)
+        LookUp::Hit(Slot(number), 7)
     } else {
-        Noted::Miss(number as u64)
+        LookUp::Miss(number as u64)
     }
 }
 

@@ -189,7 +189,7 @@ fn expect_piece(
 /// Whether all requests were found and nothing is unread.
 fn expect_end(rt: &impl Abort, feed: &Feed, number: usize) {
     expect_number(rt, number as u64, REQUESTS.len() as u64, "found");
-    expect_number(rt, feed.kept() as u64, 0, "kept");
+    expect_number(rt, feed.unread_len() as u64, 0, "kept");
 }
 
 /// Whether the stream holds the same requests where it comes in these two pieces.
@@ -245,7 +245,7 @@ fn what_is_passed_over_is_gone_with_its_block(rt: HostRuntime) -> Result<(), Fai
         expect_passed(&rt, &mut feed, passed, "stream")?;
     }
     expect_passed(&rt, &mut feed, NOTHING, "end")?;
-    expect_number(&rt, feed.kept() as u64, 0, "kept");
+    expect_number(&rt, feed.unread_len() as u64, 0, "kept");
     Ok(())
 }
 
@@ -268,7 +268,7 @@ fn expect_look(rt: &(impl AllocGlobal + Abort), feed: &mut Feed, look: &Look) ->
     push(feed, piece.as_bytes())?;
     let shown = shown(rt.alloc(), feed, limit)?;
     expect_text(rt, shown.as_str(), request, piece);
-    expect_number(rt, feed.kept() as u64, kept, piece);
+    expect_number(rt, feed.unread_len() as u64, kept, piece);
     Ok(())
 }
 

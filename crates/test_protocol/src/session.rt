@@ -4,6 +4,7 @@ ghost use Rattle.std.specs.Prelude.{◌≡◌, ◌≤◌, true, OnOk};
 ghost use Rattle.tc_session.specs.Replies.{can_end};
 
 mod later;
+mod refusals;
 mod shared;
 mod table;
 
@@ -13,13 +14,13 @@ use std::alloc::Global;
 use std::process::Abort;
 use std::test::Fail;
 use table::{
-    ANSWERED, BEFORE_A_LOGIN, CALLED, CAME_TO, COUNTERS, DECLINED, FAULTS, FOUND, LINE_TOO_LONG,
-    LOGINS, LOOK_UPS, MISS, QUITTING, REFUSALS, REPLIES, Reply, SHUT, STATS, STAYING, STREAM,
-    State, Step, Turn, UNSENT, Visit, Wanted,
+    ANSWERED, BEFORE_A_LOGIN, CALLED, CAME_TO, COUNTERS, FAULTS, FOUND, LINE_TOO_LONG, LOGINS,
+    LOOK_UPS, MISS, QUITTING, REPLIES, Reply, SHUT, STATS, STAYING, STREAM, State, Step, Turn,
+    UNSENT, Visit, Wanted,
 };
 use tc_grammar::Command;
 use tc_item::NoMemory;
-use tc_session::{Declined, News, Session, Want, can_end};
+use tc_session::{News, Session, Want, can_end};
 use tc_stats::Outcome;
 use tc_users::{UserNo, Users};
 
@@ -228,7 +229,7 @@ fn state_of(session: &Session) -> State {
 /// Whether a connection is in this state, with so many bytes unread.
 fn expect_state(rt: &impl Abort, session: &Session, state: State, kept: u64, at: &str) {
     assert_eq!(rt; state_of(session), state, "{at}");
-    expect_number(rt, session.kept() as u64, kept, at);
+    expect_number(rt, session.unread_len() as u64, kept, at);
 }
 
 /// Takes steps.
@@ -435,127 +436,6 @@ fn stats_shows_the_rows_and_the_end(rt: HostRuntime) -> Result<(), Fail> {
     expect_long_replies(&rt, &stats_of(rt.alloc(), &COUNTERS)?, &STATS)
 }
 
-/// Refuses what a request wants of a cache.
-fn refuse(session: &mut Session, want: &Want)
-    requires { 64 ≤ session.old.room }
-{
-    if let Want::Call(_, command) = want {
-        session.refuse(command);
-    }
-}
-
-/// Refuses the next request.
-fn refuse_next(alloc: Global, session: &mut Session, users: &Users) -> Result<(), NoMemory> {
-    match next(alloc, session, users) {
-        Ok(want) => refuse(session, &want),
-        Err(NoMemory) => return Err(NoMemory),
-    }
-    Ok(())
-}
-
-/// What is to be sent where a command wants memory.
-fn expect_refused(
-    rt: &(impl AllocGlobal + Abort),
-    session: &mut Session,
-    users: &Users,
-    reply: &Reply,
-) -> Result<(), NoMemory> {
-    let (said, out) = *reply;
-    push(session, said.as_bytes())?;
-    refuse_next(rt.alloc(), session, users)?;
-    expect_out(rt, session, out.as_bytes(), said);
-    Ok(())
-}
-
-/// The same, each on a connection of alice's own.
-fn expect_each_refused(
-    rt: &(impl AllocGlobal + Abort),
-    users: &Users,
-    replies: &[Reply],
-) -> Result<(), NoMemory> {
-    for reply in replies {
-        let mut session = opened(rt.alloc(), users, true)?;
-        expect_refused(rt, &mut session, users, reply)?;
-    }
-    Ok(())
-}
-
-#[test]
-fn a_refusal_is_said_unless_the_line_is_quiet(rt: HostRuntime) -> Result<(), Fail> {
-    let users = users(rt.alloc())?;
-    expect_each_refused(&rt, &users, &REFUSALS)?;
-    Ok(())
-}
-
-/// Declines the next request of a bound connection, once more where memory was refused.
-fn decline(alloc: Global, session: &mut Session) -> Result<Option<Want>, NoMemory> {
-    let Some(user) = session.user() else {
-        return Err(NoMemory)
-    };
-    match session.decline(alloc, user) {
-        Ok(want) => Ok(want),
-        Err(NoMemory) => session.decline(alloc, user),
-    }
-}
-
-/// What is to be sent where a command is declined, and that the one behind it is still there.
-fn expect_declined(
-    rt: &(impl AllocGlobal + Abort),
-    users: &Users,
-    reply: &Reply,
-) -> Result<(), NoMemory> {
-    let (said, out) = *reply;
-    let mut session = opened(rt.alloc(), users, true)?;
-    push(&mut session, said.as_bytes())?;
-    push(&mut session, b"get k\r\n")?;
-    assert!(rt; decline(rt.alloc(), &mut session)?.is_none(), "{said}");
-    expect_out(rt, &session, out.as_bytes(), said);
-    assert_eq!(rt; session.take_news(), Some(News::NoMemory), "{said}");
-    let behind = wanted(rt.alloc(), &mut session, users)?;
-    expect_wanted(rt, behind, Wanted::Alices, said);
-    Ok(())
-}
-
-#[test]
-fn a_declined_command_is_passed_over_and_its_refusal_said(rt: HostRuntime) -> Result<(), Fail> {
-    let users = users(rt.alloc())?;
-    for reply in &REFUSALS {
-        expect_declined(&rt, &users, reply)?;
-    }
-    for reply in &DECLINED {
-        expect_declined(&rt, &users, reply)?;
-    }
-    Ok(())
-}
-
-#[test]
-fn a_request_that_is_not_whole_is_not_declined(rt: HostRuntime) -> Result<(), Fail> {
-    let users = users(rt.alloc())?;
-    let mut session = opened(rt.alloc(), &users, true)?;
-    push(&mut session, b"set k 0 0 5\r\nab")?;
-    assert!(&rt; decline(rt.alloc(), &mut session).is_err());
-    expect_number(&rt, session.kept() as u64, 15, "kept");
-    Ok(())
-}
-
-/// Asks for the next request, whether or not memory was refused to it before.
-fn expect_asked(rt: &(impl AllocGlobal + Abort), is_retry: bool) -> Result<(), Fail> {
-    let users = users(rt.alloc())?;
-    let mut session = opened(rt.alloc(), &users, true)?;
-    let mut declined = Declined::new();
-    push(&mut session, b"get k\r\n")?;
-    let asked = session.ask(rt.alloc(), &users, is_retry, &mut declined)?;
-    let want = asked.as_ref().map_or(Wanted::Nothing, wanted_of);
-    expect_wanted(rt, want, Wanted::Alices, "asked");
-    Ok(())
-}
-
-#[test]
-fn a_request_is_declined_only_where_memory_is_refused(rt: HostRuntime) -> Result<(), Fail> {
-    expect_asked(&rt, false)?;
-    expect_asked(&rt, true)
-}
-
 /// Takes a piece and does all requests that are there then, from the command of this number on; the
 /// number of the next.
 fn converse(
@@ -567,7 +447,7 @@ fn converse(
 ) -> Result<usize, NoMemory> {
     push(session, piece)?;
     let mut number = number;
-    for _ in 0..session.kept() {
+    for _ in 0..session.unread_len() {
         // Where the stream had more commands than it has, the last outcome would be said again.
         let outcome = &CAME_TO[number.min(CAME_TO.len() - 1)];
         match serve_next(rt, session, users, outcome)? {

@@ -4,11 +4,11 @@ ghost use Rattle.tc_item.specs.Bounds.{smallest_budget, largest_budget, largest_
 ghost use Rattle.tc_plain.specs.EvictionState.{held};
 ghost use Rattle.tc_plain.specs.UserCache.{fresh, advance};
 ghost use Rattle.tc_plain.specs.Storing.{stored};
-ghost use Rattle.tc_plain.specs.Doing.{counted_under, numbers_of};
+ghost use Rattle.tc_plain.specs.Doing.{counted_under};
 ghost use Rattle.tc_plain.specs.Then.{no_past};
 ghost use Rattle.tc_plain.specs.Plans.{outcome_of, planned, IsLightPlan};
 
-use crate::shared::acted::{keep_hits, keep_statistics, with_numbers};
+use crate::shared::acted::keep_hits;
 use crate::shared::commands::Commands;
 use crate::shared::end::End;
 use crate::shared::offers::{Bid, offer};
@@ -21,7 +21,7 @@ use tc_item::exptime::due;
 use tc_item::{Blob, Due, Key, Moment, NoMemory};
 use tc_past::Journal;
 use tc_sketch::{Sketch, width_of};
-use tc_stats::{Counters, Hits, Outcome, Statistics};
+use tc_stats::{Counters, Hits, Outcome};
 
 /// One user's cache as three lists. Its fields are public, so that another cache can be frozen into
 /// one.
@@ -165,18 +165,6 @@ impl Plain {
                 .carry_out(plan, &mut self.last, &mut self.counters),
         )
     }
-
-    /// The user's counters, with what is held and the limits.
-    fn numbers(&self) -> Counters
-        ensures { result ≡ numbers_of self.now }
-    {
-        let mut numbers = self.counters;
-        numbers.curr_items = self.live.areas.count() as u64;
-        numbers.bytes = self.live.areas.weigh();
-        numbers.limit_maxbytes = self.budget;
-        numbers.item_size_max = self.largest;
-        numbers
-    }
 }
 
 impl Commands for Plain {
@@ -257,19 +245,13 @@ impl Commands for Plain {
         due(exptime, self.live.moment.later(now))
     }
 
-    fn stats(
-        &mut self,
-        alloc: Global,
-        now: Moment,
-        keep: Journal,
-    ) -> Result<(Statistics, Option<Statistics>), NoMemory> {
-        let was = self.counters;
-        let mut statistics = Statistics::new(alloc, was)?;
-        let kept = keep_statistics(alloc, &statistics, keep)?;
-        self.advance(now);
-        let numbers = self.numbers();
-        statistics.set(numbers);
-        Ok((statistics, with_numbers(kept, &was, numbers, keep)))
+    fn numbers(&self) -> Counters {
+        let mut numbers = self.counters;
+        numbers.curr_items = self.live.areas.count() as u64;
+        numbers.bytes = self.live.areas.weigh();
+        numbers.limit_maxbytes = self.budget;
+        numbers.item_size_max = self.largest;
+        numbers
     }
 
     fn note(&mut self, command: &Command, outcome: &Outcome) {

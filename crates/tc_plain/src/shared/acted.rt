@@ -61,7 +61,7 @@ pub fn keep_hits(alloc: Global, hits: &Hits, keep: Journal) -> Result<Option<Hit
 }
 
 /// A copy of counters to keep, where the journal is on.
-pub fn keep_statistics(
+pub(crate) fn keep_statistics(
     alloc: Global,
     statistics: &Statistics,
     keep: Journal,
@@ -75,7 +75,7 @@ pub fn keep_statistics(
 }
 
 /// The counters that are kept, with these numbers in the place of those that were.
-pub fn with_numbers(
+pub(crate) fn with_numbers(
     kept: Option<Statistics>,
     was: &Counters,
     numbers: Counters,

@@ -2,7 +2,7 @@
 ghost use Rattle.std.specs.Prelude.{◌≡◌, IfOk, OnOk, OnErr};
 ghost use Rattle.tc_plain.specs.UserCache.{UserCache, advance};
 ghost use Rattle.tc_plain.specs.Doing.{act};
-ghost use Rattle.tc_plain.specs.Keeping.{kept_by};
+ghost use Rattle.tc_plain.specs.Keeping.{IsActed};
 
 use crate::{Acted, LeftOver, Plain, Progress};
 use std::alloc::Global;
@@ -22,7 +22,7 @@ pub trait Cache: Drop {
     ghost next: { Self → UserCache };
 
     /// Does one command, at this moment or at the cache's own where that is later. The outcome is
-    /// given once to answer, and once more to keep where `keep` says so. All memory is taken before
+    /// given once to answer, and once more to keep where `keep` says so (`IsActed`). All memory is taken before
     /// anything that shows changes, so a refusal changes nothing.
     fn act(
         &mut self,
@@ -31,11 +31,8 @@ pub trait Cache: Drop {
         command: &Command,
         keep: Journal,
     ) -> Result<Acted, NoMemory>
-        ensures outcome { IfOk result (λ r. r.answer ≡ (act (settled self.old) now command.now).0) }
-        ensures kept { IfOk result (λ r. r.kept
-            ≡ kept_by keep (act (settled self.old) now command.now).0) }
-        ensures state { OnOk result (settled self.new
-            ≡ (act (settled self.old) now command.now).1) }
+        ensures acted { IfOk result (λ r. IsActed keep
+            (act (settled self.old) now command.now) r (settled self.new)) }
         ensures unchanged_on_err { OnErr result (settled self.new ≡ settled self.old) }
         ensures opening { opened self.new ≡ opened self.old }
         ensures next { next self.new ≡ next self.old };

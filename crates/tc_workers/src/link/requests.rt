@@ -9,7 +9,7 @@ ghost use Rattle.tc_workers.specs.Talks.{Talks, Answers};
 use crate::admitted::Admitted;
 use crate::dealing::SHARE;
 use crate::desk::Desk;
-use crate::gate::{Gate, Place};
+use crate::gate::{Gate, Stage};
 use crate::link::Link;
 use crate::order::number_after;
 use crate::pace::Pace;
@@ -109,7 +109,7 @@ impl<W: Wire + Drop> Link<W> {
     /// went on.
     fn is_to_be_admitted(&self, clock: &Clock) -> bool {
         let Admitted { user, now, .. } = self.admitted;
-        self.session.kept() > 0 && (self.user() != user || clock.now() != now)
+        self.session.unread_len() > 0 && (self.user() != user || clock.now() != now)
     }
 
     /// Asks for one request, and does it; a command to which memory is refused twice is declined. Whether
@@ -123,7 +123,7 @@ impl<W: Wire + Drop> Link<W> {
         requires { is_closed self.old.session.endpoint.phase ≡ false }
         ensures moved { Talks 1 service.now.users.now [] [] self.old self.new desk.old desk.new }
     {
-        let kept = self.session.kept();
+        let kept = self.session.unread_len();
         // Memory may be there in the next turn; a client is not to wait for it any longer.
         let is_retry = self.refused.is_some();
         let Ok(asked) = self
@@ -164,7 +164,7 @@ impl<W: Wire + Drop> Link<W> {
         ensures { self.new ≡ self.old }
     {
         self.work
-            .add_answer(kept.saturating_sub(self.session.kept()));
+            .add_answer(kept.saturating_sub(self.session.unread_len()));
         self.tell(service);
     }
 
@@ -196,7 +196,7 @@ impl<W: Wire + Drop> Link<W> {
         self.meet(user);
         self.work.add_command(command);
         let gate = service.gate;
-        gate.pass(user, Place::Before);
+        gate.pass(user, Stage::Before);
         let called = service.hall.call_with(
             service.rt,
             service.alloc,
@@ -207,9 +207,9 @@ impl<W: Wire + Drop> Link<W> {
             self.admitted.now,
             self.conn,
             command,
-            || gate.pass(user, Place::Held),
+            || gate.pass(user, Stage::Held),
         );
-        gate.pass(user, Place::After);
+        gate.pass(user, Stage::After);
         let Ok(receipt) = called else {
             // The protocol has one text for a command that was not done. Memory may be there for the next
             // one; a worn book does none again. No server sees `NoUser` or `OtherBook`: its hall is made of
@@ -219,7 +219,7 @@ impl<W: Wire + Drop> Link<W> {
         };
         self.last = number_after(self.last, receipt.slip.number);
         // With nothing unread there is no request to ask for.
-        self.rests = self.session.kept() == 0;
+        self.rests = self.session.unread_len() == 0;
         // It is written once no lock is held; one that was refused says so itself.
         let _ = self.session.answer_later(command, receipt.slip.outcome);
     }

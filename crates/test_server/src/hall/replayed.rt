@@ -5,7 +5,7 @@ use std::test::*;
 use tc_grammar::Command;
 use tc_item::Moment;
 use tc_kinds::Journal;
-use tc_locked::{Audit, Closed, Entry, Naming, audit_page};
+use tc_locked::{Audit, Closed, CallEntry, Naming, audit_page};
 use tc_plain::{Cache, Plain, act};
 use tc_stats::Outcome;
 use tc_users::UserNo;
@@ -29,7 +29,7 @@ fn is_audited<C: Cache, N: Naming>(
 }
 
 /// Whether so many entries lead from an opening to their outcomes.
-fn leads(alloc: Global, opening: Plain, page: &[Entry], entries: usize) -> Result<bool, Fail> {
+fn leads(alloc: Global, opening: Plain, page: &[CallEntry], entries: usize) -> Result<bool, Fail> {
     Ok(agrees(&audit_page(alloc, opening, page)?, entries))
 }
 
@@ -63,10 +63,10 @@ fn entry_of(
     cache: &mut Plain,
     number: u64,
     command: Command,
-) -> Result<Entry, Fail> {
+) -> Result<CallEntry, Fail> {
     let moment = Moment::new(5);
     let outcome = act(cache, alloc, moment, &command, Journal::Off)?.answer;
-    Ok(Entry {
+    Ok(CallEntry {
         seat: 0,
         tally: number,
         number,
@@ -80,7 +80,7 @@ fn entry_of(
 fn enter(
     alloc: Global,
     cache: &mut Plain,
-    entries: &mut Vec<Entry>,
+    entries: &mut Vec<CallEntry>,
     number: u64,
     command: Command,
 ) -> Result<(), Fail> {
@@ -90,14 +90,14 @@ fn enter(
 }
 
 /// Enters a get, a set and a get, as entries 41 to 43.
-fn enter_three(alloc: Global, cache: &mut Plain, entries: &mut Vec<Entry>) -> Result<(), Fail> {
+fn enter_three(alloc: Global, cache: &mut Plain, entries: &mut Vec<CallEntry>) -> Result<(), Fail> {
     enter(alloc, cache, entries, 41, get(alloc)?)?;
     enter(alloc, cache, entries, 42, set(alloc, b"abc")?)?;
     enter(alloc, cache, entries, 43, get(alloc)?)
 }
 
 /// A get, a set and a get of an empty cache.
-fn three_entries(alloc: Global) -> Result<Vec<Entry>, Fail> {
+fn three_entries(alloc: Global) -> Result<Vec<CallEntry>, Fail> {
     let mut cache = Plain::new(alloc, 65_536, 1_024)?;
     let mut entries = Vec::new(alloc);
     enter_three(alloc, &mut cache, &mut entries)?;
@@ -105,12 +105,12 @@ fn three_entries(alloc: Global) -> Result<Vec<Entry>, Fail> {
 }
 
 /// What an audit of the entries finds, from an empty cache.
-fn audit_of(alloc: Global, entries: &[Entry]) -> Result<Audit, Fail> {
+fn audit_of(alloc: Global, entries: &[CallEntry]) -> Result<Audit, Fail> {
     Ok(audit_page(alloc, Plain::new(alloc, 65_536, 1_024)?, entries)?)
 }
 
 /// Has the second of the entries keep another outcome than the call had.
-fn forge(entries: &mut Vec<Entry>) {
+fn forge(entries: &mut Vec<CallEntry>) {
     if let Some(entry) = entries.get_mut(1) {
         entry.outcome = Outcome::NotFound;
     }

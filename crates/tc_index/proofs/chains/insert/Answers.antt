@@ -5,7 +5,7 @@ use Rattle.tc_index.proofs.Placed.{chains_inserted}
 
 pub returns-clause-chains : goal.returns-clause-chains
 returns-clause-chains c =
-    let place = c.place_of-before in
+    let place = c.position_of-before in
     chains_inserted c.args.heads.now c.args.links.now c.requires.chains c.args.slot c.bucket-bucket.result place.result.number
     place.result.before c.requires.within c.bucket-bucket.ensures.within place.ensures c.lead_to.new.heads c.lead_to.new.links
     c.args.tag.0 c.bucket-bucket.ensures.value c.requires.free (c.lead_to.ensures.tags ∙ c.put.ensures.tags)

@@ -17,7 +17,7 @@ returns-clause-chains c =
     let heads = c.args.heads.now in
     let links = c.args.links.now in
     let slot = c.args.slot in
-    let place = c.place_of-before in
+    let place = c.position_of-before in
     let bucket = c.bucket-bucket.result in
     let within = tag_within links slot c.requires.stands in
     let free : Link = record { next = 0; tag = record { 0 = 0 } } in

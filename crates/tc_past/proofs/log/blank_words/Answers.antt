@@ -1,7 +1,7 @@
 use Rattle.std.proofs.Common.{◌*◌, ◌∷◌, [], ◌++◌, length, take, sym, ap, ◌∙◌, subst, arith}
 use Rattle.std.proofs.lemmas.List.{take_more, take_all}
 use Rattle.tc_model.specs.Ring.{AreBelow}
-use Rattle.tc_past.specs.Noted.{places}
+use Rattle.tc_past.specs.FirstChanges.{places}
 use Rattle.tc_past.proofs.Notes.{AreLeft, left_all, left_less}
 use Rattle.tc_past.proofs.Undoing.{places-push, place_below}
 use Rattle.tc_past.proofs.log.blank_words.Goals as goal

@@ -1,5 +1,5 @@
 use Rattle.std.proofs.Common.{take}
-use Rattle.tc_past.specs.Noted.{places}
+use Rattle.tc_past.specs.FirstChanges.{places}
 use Rattle.tc_past.proofs.Notes.{AreLeft}
 use Rattle.tc_past.proofs.log.blank_words.Given as goal
 

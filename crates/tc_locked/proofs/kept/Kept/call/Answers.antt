@@ -1,5 +1,5 @@
 use Rattle.std.proofs.Common.{ℕ, ◌<◌, ◌≡◌, [], ◌∷◌, ◌++◌, sym, ap, ◌∙◌, List, subst, length}
-use Rattle.tc_locked.specs.declared.entry.Slip.{Slip}
+use Rattle.tc_locked.specs.declared.call_entry.Slip.{Slip}
 use Rattle.tc_locked.specs.declared.view.Note.{Note}
 use Rattle.tc_locked.specs.Books.{entry_of, paged}
 use Rattle.tc_locked.specs.Views.{note, book_view, seat_view, of_user}

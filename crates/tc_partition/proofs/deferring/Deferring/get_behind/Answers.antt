@@ -14,16 +14,12 @@ use Rattle.tc_partition.proofs.deferring.Deferring.get_behind.Goals as goal
 pub get_found-requires : goal.get_found-requires
 get_found-requires c = omega (arith, ap length c.drain.ensures.none, c.requires.alone)
 
-pub returns-clause-first : goal.returns-clause-first
-returns-clause-first c =
-    c.in_ok-both.ensures.first
-    ∙ ap (λ (k : UserCache). (all_looked_up (λ i. i) c.args.keys.now (advance k c.args.now).live).0) c.drain.ensures.settled
-
-pub returns-clause-second : goal.returns-clause-second
-returns-clause-second c =
-    c.in_ok-both.ensures.second
-    ∙ ap (λ (k : UserCache). kept_by c.args.keep (all_looked_up (λ i. i) c.args.keys.now (advance k c.args.now).live).0)
-    c.drain.ensures.settled
+pub returns-clause-given : goal.returns-clause-given
+returns-clause-given c =
+    let both = c.in_ok-both.ensures.given in
+    let hits = ap (λ (k : UserCache). (all_looked_up (λ i. i) c.args.keys.now (advance k c.args.now).live).0)
+    c.drain.ensures.settled in
+    (both.0 ∙ hits, both.1 ∙ ap (kept_by c.args.keep) hits)
 
 pub returns-clause-state : goal.returns-clause-state
 returns-clause-state c =

@@ -8,7 +8,7 @@ use Rattle.tc_plain.specs.Keeping.{kept_by}
 use Rattle.tc_partition.specs.Deferred.{IsLazy, settled}
 use Rattle.tc_partition.specs.WaitingSlots.{lazy_by, waiting_of, ArePlaced}
 use Rattle.tc_item.specs.declared.slot.Slot.{Slot}
-use Rattle.tc_readbuf.specs.declared.noted.Noted.{Noted}
+use Rattle.tc_readbuf.specs.declared.look_up.LookUp.{LookUp}
 use Rattle.tc_partition.specs.Seeking.{all_noted, AreHashed}
 use Rattle.tc_partition.specs.declared.wanted.Wanted.{Wanted}
 use Rattle.tc_partition.specs.SlotCaches.{cache_of}
@@ -43,7 +43,7 @@ note_all_found-requires-clause-room c =
     )
 
 -- what was noted of what stands in the two lists
-noted_all : (m : ℕ) (before after : List (Noted × ℕ)) (ws vs : List Wanted) (fs gs : List (Option Slot))
+noted_all : (m : ℕ) (before after : List (LookUp × ℕ)) (ws vs : List Wanted) (fs gs : List (Option Slot))
     → after ≡ before ++ all_noted m ws fs → fs ≡ gs → ws ≡ vs → after ≡ before ++ all_noted m vs gs
 noted_all m before after ws vs fs gs e f w =
     e ∙ ap (λ z. before ++ all_noted m ws z) f ∙ ap (λ z. before ++ all_noted m z gs) w
@@ -66,17 +66,15 @@ invariant_of-self c =
       placed = subst (ArePlaced i.cache.live.held.slots) (sym is) all.1;
     }
 
-pub returns-clause-first : goal.returns-clause-first
-returns-clause-first c =
+pub returns-clause-given : goal.returns-clause-given
+returns-clause-given c =
     let i = c.self.inside in
     let keys = c.args.keys.now in
-    c.in_ok-hits.ensures.hits
+    let hits = c.in_ok-hits.ensures.hits
     ∙ peeked_hits (lazy_by i.cache.live i.waiting i.moment) c.args.now c.later-moment.result keys c.self.invariant.lazy
     c.later-moment.ensures
-    ∙ ap (λ (z : Delayed). (all_looked_up (λ i. i) keys (advanced (settled (lazy_in z)) c.args.now)).0) c.self.view_is
-
-pub returns-clause-second : goal.returns-clause-second
-returns-clause-second c = c.in_ok-kept.ensures ∙ ap (λ hits. kept_by c.args.keep hits) (returns-clause-first c)
+    ∙ ap (λ (z : Delayed). (all_looked_up (λ i. i) keys (advanced (settled (lazy_in z)) c.args.now)).0) c.self.view_is in
+    (hits, c.in_ok-kept.ensures ∙ ap (kept_by c.args.keep) hits)
 
 pub returns-clause-state : goal.returns-clause-state
 returns-clause-state c =

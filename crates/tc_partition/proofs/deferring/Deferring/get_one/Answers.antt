@@ -37,27 +37,16 @@ invariant_of-self c =
     c.self.invariant.lazy c.self.invariant.placed c.seek_from-place.ensures) in
     record { sound = c.self.invariant.sound; lazy = p.lazy; placed = p.placed }
 
-pub returns-clause-first : goal.returns-clause-first
-returns-clause-first c =
+pub returns-clause-given : goal.returns-clause-given
+returns-clause-given c =
     let i = c.self.inside in
     let key = c.args.key.now in
     let m = c.later-moment.result in
-    c.in_ok-both.ensures.first
-    ∙ shown_now (lazy_by i.cache.live i.waiting i.moment) c.args.now m key _ c.self.invariant.lazy c.later-moment.ensures
+    let both = c.in_ok-both.ensures.given in
+    let hits = shown_now (lazy_by i.cache.live i.waiting i.moment) c.args.now m key _ c.self.invariant.lazy c.later-moment.ensures
     (c.held_at.ensures.placed ∙ placed_sought c.seek_from-place.result m key i.cache.live c.seek_from-place.ensures)
-    ∙ ap (λ (z : Delayed). (all_looked_up (λ i. i) (key ∷ []) (advanced (settled (lazy_in z)) c.args.now)).0) c.self.view_is
-
-pub returns-clause-second : goal.returns-clause-second
-returns-clause-second c =
-    let i = c.self.inside in
-    let key = c.args.key.now in
-    let m = c.later-moment.result in
-    c.in_ok-both.ensures.second
-    ∙ ap (λ hits. kept_by c.args.keep hits) (
-    shown_now (lazy_by i.cache.live i.waiting i.moment) c.args.now m key _ c.self.invariant.lazy c.later-moment.ensures
-    (c.held_at.ensures.placed ∙ placed_sought c.seek_from-place.result m key i.cache.live c.seek_from-place.ensures)
-    ∙ ap (λ (z : Delayed). (all_looked_up (λ i. i) (key ∷ []) (advanced (settled (lazy_in z)) c.args.now)).0) c.self.view_is
-    )
+    ∙ ap (λ (z : Delayed). (all_looked_up (λ i. i) (key ∷ []) (advanced (settled (lazy_in z)) c.args.now)).0) c.self.view_is in
+    (both.0 ∙ hits, both.1 ∙ ap (kept_by c.args.keep) hits)
 
 pub returns-clause-state : goal.returns-clause-state
 returns-clause-state c =

@@ -1,6 +1,6 @@
 use Rattle.std.specs.Prelude.{vec_capacity}
 use Rattle.std.proofs.Common.{sym, subst}
-use Rattle.tc_past.specs.Noted.{places}
+use Rattle.tc_past.specs.FirstChanges.{places}
 use Rattle.tc_past.specs.KeptLog.{AreNotes}
 use Rattle.tc_past.proofs.Notes.{left_none}
 use Rattle.tc_past.proofs.log.Log.clear_each.Goals as goal

@@ -1,7 +1,7 @@
 use Rattle.std.specs.Prelude.{replicate, is_ok, vec_capacity}
 use Rattle.std.proofs.Common.{◌≡◌, ℕ, ◌-◌, true, List, [], ◌++◌, take, sym, ap, ◌∙◌, subst, arith}
 use Rattle.std.proofs.lemmas.List.{take_all}
-use Rattle.tc_past.specs.Noted.{places}
+use Rattle.tc_past.specs.FirstChanges.{places}
 use Rattle.tc_past.specs.KeptLog.{AreNotes}
 use Rattle.tc_past.proofs.Notes.{notes_blank}
 use Rattle.tc_past.proofs.log.Log.clear_whole.Goals as goal

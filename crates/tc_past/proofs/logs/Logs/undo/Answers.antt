@@ -1,6 +1,6 @@
 use Rattle.std.proofs.Common.{length, sym, ap, ◌∙◌, subst, arith}
 use Rattle.tc_model.specs.Ring.{AreBelow}
-use Rattle.tc_past.specs.Noted.{places}
+use Rattle.tc_past.specs.FirstChanges.{places}
 use Rattle.tc_past.proofs.Undoing.{length-undone}
 use Rattle.tc_past.proofs.logs.Logs.undo.Goals as goal
 

@@ -1,32 +1,18 @@
-use Rattle.std.specs.Prelude.{IfOk, OnOk}
+use Rattle.std.specs.Prelude.{IfOk}
 use Rattle.std.proofs.Common.{◌≡◌, Some, subst, ◌∙◌, ap, w64}
 use Rattle.std.proofs.Math.Facts.{to_z-of_z}
 use Rattle.tc_item.specs.Expiry.{due_of}
 use Rattle.tc_plain.specs.UserCache.{advance}
 use Rattle.tc_plain.specs.Doing.{all_looked_up, as_values}
 use Rattle.tc_plain.specs.AreaLists.{change_of}
-use Rattle.tc_plain.specs.Keeping.{kept_by}
+use Rattle.tc_plain.specs.Keeping.{IsActed}
 use Rattle.tc_plain.proofs.shared.commands.look_up_due.Goals as goal
 
-pub returns-clause-outcome : goal.returns-clause-outcome
-returns-clause-outcome g c =
-    let k = advance (g.C.Commands.cache c.args.cache.now) c.args.now in
-    subst (λ d. IfOk c.look_up.result (λ r. r.answer ≡ (as_values k (all_looked_up (change_of (Some d)) c.args.keys.now k.live)).0))
-    (c.due-due.ensures ∙ ap (λ z. due_of z k.live.moment) (to_z-of_z {w = w64} {z = c.args.exptime} c.ranges.exptime))
-    c.look_up.ensures.outcome
-
-pub returns-clause-kept : goal.returns-clause-kept
-returns-clause-kept g c =
-    let k = advance (g.C.Commands.cache c.args.cache.now) c.args.now in
-    subst (λ d. IfOk c.look_up.result (λ r. r.kept ≡ kept_by c.args.keep (as_values k (all_looked_up (change_of (Some d)) c.args.keys.now k.live)).0))
-    (c.due-due.ensures ∙ ap (λ z. due_of z k.live.moment) (to_z-of_z {w = w64} {z = c.args.exptime} c.ranges.exptime))
-    c.look_up.ensures.kept
-
-pub returns-clause-state : goal.returns-clause-state
-returns-clause-state g c =
+pub returns-clause-acted : goal.returns-clause-acted
+returns-clause-acted g c =
     let k = advance (g.C.Commands.cache c.args.cache.now) c.args.now in
     subst
-    (λ d. OnOk c.look_up.result
-    (g.C.Commands.cache c.look_up.new.cache ≡ (as_values k (all_looked_up (change_of (Some d)) c.args.keys.now k.live)).1))
+    (λ d. IfOk c.look_up.result (λ r. IsActed c.args.keep (as_values k (all_looked_up (change_of (Some d)) c.args.keys.now k.live)) r
+    (g.C.Commands.cache c.look_up.new.cache)))
     (c.due-due.ensures ∙ ap (λ z. due_of z k.live.moment) (to_z-of_z {w = w64} {z = c.args.exptime} c.ranges.exptime))
-    c.look_up.ensures.state
+    c.look_up.ensures.acted

@@ -1,6 +1,7 @@
 use Rattle.std.proofs.Common.{[], refl, sym, subst, ◌∙◌}
 use Rattle.tc_workers.specs.Talks.{LinkState, Talks}
-use Rattle.tc_workers.proofs.Talking.{carries-same, carries-talks, talks-sent}
+use Rattle.tc_workers.proofs.Talking.{carries-talks, talks-sent}
+use Rattle.tc_workers.proofs.SingleMoves.{carries-same}
 use Rattle.tc_workers.proofs.Latest.{rose-same}
 use Rattle.tc_workers.proofs.Living.{carries-last}
 use Rattle.tc_workers.proofs.link.Link.do_requests.Goals as goal

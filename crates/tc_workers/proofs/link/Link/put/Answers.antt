@@ -1,5 +1,6 @@
 use Rattle.std.proofs.Common.{[], ap, drop, refl, ◌∙◌}
-use Rattle.tc_workers.proofs.Talking.{appends-same, appends-kept, carries-still, carries-wrote}
+use Rattle.tc_workers.proofs.Talking.{appends-same, appends-kept}
+use Rattle.tc_workers.proofs.SingleMoves.{carries-still, carries-wrote}
 use Rattle.tc_workers.proofs.link.Link.put.Goals as goal
 
 pub returns-in-Wrote : goal.returns-in-Wrote

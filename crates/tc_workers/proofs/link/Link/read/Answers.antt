@@ -1,6 +1,6 @@
 use Rattle.std.proofs.Common.{[], refl, ◌∙◌, take}
 use Rattle.tc_workers.proofs.Talking.{appends-same, appends-kept, appends-zero, appends-as}
-use Rattle.tc_workers.proofs.Talking.{carries-still, carries-came, carries-ended}
+use Rattle.tc_workers.proofs.SingleMoves.{carries-still, carries-came, carries-ended}
 use Rattle.tc_workers.proofs.link.Link.read.Goals as goal
 
 pub returns-in-Bytes-eq0 : goal.returns-in-Bytes-eq0
