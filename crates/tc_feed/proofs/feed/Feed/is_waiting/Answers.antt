@@ -7,4 +7,4 @@ pub returns-then-self-limit-clause-stays : goal.returns-then-self-limit-clause-s
 returns-then-self-limit-clause-stays c = λ few.
     let o = c.self.inside in
     waiting_stays c.args.limit o.limit o.needed (drop o.start o.bytes.items) c.args.self.now (ap (λ r. r.unread) c.self.view_is)
-    c.if-self-limit.true c.self.invariant.1.0 (omega (arith, ltb-true c.kept.result o.needed few))
+    c.if-self-limit.true c.self.invariant.1.0 (omega (arith, ltb-true c.unread_len.result o.needed few))

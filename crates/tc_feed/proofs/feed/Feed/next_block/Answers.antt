@@ -21,6 +21,6 @@ wait-requires-clause-remembered c =
     let needed : needed_of (end + 1) said ≡ end + 1 + (c.args.length + 2) = ap (needed_of (end + 1)) c.requires.line in
     let behind = length-drop (end + 1) u in
     let lacking : end + 1 + length (drop (end + 1) u) < needed_of (end + 1) said =
-    omega (arith, needed, behind, c.requires.within, c.kept.ensures, c.if-kept-needed.true) in
+    omega (arith, needed, behind, c.requires.within, c.unread_len.ensures, c.if-unread_len-needed.true) in
     remembered_line u end (end + 1 + (c.args.length + 2)) said c.requires.end (sym needed)
     (lacking_line (end + 1) (drop (end + 1) u) said lacking)
