@@ -1,7 +1,7 @@
 //! The machine's clock, as the keeper reads it, and what its thread does besides.
 use crate::audience::Audience;
+use crate::connections::{Connections, MOST_NOTICES};
 use crate::counting::Counting;
-use crate::door::{Door, MOST_NOTICES};
 use crate::scraping::{Scraping, Sources};
 use std::alloc::Global;
 use std::sync::{Arc, Wait};
@@ -22,7 +22,7 @@ pub(crate) struct Ticking<'a, R: Clock + Drop, N: Naming, A: Audience> {
     pub(crate) rt: R,
     /// When the server began; `None` where the clock can't be read.
     pub(crate) begun: Option<Instant>,
-    pub(crate) door: Arc<Door, Global>,
+    pub(crate) connections: Arc<Connections, Global>,
     pub(crate) audience: &'a A,
     /// By which the hall is asked for the metrics.
     pub(crate) seat: Seat<N>,
@@ -60,9 +60,9 @@ impl<'a, R: Clock + Drop, N: Naming, A: Audience> Ticking<'a, R, N, A> {
         match &self.begun {
             Some(begun) => match begun.elapsed(&self.rt) {
                 Ok(since) => since.as_secs().saturating_add(1),
-                Err(_) => self.door.second(),
+                Err(_) => self.connections.second(),
             },
-            None => self.door.second(),
+            None => self.connections.second(),
         }
     }
 
@@ -78,7 +78,7 @@ impl<'a, R: Clock + Drop, N: Naming, A: Audience> Ticking<'a, R, N, A> {
     /// Tells the audience what there is to be told.
     fn tell<W: Wait>(&self, rt: &W) {
         for _ in 0..MOST_NOTICES {
-            let Some(notice) = self.door.next_notice(rt) else {
+            let Some(notice) = self.connections.next_notice(rt) else {
                 return;
             };
             self.audience.notes(&notice);
@@ -90,7 +90,7 @@ impl<'a, R: Clock + Drop, N: Naming, A: Audience> Ticking<'a, R, N, A> {
         let Ticking {
             rt: _,
             begun: _,
-            door: _,
+            connections: _,
             audience: _,
             seat,
             scraping: _,
@@ -109,7 +109,7 @@ impl<'a, C: Cache, R: Clock + Drop, N: Naming, A: Audience> Source<C, N> for Tic
     fn attend<W: Wait>(&mut self, rt: &W, hall: &Hall<C, N>, clock: &Moments) {
         self.deal_out();
         let second = self.second();
-        if self.door.note_second(second) {
+        if self.connections.note_second(second) {
             self.tell(rt);
         }
         let Some(mut scraping) = self.scraping.take() else {
@@ -119,7 +119,7 @@ impl<'a, C: Cache, R: Clock + Drop, N: Naming, A: Audience> Source<C, N> for Tic
             rt,
             hall,
             clock,
-            door: &self.door,
+            connections: &self.connections,
             audience: self.audience,
         };
         scraping.turn(&from, &mut self.seat);

@@ -3,7 +3,7 @@
 ghost use Rattle.std.specs.Prelude.{◌≡◌};
 
 use crate::clocking::micros_since;
-use crate::door::Door;
+use crate::connections::Connections;
 use crate::handover::{Arrival, Intake, Outlet, handover};
 use crate::readiness::{ENDING, READABLE, Readiness, WRITABLE};
 use crate::socket::{Join, Leave, Socket};
@@ -47,7 +47,7 @@ pub(crate) struct EventLoop<R: Wait + Clock + Drop> {
     poll: Poll,
     events: Events,
     readiness: Arc<Readiness, Global>,
-    door: Arc<Door, Global>,
+    connections: Arc<Connections, Global>,
     /// The keys of the sockets of which the poll said something, with room for those of all places.
     woken: Vec<usize>,
     /// A connection came at the last look, so another may be there.
@@ -82,7 +82,7 @@ impl<R: Wait + Clock + Drop> EventLoop<R> {
     pub(crate) fn new<N: Net + AllocGlobal>(
         net: &N,
         rt: R,
-        door: Arc<Door, Global>,
+        connections: Arc<Connections, Global>,
         begun: Option<Instant>,
         workers: usize,
     ) -> io::Result<(EventLoop<R>, Outlet)> {
@@ -104,7 +104,7 @@ impl<R: Wait + Clock + Drop> EventLoop<R> {
             poll,
             events,
             readiness,
-            door,
+            connections,
             woken,
             brought: false,
             unpolled: 0,
@@ -150,14 +150,14 @@ impl<R: Wait + Clock + Drop> EventLoop<R> {
 
     /// Wakes the sockets of connections that are to go.
     fn wake_ousted(&mut self) {
-        let ousts = self.door.ousts();
+        let ousts = self.connections.ousts();
         if ousts == self.ousts {
             return;
         }
         self.ousts = ousts;
         for at in 0..self.readiness.len() {
-            if let Some(place) = self.readiness.door(at)
-                && self.door.is_over(place)
+            if let Some(place) = self.readiness.connection(at)
+                && self.connections.is_over(place)
             {
                 self.name(at);
             }
@@ -237,11 +237,11 @@ impl<R: Wait + Clock + Drop> EventLoop<R> {
 
     /// A new connection; one that can't be watched is closed.
     fn give(&self, conn: u32, place: usize, stream: TcpStream) -> Taken<Socket, Talk<Socket>> {
-        let Ok(door) = Arc::try_clone(&self.door) else {
-            self.door.leave(place);
+        let Ok(connections) = Arc::try_clone(&self.connections) else {
+            self.connections.leave(place);
             return Taken::Nothing;
         };
-        let mut wire = Socket::new(stream, door, place);
+        let mut wire = Socket::new(stream, connections, place);
         let Some(join) = self.joining() else {
             return Taken::Nothing;
         };
@@ -264,7 +264,7 @@ impl<R: Wait + Clock + Drop> Inlet<Socket, Talk<Socket>> for EventLoop<R> {
     fn take(&mut self, patience: Patience) -> Taken<Socket, Talk<Socket>> {
         self.look(patience);
         // Asked before the channel, so that no connection is left in it.
-        let has_ended = self.door.has_ended();
+        let has_ended = self.connections.has_ended();
         let arrival = self.intake.take(&self.rt);
         self.brought = arrival.is_some();
         match arrival {

@@ -27,7 +27,7 @@ impl Split<()> for Same {
 /// A connection on its way to a worker.
 #[derive(Drop)]
 pub(crate) enum Arrival {
-    /// From the listener, with its number and its place at the door.
+    /// From the listener, with its number and its place among the connections.
     New {
         conn: u32,
         place: usize,

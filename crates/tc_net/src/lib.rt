@@ -8,7 +8,7 @@
 //! same channels workers pass connections on to the worker of their user, or to one that helps it: each
 //! counts what it did (`Counts`), and the keeper's thread deals the work out by that (`Counting`).
 //!
-//! Each connection has a place at the `Door`, which counts them by user and says which are to go: the
+//! Each connection has a place among the `Connections`, which are counted by user and told which are to go: the
 //! oldest that has not logged in where too many have not, a user's one too many, and one that stayed too
 //! long (`specs/Deadlines.antt`). A wire whose connection is to go fails. The keeper's thread looks each
 //! second who is overdue, and answers between its turns who asks for the metrics (`Scraping`): each user's
@@ -28,7 +28,7 @@
 //! 3. A socket is registered with one poll, that of the worker which has its link, and has one place of that
 //!    worker's `Readiness`. The worker's thread alone writes there: its poll's events set what may be done,
 //!    and its wires clear it by what the system answers.
-//! 4. A place at the `Door` is written by the wire, and told to go by the listener, the keeper or a wire.
+//! 4. A place among the `Connections` is written by the wire, and told to go by the listener, the keeper or a wire.
 //!    Who tells it wakes its worker.
 //! 5. `Counts` are written by one worker and read by the keeper; `Shares` are written by the keeper and
 //!    read by the workers.
@@ -45,9 +45,9 @@ mod audience;
 mod auditing;
 mod beginning;
 mod clocking;
+mod connections;
 mod counting;
 mod counts;
-mod door;
 mod event_loop;
 mod handover;
 mod listening;

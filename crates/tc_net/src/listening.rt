@@ -1,5 +1,5 @@
 //! The listener: it takes connections and hands them to the workers in turn.
-use crate::door::Door;
+use crate::connections::Connections;
 use crate::handover::{Arrival, Outlet};
 use crate::notice::Notice;
 use mio::net::{TcpListener, TcpStream};
@@ -29,7 +29,7 @@ pub(crate) struct Listening {
     poll: Poll,
     events: Events,
     outlets: Vec<Outlet>,
-    door: Arc<Door, Global>,
+    connections: Arc<Connections, Global>,
     /// After so many closed connections it ends.
     until: Option<u64>,
     /// The number of the next connection, from 0.
@@ -41,7 +41,7 @@ impl Listening {
         net: &N,
         addr: SocketAddr,
         outlets: Vec<Outlet>,
-        door: Arc<Door, Global>,
+        connections: Arc<Connections, Global>,
         until: Option<u64>,
     ) -> io::Result<Listening> {
         let mut listener = TcpListener::bind(net, addr)?;
@@ -54,7 +54,7 @@ impl Listening {
             poll,
             events,
             outlets,
-            door,
+            connections,
             until,
             number: 0,
         })
@@ -67,11 +67,11 @@ impl Listening {
 
     /// Whether it is to end.
     fn is_done(&self) -> bool {
-        if self.door.has_ended() {
+        if self.connections.has_ended() {
             return true;
         }
         match self.until {
-            Some(until) => self.door.closed() >= until,
+            Some(until) => self.connections.closed() >= until,
             None => false,
         }
     }
@@ -88,18 +88,18 @@ impl Listening {
 
     /// Lets a connection in and hands it over, where there is a place for it; else it is closed.
     fn let_in<R: Wait>(&mut self, rt: &R, stream: TcpStream, peer: SocketAddr) {
-        if self.door.make_room() {
-            self.door.note(rt, Notice::UnboundFull { peer });
+        if self.connections.make_room() {
+            self.connections.note(rt, Notice::UnboundFull { peer });
             self.wake_workers();
         }
         let number = self.number;
         self.number = number.wrapping_add(1);
-        let Some(place) = self.door.enter(number.saturating_add(1)) else {
-            self.door.note(rt, Notice::NoPlace { peer });
+        let Some(place) = self.connections.enter(number.saturating_add(1)) else {
+            self.connections.note(rt, Notice::NoPlace { peer });
             return;
         };
         if !self.hand_over(rt, number, place, stream) {
-            self.door.leave(place);
+            self.connections.leave(place);
         }
     }
 
@@ -146,7 +146,7 @@ impl Listening {
             let _ = self.poll.poll(&mut self.events, Some(patience));
             self.take_all(rt);
         }
-        self.door.end();
+        self.connections.end();
         self.wake_workers();
         self.into_outlets()
     }
@@ -157,7 +157,7 @@ impl Listening {
             poll: _,
             events: _,
             outlets,
-            door: _,
+            connections: _,
             until: _,
             number: _,
         } = self;

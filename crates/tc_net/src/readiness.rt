@@ -22,8 +22,8 @@ struct Watched {
     said: AtomicU64,
     /// Under which key the worker has the socket.
     key: AtomicU64,
-    /// Which place the socket has at the door.
-    door: AtomicU64,
+    /// Which place the socket has among the connections.
+    connection: AtomicU64,
 }
 
 /// A place for each socket of a worker, and what the worker did. The words are atomic since the worker's
@@ -47,7 +47,7 @@ impl Readiness {
             places.push(Watched {
                 said: AtomicU64::new(0),
                 key: AtomicU64::new(0),
-                door: AtomicU64::new(0),
+                connection: AtomicU64::new(0),
             })?;
         }
         Ok(Readiness { places, counts })
@@ -58,12 +58,12 @@ impl Readiness {
     }
 
     /// Takes a place that no socket has, as one that may be read and written, for the socket that has
-    /// this one at the door.
-    pub(crate) fn claim(&self, door: usize) -> Option<usize> {
+    /// this one among the connections.
+    pub(crate) fn claim(&self, connection: usize) -> Option<usize> {
         for at in 0..self.places.len() {
             let place = &self.places[at];
             if place.said.load(SeqCst) == 0 {
-                place.door.store(door as u64, SeqCst);
+                place.connection.store(connection as u64, SeqCst);
                 place.said.store(TAKEN | READABLE | WRITABLE, SeqCst);
                 return Some(at);
             }
@@ -71,13 +71,13 @@ impl Readiness {
         None
     }
 
-    /// The place at the door of the socket that has a place here.
-    pub(crate) fn door(&self, at: usize) -> Option<usize> {
+    /// The place among the connections of the socket that has a place here.
+    pub(crate) fn connection(&self, at: usize) -> Option<usize> {
         let place = self.places.get(at)?;
         if place.said.load(SeqCst) & TAKEN == 0 {
             return None;
         }
-        Some(place.door.load(SeqCst) as usize)
+        Some(place.connection.load(SeqCst) as usize)
     }
 
     /// Gives a place up.

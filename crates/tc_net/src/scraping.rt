@@ -1,6 +1,6 @@
 //! The metrics' listener, which the keeper's thread looks at between its turns.
 use crate::audience::Audience;
-use crate::door::Door;
+use crate::connections::Connections;
 use crate::peer::{Peer, Stage};
 use mio::net::TcpListener;
 use std::alloc::{AllocError, Global};
@@ -28,7 +28,7 @@ pub(crate) struct Sources<'a, R: Wait, C: Cache, N: Naming, A: Audience> {
     pub(crate) rt: &'a R,
     pub(crate) hall: &'a Hall<C, N>,
     pub(crate) clock: &'a Clock,
-    pub(crate) door: &'a Door,
+    pub(crate) connections: &'a Connections,
     pub(crate) audience: &'a A,
 }
 
@@ -58,12 +58,12 @@ fn first_figures(alloc: Global, users: &Users) -> Result<Vec<UserFigures>, NoMem
 }
 
 /// Counts each user's open connections.
-fn count_connections(figures: &mut [UserFigures], door: &Door) {
+fn count_connections(figures: &mut [UserFigures], connections: &Connections) {
     for user in figures.iter_mut() {
         user.connections = 0;
     }
-    for at in 0..door.len() {
-        if let Some(user) = door.user_at(at) {
+    for at in 0..connections.len() {
+        if let Some(user) = connections.user_at(at) {
             let place = (user.number() as usize).saturating_sub(1);
             if let Some(figures) = figures.get_mut(place) {
                 figures.connections = figures.connections.saturating_add(1);
@@ -150,14 +150,14 @@ impl Scraping {
         from: &Sources<'_, R, C, N, A>,
         seat: &mut Seat<N>,
     ) -> Result<Vec<u8>, CallFault> {
-        count_connections(&mut self.figures, from.door);
+        count_connections(&mut self.figures, from.connections);
         ask_all(from, self.alloc, seat, &mut self.figures)?;
         let server = ServerFigures {
-            unbound: from.door.count_unbound(),
-            refused_logins: from.door.refused_logins(),
-            limited: from.door.limited(),
+            unbound: from.connections.count_unbound(),
+            refused_logins: from.connections.refused_logins(),
+            limited: from.connections.limited(),
             resident: from.audience.resident(),
-            uptime: from.door.second().saturating_sub(1),
+            uptime: from.connections.second().saturating_sub(1),
         };
         let mut text = Vec::new(self.alloc);
         render(&mut text, &self.figures, &server)?;
@@ -193,7 +193,7 @@ impl Scraping {
         let Some(peer) = self.peers.get_mut(at) else {
             return true;
         };
-        let answer = match peer.turn(from.door.second()) {
+        let answer = match peer.turn(from.connections.second()) {
             Stage::Waits => return true,
             Stage::Done => return false,
             Stage::Asks(answer) => answer,
@@ -214,7 +214,7 @@ impl Scraping {
         seat: &mut Seat<N>,
     ) {
         // One for whom there is no memory is closed.
-        let _ = self.let_in(from.door.second());
+        let _ = self.let_in(from.connections.second());
         let mut at = 0;
         for _ in 0..self.peers.len() {
             if at >= self.peers.len() {

@@ -8,8 +8,8 @@ use crate::audience::Audience;
 use crate::auditing::{Found, audit_hall};
 use crate::beginning::Beginning;
 use crate::clocking::{Ticking, moment_now};
+use crate::connections::Connections;
 use crate::counting::Counting;
-use crate::door::Door;
 use crate::event_loop::EventLoop;
 use crate::handover::Outlet;
 use crate::listening::Listening;
@@ -80,12 +80,12 @@ struct Hired<N: Naming, R: Wait + Time + Drop> {
 fn hire<N: Naming, R: Wait + Net + Time + AllocGlobal + Copy + Drop>(
     rt: &R,
     alloc: Global,
-    door: &Arc<Door, Global>,
+    connections: &Arc<Connections, Global>,
     begun: Option<Instant>,
     workers: usize,
     seat: Seat<N>,
 ) -> Result<Hired<N, R>, Unserved> {
-    let (event_loop, outlet) = EventLoop::new(rt, *rt, shared(door)?, begun, workers)?;
+    let (event_loop, outlet) = EventLoop::new(rt, *rt, shared(connections)?, begun, workers)?;
     let Ok(worker) = Worker::new(alloc, seat) else {
         return Err(Unserved::NoMemory);
     };
@@ -96,10 +96,10 @@ fn hire<N: Naming, R: Wait + Net + Time + AllocGlobal + Copy + Drop>(
     })
 }
 
-/// A further handle of the door.
-fn shared(door: &Arc<Door, Global>) -> Result<Arc<Door, Global>, Unserved> {
-    match Arc::try_clone(door) {
-        Ok(door) => Ok(door),
+/// A further handle of the connections.
+fn shared(connections: &Arc<Connections, Global>) -> Result<Arc<Connections, Global>, Unserved> {
+    match Arc::try_clone(connections) {
+        Ok(connections) => Ok(connections),
         Err(_) => Err(Unserved::NoMemory),
     }
 }
@@ -118,7 +118,7 @@ struct Staff<N: Naming, R: Wait + Time + Drop> {
 fn hire_all<N: Naming, R: Wait + Net + Time + AllocGlobal + Copy + Drop>(
     rt: &R,
     alloc: Global,
-    door: &Arc<Door, Global>,
+    connections: &Arc<Connections, Global>,
     begun: Option<Instant>,
     seats: Vec<Seat<N>>,
 ) -> Result<Staff<N, R>, Unserved> {
@@ -130,7 +130,7 @@ fn hire_all<N: Naming, R: Wait + Net + Time + AllocGlobal + Copy + Drop>(
             worker,
             event_loop,
             outlet,
-        } = hire(rt, alloc, door, begun, workers, seat)?;
+        } = hire(rt, alloc, connections, begun, workers, seat)?;
         if outlets.push(outlet).is_err() || crew.push((worker, event_loop)).is_err() {
             return Err(Unserved::NoMemory);
         }
@@ -242,17 +242,17 @@ pub fn serve<
     let Some(own) = seats.pop() else {
         return Err(Unserved::NoMemory);
     };
-    let Ok(door) = Arc::new(alloc, Door::new(alloc, limits, user_limits)?) else {
+    let Ok(connections) = Arc::new(alloc, Connections::new(alloc, limits, user_limits)?) else {
         return Err(Unserved::NoMemory);
     };
     let begun = Instant::now(rt).ok();
-    let mut staff = hire_all(rt, alloc, &door, begun, seats)?;
+    let mut staff = hire_all(rt, alloc, &connections, begun, seats)?;
     let counting = match affinity {
         Affinity::ByUser => Some(deal_out(alloc, &mut staff, workers)?),
         Affinity::Spread => None,
     };
     let Staff { crew, outlets } = staff;
-    let listening = match Listening::new(rt, address, outlets, shared(&door)?, until) {
+    let listening = match Listening::new(rt, address, outlets, shared(&connections)?, until) {
         Ok(listening) => listening,
         Err(error) => {
             audience.cannot_listen(&error);
@@ -264,13 +264,22 @@ pub fn serve<
     let source = Ticking {
         rt: *rt,
         begun,
-        door: shared(&door)?,
+        connections: shared(&connections)?,
         audience,
         seat: own,
         scraping,
         counting,
     };
-    let seats = run(rt, alloc, &hall, &users, crew, source, listening, &door)?;
+    let seats = run(
+        rt,
+        alloc,
+        &hall,
+        &users,
+        crew,
+        source,
+        listening,
+        &connections,
+    )?;
     match at_end {
         AtEnd::Leaves => Ok(Found::Nothing),
         AtEnd::Audits => Ok(audit_hall(alloc, hall, seats, audience)?),
@@ -291,7 +300,7 @@ fn run<
     crew: Vec<(Worker<Socket, N>, EventLoop<R>)>,
     source: Ticking<'_, R, N, A>,
     listening: Listening,
-    door: &Arc<Door, Global>,
+    connections: &Arc<Connections, Global>,
 ) -> Result<Vec<Seat<N>>, Unserved> {
     let clock = Clock::new();
     // Commands that come before the keeper's first turn are done at the right moment.
@@ -302,7 +311,7 @@ fn run<
     };
     let keeper = Keeper::new();
     let ended = run_crew(rt, alloc, hall, users, &clock, &Open, keeper, crew, source);
-    door.end();
+    connections.end();
     let _outlets = listener.join(rt);
     let Ok(Returned { mut seats, source }) = ended else {
         return Err(Unserved::NoMemory);

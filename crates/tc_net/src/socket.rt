@@ -2,7 +2,7 @@
 ghost use Rattle.std.specs.Prelude.{None};
 ghost use Rattle.std.specs.Io.{WritesAtMost};
 
-use crate::door::Door;
+use crate::connections::Connections;
 use crate::readiness::{ENDING, READABLE, Readiness, WRITABLE};
 use mio::net::TcpStream;
 use mio::{Interest, Registry, Token};
@@ -32,12 +32,12 @@ impl Drop for Watch {
 }
 
 /// A socket that asks the system only where the poll said that there is something. It has a place at
-/// the door until it is dropped.
+/// the connections until it is dropped.
 pub(crate) struct Socket {
     stream: TcpStream,
     /// None while it is on its way to a worker.
     watch: Option<Watch>,
-    door: Arc<Door, Global>,
+    connections: Arc<Connections, Global>,
     place: usize,
     /// The user that logged in.
     user: Option<UserNo>,
@@ -48,23 +48,27 @@ impl Drop for Socket {
         let Socket {
             stream,
             watch,
-            door,
+            connections,
             place,
             user: _,
         } = self;
         drop(stream);
         drop(watch);
-        door.leave(place);
+        connections.leave(place);
     }
 }
 
 impl Socket {
-    /// A wire that has this place at the door, and that no worker has yet.
-    pub(crate) fn new(stream: TcpStream, door: Arc<Door, Global>, place: usize) -> Socket {
+    /// A wire that has this place among the connections, and that no worker has yet.
+    pub(crate) fn new(
+        stream: TcpStream,
+        connections: Arc<Connections, Global>,
+        place: usize,
+    ) -> Socket {
         Socket {
             stream,
             watch: None,
-            door,
+            connections,
             place,
             user: None,
         }
@@ -163,7 +167,7 @@ impl Wire for Socket {
     ghost took = { λ _. None };
 
     fn read(&mut self, into: &mut [u8]) -> Got {
-        if self.door.is_over(self.place) {
+        if self.connections.is_over(self.place) {
             return Got::Failed;
         }
         if !self.has(READABLE) {
@@ -172,7 +176,7 @@ impl Wire for Socket {
         match self.stream.read(into) {
             Ok(0) => Got::Ended,
             Ok(n) => {
-                self.door.note_heard(self.place);
+                self.connections.note_heard(self.place);
                 self.count(n);
                 self.note_read(n, into.len());
                 Got::Bytes(n)
@@ -187,7 +191,7 @@ impl Wire for Socket {
     }
 
     fn write(&mut self, from: &Parts<'_>) -> Put {
-        if self.door.is_over(self.place) {
+        if self.connections.is_over(self.place) {
             return Put::Failed;
         }
         if !self.has(WRITABLE) {
@@ -195,12 +199,12 @@ impl Wire for Socket {
         }
         match self.send(from) {
             Ok(n) => {
-                self.door.note_taken(self.place, true);
+                self.connections.note_taken(self.place, true);
                 self.count(n);
                 Put::Wrote(n)
             }
             Err(e) if e.kind() == ErrorKind::WouldBlock => {
-                self.door.note_taken(self.place, false);
+                self.connections.note_taken(self.place, false);
                 self.clear(WRITABLE);
                 Put::Later
             }
@@ -220,7 +224,7 @@ impl Wire for Socket {
     }
 
     fn set_user(&mut self, user: UserNo) {
-        self.door.bind(self.place, user);
+        self.connections.bind(self.place, user);
         self.user = Some(user);
         if let Some(watch) = &mut self.watch {
             watch.home = watch.readiness.counts.home(user);
@@ -229,9 +233,9 @@ impl Wire for Socket {
 
     fn note<R: Wait>(&mut self, rt: &R, remark: Remark) {
         if remark == Remark::HoldsUp {
-            self.door.oust(self.place);
+            self.connections.oust(self.place);
         }
-        self.door
+        self.connections
             .note_remark(rt, self.stream.peer_addr().ok(), remark);
     }
 }

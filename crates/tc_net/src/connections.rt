@@ -96,7 +96,7 @@ impl Place {
 /// The places of all connections, the limits on them, how many were closed, and whether further ones
 /// come.
 #[derive(Drop)]
-pub(crate) struct Door {
+pub(crate) struct Connections {
     places: Vec<Place>,
     limits: ConnectionLimits,
     user_limits: LimitsByUser,
@@ -115,17 +115,17 @@ pub(crate) struct Door {
     notices: ArrayQueue<Notice>,
 }
 
-impl Door {
+impl Connections {
     pub(crate) fn new(
         alloc: Global,
         limits: ConnectionLimits,
         user_limits: LimitsByUser,
-    ) -> Result<Door, AllocError> {
+    ) -> Result<Connections, AllocError> {
         let mut places = Vec::with_capacity(alloc, MOST_OPEN)?;
         for _ in 0..MOST_OPEN {
             places.push(Place::new())?;
         }
-        Ok(Door {
+        Ok(Connections {
             places,
             limits,
             user_limits,
