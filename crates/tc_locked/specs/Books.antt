@@ -1,5 +1,5 @@
 -- Which books are legal, and what their calls do. Source: this project's own.
-use Rattle.std.specs.Prelude.{◌≡◌, cond, leb, ℕ, ◌+◌, ◌<◌, ◌≤◌, max, List, [], ◌∷◌, ◌++◌, length, map, slice_index}
+use Rattle.std.specs.Prelude.{◌≡◌, ◌≢◌, cond, leb, ℕ, ◌+◌, ◌-◌, ◌^◌, ◌<◌, ◌≤◌, max, List, [], ◌∷◌, ◌++◌, length, map, slice_index}
 use Rattle.std.specs.Prelude.{slice_set, replicate}
 use Rattle.tc_model.specs.Caching.{Event, Replays, state_after}
 use Rattle.tc_grammar.specs.declared.command.Command.{Command}
