@@ -1,4 +1,4 @@
-use Rattle.std.proofs.Common.{◌≡◌, subst}
+use Rattle.std.proofs.Common.{subst}
 use Rattle.std.specs.Prelude.{IfOk}
 use Rattle.tc_plain.specs.Doing.{act}
 use Rattle.tc_plain.specs.Keeping.{IsActed}

@@ -1,5 +1,5 @@
 use Rattle.std.specs.Prelude.{IfOk}
-use Rattle.std.proofs.Common.{◌≡◌, Some, subst, ◌∙◌, ap, w64}
+use Rattle.std.proofs.Common.{Some, subst, ◌∙◌, ap, w64}
 use Rattle.std.proofs.Math.Facts.{to_z-of_z}
 use Rattle.tc_item.specs.Expiry.{due_of}
 use Rattle.tc_plain.specs.UserCache.{advance}
