@@ -14,19 +14,19 @@ ghost use Rattle.tc_plain.specs.AreaLists.{areas_of, change_of, live_of as lists
 ghost use Rattle.tc_plain.specs.Soundness.{AreSound};
 ghost use Rattle.tc_plain.specs.UserCache.{UserCache};
 ghost use Rattle.tc_plain.specs.Plans.{outcome_of, planned, IsLightPlan};
-ghost use Rattle.tc_partition.specs.Held.{IsFound};
+ghost use Rattle.tc_partition.specs.Held.{IsFound, FindsSlot};
 ghost use Rattle.tc_partition.specs.Deferred.{Miss, hit, do_note, peeked};
 ghost use Rattle.tc_partition.specs.WaitingSlots.{SeeksSlot, placed_in, IsPlaced};
 ghost use Rattle.tc_readbuf.specs.declared.look_up.LookUp.{LookUp};
 ghost use Rattle.tc_partition.specs.LiveSlots.{live_of, then_live, seen_of, plan_of};
-ghost use Rattle.tc_partition.specs.Working.{is_new, is_vacant, IsTarget, IsAimed};
+ghost use Rattle.tc_partition.specs.Working.{is_new, IsAimed};
 
 use crate::aside::{Aside, set_aside, shed, turn};
 use crate::hints::Hints;
 use crate::slots::Slots;
 use crate::tables::Tables;
 use crate::wanted::Wanted;
-use crate::work::{Target, Work};
+use crate::work::Work;
 use std::alloc::Global;
 use tc_item::{Due, Key, Moment, NoMemory, Slot, alive};
 use tc_plain::{Areas, Change, End, Entry, EvictionState, Limits};
@@ -254,20 +254,20 @@ impl LiveSlots {
 
     /// Puts an entry in the place of what its key holds, or into a vacant slot. Where it is not alive, its
     /// key holds nothing from now on.
-    fn use_new(&mut self, target: Target, key_hash: u64, entry: Entry)
+    fn use_new(&mut self, place: Option<Slot>, key_hash: u64, entry: Entry)
         requires spare { 2 ≤ self.old.held.spare }
         requires hashed { key_hash ≡ hash entry.key }
-        requires target { IsTarget target entry.key self.old.held }
+        requires place { FindsSlot place entry.key self.old.held }
         requires light { weight entry ≤ self.old.held.limits.main }
         requires weight { total weight self.old.held.areas + weight entry < 2 ^ 64 }
-        requires room { is_vacant target ≡ true → self.old.held.has_room ≡ true }
+        requires room { place ≡ None → self.old.held.has_room ≡ true }
         ensures live { live_of self.new ≡ used entry (live_of self.old) }
         ensures then { then_live self.new ≡ then_live self.old }
     {
         self.sketch.record(key_hash);
         let alive = alive(&entry.item, self.moment);
-        match target {
-            Target::Occupied(slot) => {
+        match place {
+            Some(slot) => {
                 if alive {
                     self.held.replace(slot, entry);
                     self.hints.note(key_hash, slot);
@@ -275,9 +275,9 @@ impl LiveSlots {
                     self.held.empty(slot);
                 }
             }
-            Target::Vacant(key) => {
+            None => {
                 if alive {
-                    let slot = self.held.fill(Area::Window, key, entry);
+                    let slot = self.held.fill(Area::Window, entry);
                     self.hints.note(key_hash, slot);
                 }
             }
@@ -286,13 +286,13 @@ impl LiveSlots {
 
     /// Puts an entry in the place of what its key holds, or into a vacant slot, and brings each area within
     /// its limit; each entry that is dropped is counted.
-    fn change(&mut self, target: Target, key_hash: u64, entry: Entry, evictions: u64) -> u64
+    fn change(&mut self, place: Option<Slot>, key_hash: u64, entry: Entry, evictions: u64) -> u64
         requires spare { 2 ≤ self.old.held.spare }
         requires hashed { key_hash ≡ hash entry.key }
-        requires target { IsTarget target entry.key self.old.held }
+        requires place { FindsSlot place entry.key self.old.held }
         requires light { weight entry ≤ self.old.held.limits.main }
         requires weight { total weight self.old.held.areas + weight entry < 2 ^ 64 }
-        requires room { is_vacant target ≡ true → self.old.held.has_room ≡ true }
+        requires room { place ≡ None → self.old.held.has_room ≡ true }
         ensures live { live_of self.new ≡ record (used entry (live_of self.old)) {
           areas =
               (settle weight (frequency (used entry (live_of self.old))) self.old.held.limits
@@ -303,7 +303,7 @@ impl LiveSlots {
             (live_of self.old)).areas).dropped) }
         ensures then { then_live self.new ≡ then_live self.old }
     {
-        self.use_new(target, key_hash, entry);
+        self.use_new(place, key_hash, entry);
         self.held.settle(&self.sketch, evictions)
     }
 
@@ -442,22 +442,22 @@ impl LiveSlots {
             ≡ record k { live = live_of self.new; last = last.new; counters = counters.new } }
         ensures then { then_live self.new ≡ then_live self.old }
     {
-        let (end, target, hash, key, draft) = match work {
+        let (end, place, hash, key, draft) = match work {
             Work::Ends(end) => return end,
             Work::Changes {
                 end,
-                target,
+                place,
                 hash,
                 key,
                 draft,
-            } => (end, target, hash, key, draft),
+            } => (end, place, hash, key, draft),
         };
         let Some(cas) = last.checked_add(1) else {
             return End::CasWorn;
         };
         *last = cas;
         let item = draft.numbered(cas);
-        counters.evictions = self.change(target, hash, Entry { key, item }, counters.evictions);
+        counters.evictions = self.change(place, hash, Entry { key, item }, counters.evictions);
         end
     }
 }

@@ -12,12 +12,7 @@ use tc_plain::{Areas, Entry, Limits};
 use tc_slru::Area;
 
 /// Puts entries at the front of a list, in their order: the last first.
-fn put_back(
-    slots: &mut Slots,
-    alloc: Global,
-    area: Area,
-    mut entries: Vec<Entry>,
-) -> Result<(), NoMemory>
+fn put_back(slots: &mut Slots, area: Area, mut entries: Vec<Entry>) -> Result<(), NoMemory>
     requires { Fit slots.old.limits entries.items slots.old.areas }
     ensures areas { OnOk result (slots.new.areas
         ≡ put_back area entries.items slots.old.areas) }
@@ -25,8 +20,7 @@ fn put_back(
 {
     while let Some(entry) = entries.pop() {
         slots.make_room()?;
-        let key = entry.key.copy(alloc)?;
-        slots.fill(area, key, entry);
+        slots.fill(area, entry);
     }
     Ok(())
 }
@@ -47,9 +41,9 @@ impl Slots {
             protected,
         } = self.copy(alloc)?;
         let mut rebuilt = self.fresh_for(alloc, limits, self.count().max(1))?;
-        put_back(&mut rebuilt, alloc, Area::Window, window)?;
-        put_back(&mut rebuilt, alloc, Area::Probation, probation)?;
-        put_back(&mut rebuilt, alloc, Area::Protected, protected)?;
+        put_back(&mut rebuilt, Area::Window, window)?;
+        put_back(&mut rebuilt, Area::Probation, probation)?;
+        put_back(&mut rebuilt, Area::Protected, protected)?;
         Ok(rebuilt)
     }
 }

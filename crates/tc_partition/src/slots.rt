@@ -322,12 +322,10 @@ impl Slots {
         self.lists.heaviest()
     }
 
-    /// Puts an entry at the front of a list, whose key holds nothing, and says in which slot; `key` is a
-    /// copy of that key.
-    pub fn fill(&mut self, area: Area, key: Key, entry: Entry) -> Slot
+    /// Puts an entry at the front of a list, whose key holds nothing, and says in which slot.
+    pub fn fill(&mut self, area: Area, entry: Entry) -> Slot
         requires room { self.old.has_room ≡ true }
         requires spare { 2 ≤ self.old.spare }
-        requires key { key ≡ entry.key }
         requires free { held entry.key self.old.areas ≡ None }
         requires light { weight entry ≤ self.old.limits.main }
         requires fits { total weight self.old.areas + weight entry < 2 ^ 64 }

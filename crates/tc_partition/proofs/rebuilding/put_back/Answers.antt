@@ -11,9 +11,6 @@ loop-entry-init c = (refl, c.requires, refl)
 pub returns-in_err-make_room-clause-limits : goal.returns-in_err-make_room-clause-limits
 returns-in_err-make_room-clause-limits c = c.make_room.ensures.limits ∙ c.loop-entry.invariant.0
 
-pub returns-in_err-key-clause-limits : goal.returns-in_err-key-clause-limits
-returns-in_err-key-clause-limits c = c.make_room.ensures.limits ∙ c.loop-entry.invariant.0
-
 pub fill-requires-clause-free : goal.fill-requires-clause-free
 fill-requires-clause-free c =
     last_free _ c.pop.new.self.items c.in-Some.entry c.make_room.new.self.areas
