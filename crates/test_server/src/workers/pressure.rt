@@ -156,7 +156,7 @@ fn serve_both<C: Cache, N: Naming, R: Wait + Abort>(
     let (given_later, taken_later) = levels(deaf, other);
     assert!(rt; given > 0 && given_later == given);
     assert!(rt; taken > 0 && taken_later > taken);
-    assert!(rt; worker.kept(0).is_some() && worker.kept(1).is_some());
+    assert!(rt; worker.unread_len(0).is_some() && worker.unread_len(1).is_some());
 }
 
 /// One who never reads and one who does, of one worker.
