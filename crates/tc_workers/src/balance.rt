@@ -52,6 +52,10 @@ const LEAST_REST: u32 = 50;
 
 const MOST_REST: u32 = 3_200;
 
+/// After a trial that showed that helpers pay, so many looks pass at least before it is tried to do with
+/// fewer.
+const LEAST_STAY: u32 = 400;
+
 /// Helpers stay where one part more of so many is sent with them.
 const GAIN: u64 = 12;
 
@@ -84,10 +88,11 @@ struct Rest {
 }
 
 impl Rest {
-    fn new() -> Rest {
+    /// None yet; the first is of so many looks.
+    fn of(first: u32) -> Rest {
         Rest {
             left: 0,
-            last: LEAST_REST / 2,
+            last: first / 2,
         }
     }
 
@@ -142,8 +147,8 @@ impl Home {
             width: 1,
             first: 0,
             trial: None,
-            more: Rest::new(),
-            fewer: Rest::new(),
+            more: Rest::of(LEAST_REST),
+            fewer: Rest::of(LEAST_STAY),
             full: 0,
             slack: 0,
             crowded: 0,
@@ -175,8 +180,8 @@ impl Home {
         self.usual_load = seen.load;
         self.changed = 0;
         self.full = 0;
-        self.more = Rest::new();
-        self.fewer = Rest::new();
+        self.more = Rest::of(LEAST_REST);
+        self.fewer = Rest::of(LEAST_STAY);
     }
 
     /// Half of the workers go.
@@ -235,6 +240,8 @@ impl Home {
         if !has_failed {
             self.usual = sent;
             self.usual_load = load;
+            // The load was the same all along, so the next trial begins at once.
+            self.full = PATIENCE - 1;
         }
         has_failed
     }
@@ -389,7 +396,7 @@ impl Balance {
             home.narrow();
         } else if home.crowded >= CROWDED {
             home.yield_helpers();
-        } else if home.full >= PATIENCE && home.changed == 0 {
+        } else if home.full >= PATIENCE && home.changed == 0 && home.crowded == 0 {
             self.begin(did, own, home);
         }
     }

@@ -13,6 +13,9 @@ const FIRST: [u64; 3] = [1_000, 200, 100];
 /// The first and the third have no time left.
 const BOTH: [u64; 3] = [1_000, 200, 1_000];
 
+/// None has time left.
+const ALL: [u64; 3] = [1_000, 1_000, 1_000];
+
 /// The policy, what it looks at, and where the first worker's connections are served.
 #[derive(Drop)]
 struct Dealt {
@@ -104,6 +107,20 @@ fn a_helper_stays_until_one_worker_would_do(rt: HostRuntime) -> Result<(), Fail>
     dealt.look(19, [200, 0, 300], 108);
     assert!(&rt; dealt.places() == [Some(2), None]);
     dealt.look(1, [200, 0, 300], 108);
+    assert!(&rt; dealt.places() == [None, None]);
+    Ok(())
+}
+
+/// A helper that paid is not done without for some ten seconds, though nothing else can be tried: nobody else
+/// has time.
+#[test]
+fn a_helper_that_paid_is_kept_for_a_while(rt: HostRuntime) -> Result<(), Fail> {
+    let mut dealt = deal(rt.alloc())?;
+    dealt.look(7, FIRST, 100);
+    dealt.look(7, BOTH, 108);
+    dealt.look(399, ALL, 108);
+    assert!(&rt; dealt.places() == [Some(2), None]);
+    dealt.look(1, ALL, 108);
     assert!(&rt; dealt.places() == [None, None]);
     Ok(())
 }
