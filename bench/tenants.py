@@ -746,6 +746,22 @@ def tables_mostly_empty():
 
 
 @check
+def tables_at_rest():
+    """400,000 items without data, of which all but 60,000 are deleted, and a rest of some seconds"""
+    with Server() as s:
+        c = Conn(s.port, timeout=50)
+        fill(c, 400000)
+        full = s.rss()
+        for b in range(60000, 400000, 20000):
+            c.send(b"".join(b"delete %s noreply\r\n" % key(i) for i in range(b, min(b + 20000, 400000))))
+            c.get(b"nothere")
+        time.sleep(8)
+        left = s.rss()
+        held = sum(c.get(key(i)) is not None for i in range(0, 60000, 600))
+        return left <= full / 2 and held == 100, "%.0f MiB with all, %.0f with the rest, which is held: %d of 100 [half]" % (full, left, held)
+
+
+@check
 def flush_flood():
     """one connection of flush_all noreply, 19 bytes each, on that cache"""
     return flooded(b"flush_all noreply\r\n" * 2000, 1, ["u5", "u2"], emptied)

@@ -72,7 +72,7 @@ shell_send = search (sendable, crosses) depth 400 fits 1000000
 
 deferring_send : IsSend deferring_row
 deferring_send =
-    view_send _ _ _ _ _ (declared_send deferring_inside (cache_send, (buf_send, (search (sendable, crosses) depth 20, tt))))
+    view_send _ _ _ _ _ (declared_send deferring_inside (cache_send, (buf_send, (search (sendable, crosses) depth 20, (counters_send, (search (sendable, crosses) depth 20, tt))))))
 
 pub fast_send : IsSend fast_row
 fast_send = view_send _ _ _ _ _ (declared_send fast_inside (deferring_send, (shell_send, (shell_send, tt))))
@@ -126,7 +126,7 @@ shell_sync = search (sendable, crosses) depth 400 fits 1000000
 
 deferring_sync : IsSync deferring_row
 deferring_sync =
-    view_sync _ _ _ _ _ (declared_sync deferring_inside (cache_sync, (buf_sync, (search (sendable, crosses) depth 20, tt))))
+    view_sync _ _ _ _ _ (declared_sync deferring_inside (cache_sync, (buf_sync, (search (sendable, crosses) depth 20, (counters_sync, (search (sendable, crosses) depth 20, tt))))))
 
 pub fast_sync : IsSync fast_row
 fast_sync = view_sync _ _ _ _ _ (declared_sync fast_inside (deferring_sync, (shell_sync, (shell_sync, tt))))

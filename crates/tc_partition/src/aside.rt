@@ -5,6 +5,9 @@
 //! prepared; from then on they tell what the page began with alone, and its turn is done with them.
 //!
 //! Where the journal is off, nobody asks what they tell: they are gone at once, and only proofs know of them.
+//!
+//! What owns tables is written over by `mem::replace`, whose result a call of `drop` lets go of: to let go of it in
+//! place is dear to prove (docs/STYLE.md, "What the gate may cost").
 ghost use Rattle.std.specs.Prelude.{◌≡◌, ◌<◌, ◌^◌, true, IfOk};
 ghost use Rattle.tc_model.specs.Areas.{Areas as AreasOf, total};
 ghost use Rattle.tc_plain.specs.AreaLists.{areas_of};
@@ -64,8 +67,8 @@ impl Aside {
         ensures { (t : Then (AreasOf Entry)) → then_of self.new t ≡ then_of self.old slots.then }
     {
         match self {
-            Aside::Nothing => *self = Aside::Both(slots),
-            Aside::Both(_) | Aside::Page(_) | Aside::Seen(_) => {}
+            Aside::Nothing => drop(mem::replace(self, Aside::Both(slots))),
+            Aside::Both(_) | Aside::Page(_) | Aside::Seen(_) => drop(slots),
         }
     }
 
@@ -75,7 +78,7 @@ impl Aside {
         ensures { (t : Then (AreasOf Entry)) → then_of self.new t ≡ then_of self.old slots.now.then }
     {
         match self {
-            Aside::Nothing => *self = Aside::Seen(Past::of(slots)),
+            Aside::Nothing => drop(mem::replace(self, Aside::Seen(Past::of(slots)))),
             Aside::Both(_) | Aside::Page(_) | Aside::Seen(_) => {}
         }
     }
@@ -100,10 +103,10 @@ impl Aside {
     {
         match mem::replace(self, Aside::Nothing) {
             Aside::Nothing => {}
-            Aside::Both(slots) | Aside::Page(slots) => *self = Aside::Page(slots),
+            Aside::Both(slots) | Aside::Page(slots) => drop(mem::replace(self, Aside::Page(slots))),
             Aside::Seen(mut past) => {
                 past.prepare();
-                *self = Aside::Seen(past);
+                drop(mem::replace(self, Aside::Seen(past)));
             }
         }
     }
@@ -132,14 +135,14 @@ fn put_aside(held: &mut Slots, aside: &mut Aside, gone: &mut Option<Tables>, lar
         Journal::On => aside.keep(large),
         Journal::Off => {
             aside.see(&large);
-            *gone = Some(large.retire(held));
+            drop(gone.replace(large.retire(held)));
         }
     }
 }
 
-/// Sets large tables aside where they are mostly empty and none are set aside, and says whether it did:
-/// smaller ones with the same entries are in use from then on. Where memory for those is refused, all stays
-/// as it was. Where the journal is off, those that were large are gone.
+/// Sets large tables aside where none are set aside, and says whether it did: smaller ones with the same
+/// entries are in use from then on. Where memory for those is refused, all stays as it was. Where the journal
+/// is off, those that were large are gone.
 pub fn set_aside(
     alloc: Global,
     held: &mut Slots,
@@ -155,7 +158,7 @@ pub fn set_aside(
     ensures limits { held.new.limits ≡ held.old.limits }
     ensures then { then_of aside.new held.new.then ≡ then_of aside.old held.old.then }
 {
-    if !held.are_sparse() || !aside.is_free() {
+    if !aside.is_free() {
         return false;
     }
     let Ok(rebuilt) = held.rebuilt(alloc, limits) else {
@@ -198,18 +201,18 @@ fn turn_aside(held: &mut Slots, aside: &mut Aside, gone: &mut Option<Tables>) ->
         Aside::Nothing => held.turn(),
         Aside::Both(mut slots) => {
             let given = slots.turn();
-            *aside = Aside::Both(slots);
+            drop(mem::replace(aside, Aside::Both(slots)));
             given
         }
         Aside::Page(slots) => {
             let given = held.turn();
-            *gone = Some(slots.retire(held));
+            drop(gone.replace(slots.retire(held)));
             given
         }
         Aside::Seen(mut past) => {
             let given = held.turn();
             if past.turn() {
-                *aside = Aside::Seen(past);
+                drop(mem::replace(aside, Aside::Seen(past)));
             }
             given
         }

@@ -401,7 +401,7 @@ impl LiveSlots {
         shed(&mut self.gone);
     }
 
-    /// Has smaller tables in use where large ones are mostly empty. The limits are those that it has.
+    /// Has smaller tables in use in the place of large ones. The limits are those that it has.
     pub(crate) fn renew(&mut self, alloc: Global, limits: Limits)
         requires same { limits ≡ self.old.held.limits }
         requires small { limits.main < 2 ^ 32 }

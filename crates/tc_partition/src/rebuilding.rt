@@ -1,7 +1,9 @@
 //! The same entries in tables that have room for few more.
 ghost use Rattle.std.specs.Prelude.{◌≡◌, ◌<◌, ◌^◌, IfOk, OnOk};
 ghost use Rattle.tc_model.specs.Areas.{total};
+ghost use Rattle.tc_plain.specs.AreaLists.{areas_of};
 ghost use Rattle.tc_plain.specs.Entries.{weight};
+ghost use Rattle.tc_plain.specs.EvictionState.{no_entries};
 ghost use Rattle.tc_plain.specs.Soundness.{AreSound};
 ghost use Rattle.tc_partition.specs.Rebuilt.{Fit, put_back};
 
@@ -25,6 +27,24 @@ fn put_back(slots: &mut Slots, area: Area, mut entries: Vec<Entry>) -> Result<()
     Ok(())
 }
 
+/// Puts all entries into tables that hold none.
+fn put_all_back(slots: &mut Slots, areas: Areas) -> Result<(), NoMemory>
+    requires none { slots.old.areas ≡ no_entries }
+    requires sound { AreSound slots.old.limits (areas_of areas) }
+    requires sum { total weight (areas_of areas) < 2 ^ 64 }
+    ensures areas { OnOk result (slots.new.areas ≡ areas_of areas) }
+    ensures limits { slots.new.limits ≡ slots.old.limits }
+{
+    let Areas {
+        window,
+        probation,
+        protected,
+    } = areas;
+    put_back(slots, Area::Window, window)?;
+    put_back(slots, Area::Probation, probation)?;
+    put_back(slots, Area::Protected, protected)
+}
+
 impl Slots {
     /// The same entries in tables of their own, which have room for few more, under the same limits.
     pub fn rebuilt(&self, alloc: Global, limits: Limits) -> Result<Slots, NoMemory>
@@ -35,15 +55,9 @@ impl Slots {
         ensures areas { IfOk result (λ s. s.areas ≡ self.now.areas) }
         ensures limits { IfOk result (λ s. s.limits ≡ self.now.limits) }
     {
-        let Areas {
-            window,
-            probation,
-            protected,
-        } = self.copy(alloc)?;
+        let areas = self.copy(alloc)?;
         let mut rebuilt = self.fresh_for(alloc, limits, self.count().max(1))?;
-        put_back(&mut rebuilt, Area::Window, window)?;
-        put_back(&mut rebuilt, Area::Probation, probation)?;
-        put_back(&mut rebuilt, Area::Protected, protected)?;
+        put_all_back(&mut rebuilt, areas)?;
         Ok(rebuilt)
     }
 }

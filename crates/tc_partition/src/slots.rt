@@ -53,9 +53,6 @@ const LARGE: usize = 4096;
 /// Tables are mostly empty where less than one in so many of their places holds an entry.
 const SPARSE_OF: usize = 4;
 
-/// So many entries at most are put into smaller tables, which is some milliseconds' work.
-const MOST_MOVED: usize = 16_384;
-
 /// The entries of one partition.
 #[derive(Drop)]
 pub struct Slots {
@@ -134,11 +131,15 @@ impl Slots {
         self.log.journal()
     }
 
-    /// Whether the tables have places for many slots, few of these hold an entry, and the entries can be put
-    /// into smaller tables while others wait.
+    /// Whether the tables have places for many slots, and few of these hold an entry.
     pub fn are_sparse(&self) -> bool {
-        let (places, count) = (self.wheel.slots(), self.count());
-        places >= LARGE && count < places / SPARSE_OF && count <= MOST_MOVED
+        let places = self.wheel.slots();
+        places >= LARGE && self.count() < places / SPARSE_OF
+    }
+
+    /// The allocator of the tables.
+    pub fn allocator(&self) -> Global {
+        self.index.allocator()
     }
 
     /// The tables alone, which are in use no more; the changes that were noted go with those of `held`.
