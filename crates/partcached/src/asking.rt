@@ -96,30 +96,54 @@ fn config_arg<'a>(alloc: Global) -> Arg<'a> {
         .help("The settings, a TOML text")
 }
 
-/// `serve` and its arguments.
-fn serve_command<'a>(alloc: Global) -> Result<Command<'a>, AllocError> {
-    let config = config_arg(alloc)
+/// `--config` of `serve`, which a demo needs not.
+fn settings_arg<'a>(alloc: Global) -> Result<Arg<'a>, AllocError> {
+    config_arg(alloc)
         .required_unless_present("demo")?
-        .conflicts_with("demo")?;
+        .conflicts_with("demo")
+}
+
+/// Where a demo listens.
+fn listen_arg<'a>(alloc: Global) -> Result<Arg<'a>, AllocError> {
+    let listen = Arg::new(alloc, "listen")
+        .long("listen")
+        .value_name("ADDRESS:PORT")
+        .help("Where the demo listens, if not on 127.0.0.1:11211");
+    listen.requires_arg("demo")
+}
+
+/// Whether the hall is audited at the end.
+fn audit_arg<'a>(alloc: Global) -> Result<Arg<'a>, AllocError> {
+    let audit = Arg::new(alloc, "audit")
+        .long("audit")
+        .action(ArgAction::SetTrue)
+        .help("At the end do each user's last calls again on the definition");
+    audit.requires_arg("until")
+}
+
+/// The same with what is asked of a demo.
+fn with_demo<'a>(alloc: Global, serve: Command<'a>) -> Result<Command<'a>, AllocError> {
     let demo = Arg::new(alloc, "demo")
         .long("demo")
         .action(ArgAction::SetTrue)
         .help("Serve two users of the program's own, on a loopback address, without a file");
-    let listen = Arg::new(alloc, "listen")
-        .long("listen")
-        .value_name("ADDRESS:PORT")
-        .requires_arg("demo")?
-        .help("Where the demo listens, if not on 127.0.0.1:11211");
+    let listen = listen_arg(alloc)?;
+    serve.arg(demo)?.arg(listen)
+}
+
+/// The same with what is asked of the server's end.
+fn with_end<'a>(alloc: Global, serve: Command<'a>) -> Result<Command<'a>, AllocError> {
     let until = Arg::new(alloc, "until")
         .long("until")
         .value_name("N")
         .value_parser(value_parser!(u32).range(1..))
         .help("End once N connections were closed");
-    let audit = Arg::new(alloc, "audit")
-        .long("audit")
-        .action(ArgAction::SetTrue)
-        .requires_arg("until")?
-        .help("At the end do each user's last calls again on the definition");
+    let audit = audit_arg(alloc)?;
+    serve.arg(until)?.arg(audit)
+}
+
+/// `serve` and its arguments.
+fn serve_command<'a>(alloc: Global) -> Result<Command<'a>, AllocError> {
     let spread = Arg::new(alloc, "spread")
         .long("spread")
         .action(ArgAction::SetTrue)
@@ -128,15 +152,10 @@ fn serve_command<'a>(alloc: Global) -> Result<Command<'a>, AllocError> {
         .long("quiet")
         .action(ArgAction::SetTrue)
         .help("Print no line for what becomes of a connection");
-    Command::new(alloc, "serve")
-        .about("Listen, and serve memcached's clients")
-        .arg(config)?
-        .arg(demo)?
-        .arg(listen)?
-        .arg(spread)?
-        .arg(until)?
-        .arg(audit)?
-        .arg(quiet)
+    let settings = settings_arg(alloc)?;
+    let serve = Command::new(alloc, "serve").about("Listen, and serve memcached's clients");
+    let serve = with_demo(alloc, serve.arg(settings)?)?;
+    with_end(alloc, serve.arg(spread)?)?.arg(quiet)
 }
 
 /// `run` and its argument.
@@ -150,18 +169,27 @@ fn run_command<'a>(alloc: Global) -> Result<Command<'a>, AllocError> {
         .arg(reference)
 }
 
+/// `check` and its argument.
+fn check_command<'a>(alloc: Global) -> Result<Command<'a>, AllocError> {
+    Command::new(alloc, "check")
+        .about("Say what is wrong with settings, or what they come to")
+        .arg(config_arg(alloc).required(true))
+}
+
 /// What the command line may be.
 fn command<'a>(alloc: Global) -> Result<Command<'a>, AllocError> {
-    let check = Command::new(alloc, "check")
-        .about("Say what is wrong with settings, or what they come to")
-        .arg(config_arg(alloc).required(true))?;
+    let (run, check, serve) = (
+        run_command(alloc)?,
+        check_command(alloc)?,
+        serve_command(alloc)?,
+    );
     Command::new(alloc, "partcached")
-        .version("1.7.0")
+        .version("1.9.0")
         .about("A memcached server in which each user has a partition of its own")
         .subcommand_required(true)
-        .subcommand(run_command(alloc)?)?
+        .subcommand(run)?
         .subcommand(check)?
-        .subcommand(serve_command(alloc)?)
+        .subcommand(serve)
 }
 
 /// A copy of an argument's text.

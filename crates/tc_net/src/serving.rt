@@ -167,6 +167,47 @@ fn deal_out<N: Naming, R: Wait + Time + Drop>(
     Counting::new(alloc, counted, shares)
 }
 
+/// A worker for each seat, dealt out to users where that is asked for, and what then counts what they do.
+fn hire_staff<N: Naming, R: Wait + Net + Time + AllocGlobal + Copy + Drop>(
+    rt: &R,
+    alloc: Global,
+    connections: &Arc<Connections, Global>,
+    begun: Option<Instant>,
+    seats: Vec<Seat<N>>,
+    affinity: Affinity,
+    workers: usize,
+) -> Result<(Staff<N, R>, Option<Counting>), Unserved>
+    requires { 0 < workers }
+{
+    let mut staff = hire_all(rt, alloc, connections, begun, seats)?;
+    match affinity {
+        Affinity::ByUser => {
+            let counting = deal_out(alloc, &mut staff, workers)?;
+            Ok((staff, Some(counting)))
+        }
+        Affinity::Spread => Ok((staff, None)),
+    }
+}
+
+/// A listener at an address, which puts connections where their workers take them. Else the audience is told
+/// why there is none.
+fn open_listener<R: Net + AllocGlobal, A: Audience>(
+    rt: &R,
+    address: SocketAddr,
+    outlets: Vec<Outlet>,
+    connections: &Arc<Connections, Global>,
+    until: Option<u64>,
+    audience: &A,
+) -> Result<Listening, Unserved> {
+    match Listening::new(rt, address, outlets, shared(connections)?, until) {
+        Ok(listening) => Ok(listening),
+        Err(error) => {
+            audience.cannot_listen(&error);
+            Err(Unserved::from(error))
+        }
+    }
+}
+
 /// The metrics' listener, where the settings ask for one. The audience is told where it listens, or why
 /// it can't.
 fn listen_for_metrics<R: Net + AllocGlobal, A: Audience>(
@@ -246,19 +287,9 @@ pub fn serve<
         return Err(Unserved::NoMemory);
     };
     let begun = Instant::now(rt).ok();
-    let mut staff = hire_all(rt, alloc, &connections, begun, seats)?;
-    let counting = match affinity {
-        Affinity::ByUser => Some(deal_out(alloc, &mut staff, workers)?),
-        Affinity::Spread => None,
-    };
+    let (staff, counting) = hire_staff(rt, alloc, &connections, begun, seats, affinity, workers)?;
     let Staff { crew, outlets } = staff;
-    let listening = match Listening::new(rt, address, outlets, shared(&connections)?, until) {
-        Ok(listening) => listening,
-        Err(error) => {
-            audience.cannot_listen(&error);
-            return Err(Unserved::from(error));
-        }
-    };
+    let listening = open_listener(rt, address, outlets, &connections, until, audience)?;
     let scraping = listen_for_metrics(rt, metrics, &users, audience)?;
     audience.listens(listening.address().unwrap_or(address));
     let source = Ticking {

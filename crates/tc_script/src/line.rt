@@ -10,7 +10,7 @@ use tc_item::{LARGEST_ITEM, NoMemory};
 use tc_users::{Text, UserSpec};
 
 /// What a line says.
-#[derive(Debug, Drop)]
+#[derive(Drop)]
 pub enum Line {
     /// Nothing: it is empty or a comment.
     Blank,

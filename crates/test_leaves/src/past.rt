@@ -68,13 +68,33 @@ fn a_sketch_is_alike_with_the_journal_off_and_its_past_is_refused(
     rt: HostRuntime,
 ) -> Result<(), Fail> {
     let mut sketch = PastSketch::new(rt.alloc(), 8, Journal::Off)?;
+    record_around_a_turn(&rt, rt.alloc(), &mut sketch)?;
+    Ok(())
+}
+
+/// Records a hash before a page's turn and behind it.
+fn record_around_a_turn(
+    rt: &impl Abort,
+    alloc: Global,
+    sketch: &mut PastSketch,
+) -> Result<(), NoMemory> {
     sketch.record(5);
     sketch.prepare();
     sketch.turn();
     sketch.record(5);
-    assert!(rt; sketch.freq(5) == 2 && sketch.copy(rt.alloc())?.freq(5) == 2);
-    assert!(rt; sketch.opened(rt.alloc()).is_err());
+    assert!(rt; sketch.freq(5) == 2 && freq_of_copy(alloc, sketch)? == 2);
+    assert!(rt; is_past_refused(alloc, sketch));
     Ok(())
+}
+
+/// How often a copy of a sketch recorded that hash.
+fn freq_of_copy(alloc: Global, sketch: &PastSketch) -> Result<u8, NoMemory> {
+    Ok(sketch.copy(alloc)?.freq(5))
+}
+
+/// Whether it is refused to say what a sketch recorded when its page began.
+fn is_past_refused(alloc: Global, sketch: &PastSketch) -> bool {
+    sketch.opened(alloc).is_err()
 }
 
 #[test]

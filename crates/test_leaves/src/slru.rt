@@ -366,7 +366,8 @@ fn cleared_lists_hold_nothing_and_take_slots_again(rt: HostRuntime) -> Result<()
 }
 
 /// Asks for more room than there is memory, and for less than there is.
-fn expect_room(rt: &impl Abort, lists: &mut Lists) {
+fn expect_room(rt: &impl Abort, lists: &mut Lists) -> Result<(), NoMemory> {
+    lists.reserve(2)?;
     push(rt, lists, 0, 20);
     assert!(rt; lists.reserve(1 << 60) == Err(NoMemory));
     assert!(rt; lists.reserve(usize::MAX) == Err(NoMemory));
@@ -375,13 +376,13 @@ fn expect_room(rt: &impl Abort, lists: &mut Lists) {
         lists.reserve(1).is_ok() && lists.slots() == 2,
         "room is never taken away"
     );
+    Ok(())
 }
 
 #[test]
 fn a_refused_reserve_changes_nothing(rt: HostRuntime) -> Result<(), Fail> {
     let mut lists = Lists::new(rt.alloc(), 10, 100, 80, Journal::On)?;
-    lists.reserve(2)?;
-    expect_room(&rt, &mut lists);
+    expect_room(&rt, &mut lists)?;
     Ok(())
 }
 
@@ -402,23 +403,28 @@ fn opened_window(
     Ok(())
 }
 
+/// Pushes, pages that are prepared and turned between them, and what each page began with.
+fn turn_pages(rt: &impl Abort, alloc: Global, lists: &mut Lists) -> Result<(), NoMemory> {
+    lists.reserve(3)?;
+    push(rt, lists, 0, 20);
+    opened_window(rt, alloc, lists, &[])?;
+    lists.prepare();
+    push(rt, lists, 1, 20);
+    opened_window(rt, alloc, lists, &[])?;
+    lists.turn();
+    opened_window(rt, alloc, lists, &[0])?;
+    remove(rt, lists, 0);
+    lists.prepare();
+    push(rt, lists, 2, 20);
+    opened_window(rt, alloc, lists, &[0])?;
+    lists.prepare();
+    lists.turn();
+    opened_window(rt, alloc, lists, &[2, 1])
+}
+
 #[test]
 fn a_page_shows_what_it_began_with_until_the_next_turns(rt: HostRuntime) -> Result<(), Fail> {
     let mut lists = Lists::new(rt.alloc(), 100, 100, 80, Journal::On)?;
-    lists.reserve(3)?;
-    push(&rt, &mut lists, 0, 20);
-    opened_window(&rt, rt.alloc(), &lists, &[])?;
-    lists.prepare();
-    push(&rt, &mut lists, 1, 20);
-    opened_window(&rt, rt.alloc(), &lists, &[])?;
-    lists.turn();
-    opened_window(&rt, rt.alloc(), &lists, &[0])?;
-    remove(&rt, &mut lists, 0);
-    lists.prepare();
-    push(&rt, &mut lists, 2, 20);
-    opened_window(&rt, rt.alloc(), &lists, &[0])?;
-    lists.prepare();
-    lists.turn();
-    opened_window(&rt, rt.alloc(), &lists, &[2, 1])?;
+    turn_pages(&rt, rt.alloc(), &mut lists)?;
     Ok(())
 }
