@@ -41,7 +41,7 @@ pub(crate) enum Ask<'a> {
 }
 
 /// The key of an item, of 16 bytes.
-pub(crate) fn key(alloc: Global, number: u32) -> Result<Key, Fault> {
+fn key(alloc: Global, number: u32) -> Result<Key, Fault> {
     let text = format!(in alloc; "user:{number:011}")?;
     Ok(Key::new(alloc, text.as_bytes())?)
 }
@@ -92,12 +92,25 @@ pub(crate) fn commands(alloc: Global, ask: Ask, span: Span) -> Result<Vec<Comman
     Ok(commands)
 }
 
-/// The key of each item of a span, in an order that looks random.
-pub(crate) fn keys(alloc: Global, span: Span) -> Result<Vec<Key>, Fault> {
-    let mut keys = Vec::new(alloc);
-    for place in 0..span.count {
-        let key = key(alloc, span.number(place))?;
-        keys.push(key)?;
+/// One `get` of so many items of a span, from this place on.
+fn get_from(alloc: Global, span: Span, first: u32, count: u32) -> Result<Command, Fault> {
+    let mut keys = Keys::new();
+    for nth in 0..count {
+        let key = key(alloc, span.number(first.wrapping_add(nth)))?;
+        keys.push(alloc, key)?;
     }
-    Ok(keys)
+    Ok(Command::Get {
+        form: Form::Bare,
+        keys,
+    })
+}
+
+/// `get`s of so many keys each, which name the items of a span in an order that looks random.
+pub(crate) fn many_gets(alloc: Global, span: Span, each: u32) -> Result<Vec<Command>, Fault> {
+    let mut gets = Vec::new(alloc);
+    for nth in 0..span.count / each.max(1) {
+        let get = get_from(alloc, span, nth.wrapping_mul(each), each)?;
+        gets.push(get)?;
+    }
+    Ok(gets)
 }

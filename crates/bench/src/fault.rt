@@ -21,8 +21,7 @@ impl Fault {
     /// The line on standard error.
     pub(crate) fn text(self) -> &'static str {
         match self {
-            Fault::Usage =>
-                "usage: bench [sketch|item|grammar|slru|wheel|session|partition|hall [--measure]]",
+            Fault::Usage => "usage: bench [partition|hall [--measure]]",
             Fault::NoMemory => "bench: out of memory",
             Fault::System => "bench: the clock, the arguments or standard output failed",
             Fault::Unfit => "bench: a key or a user was refused",

@@ -1,4 +1,4 @@
-//! Measures the parts of the server: `bench PART --measure` prints what their calls take.
+//! Measures a user's cache and the hall: `bench PART --measure` prints what their calls take.
 //!
 //! Without `--measure` it does a little of the part, and without any word a little of each, and
 //! prints what the calls came to and no times. bench/README.md says what each part measures.
@@ -8,17 +8,10 @@ mod acts;
 mod calling;
 mod commands;
 mod fault;
-mod grammar;
 mod hall;
-mod item;
-mod lru_cache;
 mod measuring;
 mod partition;
-mod session;
-mod sketch;
-mod slru;
 mod turning;
-mod wheel;
 
 use fault::Fault;
 use measuring::Extent;
@@ -30,27 +23,12 @@ use std::thread::Threads;
 /// What is measured.
 #[derive(Clone, Copy)]
 enum Part {
-    Sketch,
-    Item,
-    Grammar,
-    Slru,
-    Wheel,
-    Session,
     Partition,
     Hall,
 }
 
 /// The parts, under the words that ask for them.
-const PARTS: [(&str, Part); 8] = [
-    ("sketch", Part::Sketch),
-    ("item", Part::Item),
-    ("grammar", Part::Grammar),
-    ("slru", Part::Slru),
-    ("wheel", Part::Wheel),
-    ("session", Part::Session),
-    ("partition", Part::Partition),
-    ("hall", Part::Hall),
-];
+const PARTS: [(&str, Part); 2] = [("partition", Part::Partition), ("hall", Part::Hall)];
 
 /// What the command line asks for.
 #[derive(Clone, Copy)]
@@ -94,12 +72,6 @@ fn run_part<R: Threads + Wait + Sync>(
     extent: Extent,
 ) -> Result<(), Fault> {
     match part {
-        Part::Sketch => sketch::run(rt, extent),
-        Part::Item => item::run(rt, extent),
-        Part::Grammar => grammar::run(rt, extent),
-        Part::Slru => slru::run(rt, extent),
-        Part::Wheel => wheel::run(rt, extent),
-        Part::Session => session::run(rt, extent),
         Part::Partition => partition::run(rt, extent),
         Part::Hall => hall::run(rt, threads, extent),
     }

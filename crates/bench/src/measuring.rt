@@ -1,12 +1,7 @@
 //! What all parts share: how often work is done, what a call takes, and the lines of output.
 
 use crate::fault::Fault;
-use std::alloc::Global;
-use std::time::{Duration, Instant};
-use tc_item::NoMemory;
-
-/// How many runs the best is taken of.
-const RUNS: u32 = 10;
+use std::time::Duration;
 
 /// How much of a part is done.
 #[derive(Clone, Copy)]
@@ -40,12 +35,6 @@ pub(crate) struct Topic<'a> {
     pub(crate) calls: &'a str,
     /// What the calls came to.
     pub(crate) sum: &'a str,
-}
-
-/// Work that can be done again and again.
-pub(crate) trait Work {
-    /// Does it once.
-    fn run(&self, alloc: Global) -> Result<Tally, NoMemory>;
 }
 
 /// Nanoseconds of one of so many calls.
@@ -84,30 +73,5 @@ pub(crate) fn print_spent(
     match extent {
         Extent::Counted => print_count(rt, topic, spent.tally),
         Extent::Measured => print_time(rt, topic, spent.time, spent.tally),
-    }
-}
-
-/// What work took in the best of some runs.
-fn best_of<W: Work>(rt: &HostRuntime, work: &W) -> Result<Duration, Fault> {
-    let mut best = Duration::MAX;
-    for _ in 0..RUNS {
-        let start = Instant::now(rt)?;
-        let _tally = work.run(rt.alloc())?;
-        best = best.min(start.elapsed(rt)?);
-    }
-    Ok(best)
-}
-
-/// Does work once and prints what it came to, or prints what a call took in the best of some runs.
-pub(crate) fn report<W: Work>(
-    rt: &HostRuntime,
-    topic: Topic,
-    work: &W,
-    extent: Extent,
-) -> Result<(), Fault> {
-    let tally = work.run(rt.alloc())?;
-    match extent {
-        Extent::Counted => print_count(rt, topic, tally),
-        Extent::Measured => print_time(rt, topic, best_of(rt, work)?, tally),
     }
 }
