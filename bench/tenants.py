@@ -14,7 +14,7 @@ whatever is promised. Latencies are milliseconds, p50/p99/longest. It ends with 
 
 Only processes that were started here are stopped, by their pids; a server that grows past --cap, or
 leaves the machine less than 3.5 GiB, is stopped too. It takes some seven minutes and 3 GiB at most;
---quick is what asks for no time, in some 30 seconds."""
+--quick is what asks for no time, in some 40 seconds."""
 import argparse
 import collections
 import os
@@ -40,7 +40,7 @@ P99, LONGEST = 25, 150           # the bar of a quiet tenant's gets, ms
 NEW_P99 = 250                    # the same of a new connection with its login and a get
 GROWTH = 64                      # MiB that a tenant may take beside its budget
 # what is no matter of time
-QUICK = ("tables_mostly_empty", "reply_memory", "reply_unlimited", "reply_refused_room",
+QUICK = ("tables_mostly_empty", "tables_at_rest", "reply_memory", "reply_unlimited", "reply_refused_room",
          "all_connections_of_a_stranger", "endings")
 FIELD = re.compile(r"^(?!listen)(\w+ = .*)$", re.M)
 
