@@ -7,7 +7,11 @@ usage: bench/neighbours.py PROGRAM [--beside COMMAND] [--rounds N] [--seconds S]
 It starts `PROGRAM serve` on the settings of examples/partcached.toml, but for the port and two users,
 once as it is and once with --spread, and COMMAND, as bench/serve.py does. The quiet user has 8 connections, one request at a time, over 10,000
 keys; the busy one 25 connections with 16 requests in flight each, over a million. Nine requests of
-ten are `get`s of 100 B. Numbers are medians of the rounds, in microseconds and requests a second."""
+ten are `get`s of 100 B. Numbers are medians of the rounds, in microseconds and requests a second.
+
+Clients and servers share the machine's processors, so a busy user is noticed by whoever serves it. The
+rows `asks another server` have the busy user at a second server of the same command: what they show is
+no matter of sharing a server."""
 import argparse
 import json
 import shlex
@@ -51,9 +55,9 @@ def told(run):
     return answer
 
 
-def measured(port, is_beside, asked):
-    """What the quiet user sees, and how many requests the busy one has answered a second."""
-    busy = load(port, "busy", "-F", "-w", "0.5", "-d", str(asked.seconds + 1)) if is_beside else None
+def measured(port, busy_port, asked):
+    """What the quiet user sees, and how many requests the busy one has answered a second, if it asks."""
+    busy = load(busy_port, "busy", "-F", "-w", "0.5", "-d", str(asked.seconds + 1)) if busy_port else None
     if busy:
         time.sleep(0.5)
     seen = told(load(port, "quiet", "-F", "-w", "0.3", "-d", str(asked.seconds)))
@@ -76,18 +80,23 @@ def main():
         subprocess.run(["cc", "-O2", "-pthread", "-o", load.program, str(BENCH / "load.c"), "-lm"], check=True)
         print("| Server | The busy user | " + " | ".join(MEASURES) + " | its requests/s |\n|---" + "|---" * 7 + "|")
         for name, command in commands.items():
-            process, port = start(command, folder)
+            servers = [start(command, folder) for _ in range(2)]
+            (_, port), (_, apart) = servers
+            busy = {"waits": None, "asks on": port, "asks another server": apart}
+            runs = {what: [] for what in busy}
             try:
-                for user in USERS:
-                    told(load(port, user, "-n", "1", "-w", "0"))
-                for is_beside in (False, True):
-                    runs = [measured(port, is_beside, asked) for _ in range(asked.rounds)]
-                    cells = [statistics.median(run[it] for run in runs) for it in (*MEASURES.values(), "busy")]
-                    print(f"| {name} | {'asks on' if is_beside else 'waits'} | "
-                          + " | ".join(f"{cell:,.0f}" for cell in cells) + " |", flush=True)
+                for at, user in ((port, "quiet"), (port, "busy"), (apart, "busy")):
+                    told(load(at, user, "-n", "1", "-w", "0"))
+                for _ in range(asked.rounds):
+                    for what, busy_port in busy.items():
+                        runs[what].append(measured(port, busy_port, asked))
+                for what, seen in runs.items():
+                    cells = [statistics.median(run[it] for run in seen) for it in (*MEASURES.values(), "busy")]
+                    print(f"| {name} | {what} | " + " | ".join(f"{cell:,.0f}" for cell in cells) + " |", flush=True)
             finally:
-                process.kill()
-                process.wait()
+                for process, _ in servers:
+                    process.kill()
+                    process.wait()
 
 
 if __name__ == "__main__":

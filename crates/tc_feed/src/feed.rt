@@ -15,6 +15,7 @@ ghost use Rattle.tc_feed.specs.Stream.{found, after_first, reader_behind};
 
 use crate::line_end::{LONGEST_LINE, trim_line};
 use crate::passing::{Passed, first_passed};
+use crate::peeking::{Peeked, peek};
 use crate::reading::{find_end, read_block};
 use crate::request::{Framed, Request};
 use std::alloc::Global;
@@ -252,6 +253,11 @@ impl Feed {
         ensures bounded { IsTrue result → list_length self.now.unread ≤ limit + (longest_line + 2) }
     {
         self.limit == limit && self.unread_len() < self.needed
+    }
+
+    /// What the request that begins so many bytes behind the first unread one seems to ask for. It is a guess.
+    pub fn peek(&self, at: usize) -> Option<Peeked<'_>> {
+        peek(self.bytes.get(self.start.saturating_add(at)..)?)
     }
 
     /// Goes past the bytes of a request, and past more of those that came or are to come.

@@ -11,6 +11,7 @@ mod feed;
 mod laws;
 mod line_end;
 mod passing;
+mod peeking;
 mod reading;
 mod request;
 
@@ -18,4 +19,5 @@ pub use feed::Feed;
 pub use laws::cutting;
 pub use line_end::LONGEST_LINE;
 pub use passing::Passed;
+pub use peeking::Peeked;
 pub use request::Request;

@@ -298,6 +298,11 @@ impl<C: Cache> Book<C> {
         }
     }
 
+    /// Reads what look-ups of keys of these hashes are going to read (`Cache::read_ahead`).
+    pub fn read_ahead(&self, hashes: &[u64]) {
+        self.cache.read_ahead(hashes);
+    }
+
     /// How many entries a seat made, over all pages.
     pub fn count(&self, seat_no: usize) -> u64
         requires { seat_no < length self.now.counts }

@@ -209,6 +209,24 @@ impl<C: Cache, N: Naming> Hall<C, N> {
         lock_soon(&self.books[(number - 1) as usize], rt).maintain(now, limit)
     }
 
+    /// Reads what look-ups of keys of these hashes in a user's cache are going to read, under the user's lock,
+    /// which is kept for the calls to come; nothing for an unknown user. Nothing changes.
+    pub fn read_ahead<'a, R: Wait>(
+        &'a self,
+        rt: &R,
+        lease: &mut Lease<'a, C, N>,
+        user: UserNo,
+        hashes: &[u64],
+    ) {
+        let number = user.number();
+        if number == 0 || number > self.users() {
+            return;
+        }
+        let guard = lease.lock(rt, number, &self.books[(number - 1) as usize]);
+        guard.read_ahead(hashes);
+        lease.hold(number, guard);
+    }
+
     /// How many bytes the entries of a user's page keep, their data among them, whether the cache has it
     /// too or not; none for an unknown user. It is a figure for who runs the server, and no promise.
     pub fn journal_bytes<R: Wait>(&self, rt: &R, user: UserNo) -> u64 {

@@ -100,6 +100,11 @@ impl<C: Cache, N: Naming> Kept<C, N> {
         self.book.maintain(now, limit)
     }
 
+    /// Reads what look-ups of keys of these hashes are going to read.
+    pub(crate) fn read_ahead(&self, hashes: &[u64]) {
+        self.book.read_ahead(hashes);
+    }
+
     /// How many bytes the entries of its page keep.
     pub(crate) fn journal_bytes(&self) -> u64 {
         self.book.journal_bytes()

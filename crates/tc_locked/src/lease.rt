@@ -69,6 +69,12 @@ impl<'a, C: Cache, N: Naming> Lease<'a, C, N> {
         }
     }
 
+    /// Keeps the lock of this user, under which nothing was done.
+    pub(crate) fn hold(&mut self, user: u32, guard: MutexGuard<'a, Kept<C, N>>) {
+        self.user = user;
+        self.guard = Some(guard);
+    }
+
     /// Keeps the lock of this user after a command that left this over, or gives it back where enough
     /// was done under it.
     pub(crate) fn keep(

@@ -50,11 +50,11 @@ impl Counts {
         }
     }
 
-    /// Its worker read or wrote so many bytes for the users of a home.
-    pub(crate) fn note(&self, home: usize, bytes: usize) {
+    /// Its worker read and wrote so much for the users of a home.
+    pub(crate) fn note(&self, home: usize, done: Traffic) {
         if let Some(tally) = self.tallies.get(home) {
-            tally.calls.fetch_add(1, SeqCst);
-            tally.bytes.fetch_add(bytes as u64, SeqCst);
+            tally.calls.fetch_add(done.calls, SeqCst);
+            tally.bytes.fetch_add(done.bytes, SeqCst);
         }
     }
 

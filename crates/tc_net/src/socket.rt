@@ -10,7 +10,10 @@ use std::alloc::Global;
 use std::io::{self, ErrorKind, IoSlice, Read, Write};
 use std::sync::{Arc, Wait};
 use tc_users::UserNo;
-use tc_workers::{Change, Got, Parts, Put, Remark, Wire};
+use tc_workers::{Change, Got, Parts, Put, Remark, Traffic, Wire};
+
+/// After so many reads on end what a socket's worker did is noted.
+const MOST_UNNOTED: u64 = 16;
 
 /// A socket's place in the readiness of its worker's sockets, until it is dropped.
 struct Watch {
@@ -41,6 +44,8 @@ pub(crate) struct Socket {
     place: usize,
     /// The user that logged in.
     user: Option<UserNo>,
+    /// What its worker did that is not noted yet.
+    done: Traffic,
 }
 
 impl Drop for Socket {
@@ -51,6 +56,7 @@ impl Drop for Socket {
             connections,
             place,
             user: _,
+            done: _,
         } = self;
         drop(stream);
         drop(watch);
@@ -71,6 +77,7 @@ impl Socket {
             connections,
             place,
             user: None,
+            done: Traffic::default(),
         }
     }
 
@@ -103,12 +110,33 @@ impl Socket {
     }
 
     /// Its worker read or wrote so many bytes.
-    fn count(&self, bytes: usize) {
+    fn count(&mut self, bytes: usize) {
+        self.done.calls = self.done.calls.saturating_add(1);
+        self.done.bytes = self.done.bytes.saturating_add(bytes as u64);
+    }
+
+    /// Notes what its worker did.
+    fn note_done(&mut self) {
         if let Some(watch) = &self.watch
             && let Some(home) = watch.home
         {
-            watch.readiness.counts.note(home, bytes);
+            watch.readiness.counts.note(home, self.done);
         }
+        self.done = Traffic::default();
+    }
+
+    /// Its worker read so many bytes. Mostly it writes soon, and then both are noted at once.
+    fn count_read(&mut self, bytes: usize) {
+        self.count(bytes);
+        if self.done.calls >= MOST_UNNOTED {
+            self.note_done();
+        }
+    }
+
+    /// Its worker wrote so many bytes.
+    fn count_write(&mut self, bytes: usize) {
+        self.count(bytes);
+        self.note_done();
     }
 
     /// Gives its place up, and leaves the worker's poll.
@@ -177,7 +205,7 @@ impl Wire for Socket {
             Ok(0) => Got::Ended,
             Ok(n) => {
                 self.connections.note_heard(self.place);
-                self.count(n);
+                self.count_read(n);
                 self.note_read(n, into.len());
                 Got::Bytes(n)
             }
@@ -200,7 +228,7 @@ impl Wire for Socket {
         match self.send(from) {
             Ok(n) => {
                 self.connections.note_taken(self.place, true);
-                self.count(n);
+                self.count_write(n);
                 Put::Wrote(n)
             }
             Err(e) if e.kind() == ErrorKind::WouldBlock => {

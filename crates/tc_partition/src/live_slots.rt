@@ -123,6 +123,30 @@ impl LiveSlots {
         }
     }
 
+    /// Reads where a key of this hash may be. What that comes to says nothing; so in the two below.
+    pub(crate) fn read_hint(&self, hash: u64) -> u64 {
+        match self.hints.slot(hash) {
+            Some(slot) => slot.0 as u64,
+            None => 0,
+        }
+    }
+
+    /// Reads the entry of a key of this hash, where its hint is right.
+    pub(crate) fn read_entry(&self, hash: u64) -> u64 {
+        match self.hints.slot(hash) {
+            Some(slot) => self.held.read_entry(slot),
+            None => 0,
+        }
+    }
+
+    /// Reads the item of a key of this hash, where its hint is right.
+    pub(crate) fn read_hinted(&self, hash: u64) -> u64 {
+        match self.hints.slot(hash) {
+            Some(slot) => self.held.read(slot),
+            None => 0,
+        }
+    }
+
     /// Where what a key will hold at the moment is, which may be this place: where it is there, the index
     /// is not asked.
     pub(crate) fn seek_from(&self, place: Option<Slot>, key: &Key, moment: Moment) -> Option<Slot>

@@ -259,6 +259,14 @@ impl Slots {
         self.entries.get(slot.0)
     }
 
+    /// Reads the entry of a slot alone. What that comes to says nothing.
+    pub fn read_entry(&self, slot: Slot) -> u64 {
+        match self.entries.get(slot.0) {
+            Some(entry) => u64::from(entry.item.flags),
+            None => 0,
+        }
+    }
+
     /// Reads what a look-up of what a slot holds waits for: the entry, both ends of its data, and its
     /// node in the lists. What that comes to says nothing.
     pub fn read(&self, slot: Slot) -> u64 {

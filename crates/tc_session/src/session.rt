@@ -26,7 +26,7 @@ use crate::parts::Parts;
 use crate::replies::Replies;
 use std::alloc::Global;
 use std::marker::Model;
-use tc_feed::{Feed, Request};
+use tc_feed::{Feed, Peeked, Request};
 use tc_grammar::{Command, Fault};
 use tc_item::{LARGEST_ITEM, NoMemory};
 use tc_stats::{Hits, Outcome};
@@ -350,6 +350,12 @@ impl Session {
         ensures out { self.new.out ≡ drop n self.old.out }
     {
         self.out.sent(n);
+    }
+
+    /// What the request that begins so many bytes behind the first unread one seems to ask for. It is a guess,
+    /// for who reads memory ahead of its use.
+    pub fn peek(&self, at: usize) -> Option<Peeked<'_>> {
+        self.feed.peek(at)
     }
 
     /// How many bytes came and are unread.

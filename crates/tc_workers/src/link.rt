@@ -10,6 +10,7 @@ mod requests;
 
 use crate::accounts::Holding;
 use crate::admitted::Admitted;
+use crate::ahead::Ahead;
 use crate::guesses::Guesses;
 use crate::homes::Homes;
 use crate::pace::{Onward, Pace};
@@ -221,6 +222,18 @@ impl<W: Wire + Drop> Link<W> {
     /// What was done in the last part of a turn.
     pub(crate) fn work(&self) -> u64 {
         self.work.units()
+    }
+
+    /// The user that it logged in as.
+    pub(crate) fn bound(&self) -> Option<UserNo> {
+        self.session.user()
+    }
+
+    /// Adds the keys that its next requests seem to ask for, where it is this user's.
+    pub(crate) fn look_ahead(&self, user: UserNo, ahead: &mut Ahead) {
+        if self.bound() == Some(user) {
+            ahead.look(&self.session);
+        }
     }
 
     /// How many of its bytes are unread.

@@ -7,6 +7,7 @@ ghost use Rattle.tc_workers.specs.Turns.{most_kept};
 
 use crate::accounts::Holding;
 use crate::admitted::Admitted;
+use crate::ahead::Ahead;
 use crate::desk::Desk;
 use crate::gate::Gate;
 use crate::homes::Homes;
@@ -21,7 +22,7 @@ use std::sync::Wait;
 use tc_item::Moment;
 use tc_locked::{Lease, Naming};
 use tc_plain::Cache;
-use tc_users::Users;
+use tc_users::{UserNo, Users};
 
 /// A connection. Contracts see its link, the users' tables by which it was served, and how often it was
 /// done; both lists stand in proofs alone. While it goes on and is served by one table, all that its
@@ -159,6 +160,16 @@ impl<W: Wire + Drop> Talk<W> {
         ensures { self.new ≡ self.old }
     {
         self.link.set_key(key);
+    }
+
+    /// The user that it logged in as.
+    pub(crate) fn bound(&self) -> Option<UserNo> {
+        self.link.bound()
+    }
+
+    /// Adds the keys that its next requests seem to ask for, where it is this user's.
+    pub(crate) fn look_ahead(&self, user: UserNo, ahead: &mut Ahead) {
+        self.link.look_ahead(user, ahead);
     }
 
     /// How many of its bytes are unread.

@@ -10,6 +10,7 @@ use tc_item::NoMemory;
 use tc_kinds::{Journal, Kind};
 use tc_partition::Fast;
 use tc_plain::Cache;
+use tc_sketch::hash;
 
 /// What is done to a cache that holds the key k, and not the key z.
 #[derive(Clone, Copy)]
@@ -18,12 +19,14 @@ enum Deed {
     Does(&'static str, u32),
     /// A maintenance with this limit.
     Maintains(u32),
+    /// Both keys are read ahead.
+    ReadsAhead,
 }
 
 /// A deed, and how many look-ups wait behind it.
 type Turn = (Deed, usize);
 
-static TURNS: [Turn; 28] = [
+static TURNS: [Turn; 30] = [
     (Deed::Does("set k 0 0 1", 1), 0),
     (Deed::Does("get k", 128), 128),
     (Deed::Maintains(100), 28),
@@ -36,7 +39,9 @@ static TURNS: [Turn; 28] = [
     (Deed::Does("get k z k", 42), 127),
     (Deed::Does("gets k z k", 1), 2),
     (Deed::Does("set k 0 0 1", 1), 0),
+    (Deed::ReadsAhead, 0),
     (Deed::Does("gets k", 3), 3),
+    (Deed::ReadsAhead, 3),
     (Deed::Does("add k 0 0 1", 1), 0),
     (Deed::Does("get k", 3), 3),
     (Deed::Does("incr k 1", 1), 0),
@@ -102,6 +107,7 @@ fn perform<C: Cache>(
         Deed::Maintains(limit) => {
             cache.maintain(at(1_000), limit);
         }
+        Deed::ReadsAhead => cache.read_ahead(&[hash(b"k"), hash(b"z")]),
     }
     Ok(())
 }

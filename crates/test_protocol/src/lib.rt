@@ -10,6 +10,8 @@ mod fixtures;
 #[cfg(test)]
 mod grammar;
 #[cfg(test)]
+mod peeking;
+#[cfg(test)]
 mod session;
 #[cfg(test)]
 mod stats;

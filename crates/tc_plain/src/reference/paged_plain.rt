@@ -91,6 +91,10 @@ impl Cache for PagedPlain {
         Progress::Done
     }
 
+    fn read_ahead(&self, _hashes: &[u64]) {
+        let _ = &self.cache;
+    }
+
     fn freeze(&self, alloc: Global) -> Result<Plain, NoMemory> {
         self.cache.copy(alloc)
     }

@@ -45,6 +45,10 @@ pub trait Cache: Drop {
         ensures opening { opened self.new ≡ opened self.old }
         ensures next { next self.new ≡ next self.old };
 
+    /// Reads what look-ups of keys of these hashes (`tc_sketch::hash`) are going to read, so that they wait
+    /// for memory together. It gives nothing, and changes nothing.
+    fn read_ahead(&self, hashes: &[u64]);
+
     /// A copy of what the cache stands for.
     fn freeze(&self, alloc: Global) -> Result<Plain, NoMemory>
         ensures settled { IfOk result (λ plain. plain ≡ settled self.now) };

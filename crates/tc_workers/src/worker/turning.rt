@@ -18,7 +18,7 @@ use std::sync::Wait;
 use tc_item::Moment;
 use tc_locked::{Clock, Hall, Lease, Naming};
 use tc_plain::Cache;
-use tc_users::Users;
+use tc_users::{UserNo, Users};
 
 impl<W: Wire + Drop, N: Naming> Worker<W, N> {
     /// Goes over the listed connections, in the order in which they came to the server: each reads, once
@@ -56,6 +56,7 @@ impl<W: Wire + Drop, N: Naming> Worker<W, N> {
     fn begin_turn(&mut self, users: usize)
         ensures { self.new ≡ self.old }
     {
+        self.ahead.begin(0);
         let sole = self.sole_user();
         self.accounts.begin(users, sole);
     }
@@ -126,8 +127,78 @@ impl<W: Wire + Drop, N: Naming> Worker<W, N> {
         lease.release(service.alloc);
     }
 
-    /// The second part of the turn of the connection at a place of the list, unless its user is to wait.
+    /// The second part of the turn of the connection at a place of the list, before which memory is read ahead
+    /// for it and for some behind it.
     fn visit<'a, R: Wait, C: Cache, G: Gate>(
+        &mut self,
+        service: &Service<'a, R, C, N, G>,
+        lease: &mut Lease<'a, C, N>,
+        at: usize,
+    )
+        ensures listed { self.new.due ≡ self.old.due }
+        ensures serves { Serves 16 service.now.users.now self.old self.new }
+    {
+        self.read_ahead(service, lease, at);
+        self.do_admitted(service, lease, at);
+    }
+
+    /// Reads ahead what holds the keys that the next requests seem to ask for, of the connections of one user
+    /// from a place of the list on, where that was not done for this one.
+    fn read_ahead<'a, R: Wait, C: Cache, G: Gate>(
+        &mut self,
+        service: &Service<'a, R, C, N, G>,
+        lease: &mut Lease<'a, C, N>,
+        at: usize,
+    )
+        ensures { self.new ≡ self.old }
+    {
+        if self.ahead.is_seen(at) {
+            return;
+        }
+        let Some(user) = self.bound_at(at) else {
+            return;
+        };
+        self.look_ahead(user, at);
+        let hashes = self.ahead.hashes();
+        if hashes.len() > 1 {
+            service.hall.read_ahead(service.rt, lease, user, hashes);
+        }
+    }
+
+    /// The user that the connection at a place of the list logged in as.
+    fn bound_at(&self, at: usize) -> Option<UserNo> {
+        let listed = self.listed.get(at)?;
+        self.links.get(listed.key)?.bound()
+    }
+
+    /// Sees which keys the connections of a user from a place of the list on seem to ask for, as many as there
+    /// is room for.
+    fn look_ahead(&mut self, user: UserNo, from: usize)
+        ensures { self.new ≡ self.old }
+    {
+        self.ahead.begin(from);
+        for at in from..self.listed.len() {
+            self.look_at(user, at);
+        }
+    }
+
+    /// Sees which keys the connection at a place of the list seems to ask for, where there is room.
+    fn look_at(&mut self, user: UserNo, at: usize)
+        ensures { self.new ≡ self.old }
+    {
+        if !self.ahead.goes_on(at) {
+            return;
+        }
+        if let Some(listed) = self.listed.get(at)
+            && listed.is_admitted()
+            && let Some(link) = self.links.get(listed.key)
+        {
+            link.look_ahead(user, &mut self.ahead);
+        }
+    }
+
+    /// The requests of the connection at a place of the list, unless its user is to wait.
+    fn do_admitted<'a, R: Wait, C: Cache, G: Gate>(
         &mut self,
         service: &Service<'a, R, C, N, G>,
         lease: &mut Lease<'a, C, N>,

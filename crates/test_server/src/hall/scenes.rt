@@ -9,7 +9,7 @@ use std::sync::Wait;
 use std::test::*;
 use tc_grammar::Command;
 use tc_item::Moment;
-use tc_locked::{CallFault, Clock, Hall, Missing, Naming, Receipt, Seat};
+use tc_locked::{CallFault, Clock, Hall, Lease, Missing, Naming, Receipt, Seat};
 use tc_plain::Cache;
 use tc_users::UserNo;
 
@@ -36,6 +36,7 @@ pub fn read_back<C: Cache, N: Naming, R: Wait + Abort>(
 ) -> Result<(), Fail> {
     assert!(rt; hall.users() == 2);
     store_for_one(rt, alloc, hall, seat)?;
+    read_ahead(rt, alloc, hall);
     let get = get(alloc)?;
     let (one, other) = find_both(rt, alloc, hall, seat, &get)?;
     assert!(rt; one && !other);
@@ -51,6 +52,15 @@ fn journals<C: Cache, N: Naming, R: Wait>(rt: &R, hall: &Hall<C, N>) -> [u64; 3]
         hall.journal_bytes(rt, UserNo::new(2)),
         hall.journal_bytes(rt, UserNo::new(3)),
     ]
+}
+
+/// Reads ahead for a user, and for nobody, of keys that may be held and are not.
+fn read_ahead<C: Cache, N: Naming, R: Wait>(rt: &R, alloc: Global, hall: &Hall<C, N>) {
+    for user in [1, 3] {
+        let mut lease = Lease::none(alloc);
+        hall.read_ahead(rt, &mut lease, UserNo::new(user), &[0, u64::MAX]);
+        lease.release(alloc);
+    }
 }
 
 fn store_for_one<C: Cache, N: Naming, R: Wait + Abort>(

@@ -1,0 +1,78 @@
+//! The keys that the next requests of a user's connections seem to ask for. What holds them is read ahead, for
+//! all of these connections at once, so that their requests do not wait for memory one after the other.
+//! Nothing rests on a guess, and no clause speaks of it.
+use std::alloc::{AllocError, Global};
+use tc_session::Session;
+use tc_sketch::hash;
+
+/// The most keys that are read ahead at once.
+const KEYS: usize = 128;
+
+/// The most requests of a connection that are looked at: as many as a turn does.
+const REQUESTS: u32 = 16;
+
+/// The hashes of keys, at most 128, and for which connections of a turn's list they were seen.
+#[derive(Drop)]
+pub(crate) struct Ahead {
+    hashes: Vec<u64>,
+    /// The place behind the last of them.
+    next: usize,
+}
+
+impl Ahead {
+    /// No key, and room for all.
+    pub(crate) fn new(alloc: Global) -> Result<Ahead, AllocError> {
+        Ok(Ahead {
+            hashes: Vec::with_capacity(alloc, KEYS)?,
+            next: 0,
+        })
+    }
+
+    /// Whether the connection at a place was seen in this turn.
+    pub(crate) fn is_seen(&self, at: usize) -> bool {
+        at < self.next
+    }
+
+    /// No key again, and the connection at a place is the first.
+    pub(crate) fn begin(&mut self, at: usize) {
+        self.hashes.clear();
+        self.next = at;
+    }
+
+    /// Whether there is room for keys of the connection at a place, the next one, which is seen then.
+    pub(crate) fn goes_on(&mut self, at: usize) -> bool {
+        if self.is_full() {
+            return false;
+        }
+        self.next = at.saturating_add(1);
+        true
+    }
+
+    /// Whether there is no room for a further key.
+    fn is_full(&self) -> bool {
+        self.hashes.len() >= KEYS
+    }
+
+    /// The hashes of the keys.
+    pub(crate) fn hashes(&self) -> &[u64] {
+        self.hashes.as_slice()
+    }
+
+    /// Adds the keys of a session's next requests, as far as there is room.
+    pub(crate) fn look(&mut self, session: &Session) {
+        let mut at = 0;
+        for _ in 0..REQUESTS {
+            if self.is_full() {
+                return;
+            }
+            let Some(peeked) = session.peek(at) else {
+                return;
+            };
+            let _ = self.hashes.push(hash(peeked.key));
+            let Some(end) = peeked.end else {
+                return;
+            };
+            at = at.saturating_add(end);
+        }
+    }
+}
