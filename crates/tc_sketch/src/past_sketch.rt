@@ -1,7 +1,7 @@
 //! The sketch that remembers what it was at the last mark.
 //!
 //! Each call changes what is live by the equation that `Sketch` has for it, and leaves the past.
-ghost use Rattle.std.specs.Prelude.{◌≡◌, ◌+◌, ◌*◌, ◌^◌, ◌<◌, ◌≤◌, IfOk};
+ghost use Rattle.std.specs.Prelude.{◌≡◌, ◌+◌, ◌*◌, ◌^◌, ◌<◌, ◌≤◌, replicate, IfOk};
 ghost use Rattle.tc_past.specs.Told.{all_told, live_with, prepared, turned};
 ghost use Rattle.tc_sketch.specs.Sketch.{empty_sketch, recorded, freq};
 ghost use Rattle.tc_sketch.specs.CountingLaw.{CountsRecords};
@@ -46,12 +46,14 @@ impl PastSketch {
         requires at_most { width ≤ 22 }
         ensures { IfOk result (λ s. s ≡ all_told (empty_sketch width)) }
     {
+        let (row0, row1) = two_rows(alloc, width, journal)?;
+        let (row2, row3) = two_rows(alloc, width, journal)?;
         Ok(PastSketch {
             width,
-            row0: PastRow::new(alloc, width, journal)?,
-            row1: PastRow::new(alloc, width, journal)?,
-            row2: PastRow::new(alloc, width, journal)?,
-            row3: PastRow::new(alloc, width, journal)?,
+            row0,
+            row1,
+            row2,
+            row3,
             count: PastValue::new(0),
         })
     }
@@ -147,4 +149,16 @@ impl PastSketch {
         let row3 = self.row3.opened(alloc)?;
         Ok(Sketch::of(self.width, row0, row1, row2, row3, self.count.opened()))
     }
+}
+
+/// Two rows of counters of 0, now and in the past.
+fn two_rows(alloc: Global, width: u32, journal: Journal) -> Result<(PastRow, PastRow), NoMemory>
+    requires at_least { 8 ≤ width }
+    requires at_most { width ≤ 22 }
+    ensures first { IfOk result (λ rows. rows.0 ≡ all_told (replicate (2 ^ width) 0)) }
+    ensures second { IfOk result (λ rows. rows.1 ≡ all_told (replicate (2 ^ width) 0)) }
+{
+    let first = PastRow::new(alloc, width, journal)?;
+    let second = PastRow::new(alloc, width, journal)?;
+    Ok((first, second))
 }
