@@ -75,10 +75,16 @@ fn wanted(alloc: Global, session: &mut Session, users: &Users) -> Result<Wanted,
 fn opened(alloc: Global, users: &Users, bound: bool) -> Result<Session, NoMemory> {
     let mut session = Session::new(alloc);
     if bound {
-        push(&mut session, b"set auth 0 0 9 noreply\r\nalice one\r\n")?;
-        wanted(alloc, &mut session, users)?;
+        bind(alloc, &mut session, users)?;
     }
     Ok(session)
+}
+
+/// Logs alice in.
+fn bind(alloc: Global, session: &mut Session, users: &Users) -> Result<(), NoMemory> {
+    push(session, b"set auth 0 0 9 noreply\r\nalice one\r\n")?;
+    wanted(alloc, session, users)?;
+    Ok(())
 }
 
 /// Whether a request wants this here.
@@ -165,9 +171,19 @@ fn expect_news(
     said: &str,
     news: Option<News>,
 ) -> Result<(), NoMemory> {
-    let mut session = Session::new(rt.alloc());
-    push(&mut session, said.as_bytes())?;
-    wanted(rt.alloc(), &mut session, users)?;
+    hear_news(rt, &mut Session::new(rt.alloc()), users, said, news)
+}
+
+/// The same on this connection.
+fn hear_news(
+    rt: &(impl AllocGlobal + Abort),
+    session: &mut Session,
+    users: &Users,
+    said: &str,
+    news: Option<News>,
+) -> Result<(), NoMemory> {
+    push(session, said.as_bytes())?;
+    wanted(rt.alloc(), session, users)?;
     assert_eq!(rt; session.take_news(), news, "{said}");
     assert_eq!(rt; session.take_news(), None, "{said}");
     Ok(())
@@ -181,24 +197,29 @@ fn refused_login(user: Option<u32>) -> Option<News> {
     }
 }
 
-#[test]
-fn a_refused_login_is_told_by_its_user(rt: HostRuntime) -> Result<(), Fail> {
-    let users = users(rt.alloc())?;
+/// Whether what is said on new connections is told so.
+fn expect_told(rt: &(impl AllocGlobal + Abort), users: &Users) -> Result<(), NoMemory> {
     expect_news(
-        &rt,
-        &users,
+        rt,
+        users,
         "set a 0 0 9\r\nalice two\r\n",
         refused_login(Some(1)),
     )?;
     expect_news(
-        &rt,
-        &users,
+        rt,
+        users,
         "set a 0 0 9\r\none alice\r\n",
         refused_login(None),
     )?;
-    expect_news(&rt, &users, "set a 0 0 5\r\nalice\r\n", refused_login(None))?;
-    expect_news(&rt, &users, "set a 0 0 9\r\nalice one\r\n", None)?;
-    expect_news(&rt, &users, "set a 0 0 257\r\n", Some(News::LongBlock))?;
+    expect_news(rt, users, "set a 0 0 5\r\nalice\r\n", refused_login(None))?;
+    expect_news(rt, users, "set a 0 0 9\r\nalice one\r\n", None)?;
+    expect_news(rt, users, "set a 0 0 257\r\n", Some(News::LongBlock))
+}
+
+#[test]
+fn a_refused_login_is_told_by_its_user(rt: HostRuntime) -> Result<(), Fail> {
+    let users = users(rt.alloc())?;
+    expect_told(&rt, &users)?;
     Ok(())
 }
 
@@ -255,10 +276,32 @@ fn expect_talk(
     steps: &[Step],
 ) -> Result<(), Fail> {
     let users = users(rt.alloc())?;
-    let mut session = opened(rt.alloc(), &users, bound)?;
-    fill(&mut session, filled)?;
-    expect_steps(rt, &mut session, &users, steps)?;
+    talk(rt, &users, bound, filled, steps)?;
     Ok(())
+}
+
+/// The same, of these users.
+fn talk(
+    rt: &(impl AllocGlobal + Abort),
+    users: &Users,
+    bound: bool,
+    filled: usize,
+    steps: &[Step],
+) -> Result<(), NoMemory> {
+    let mut session = opened(rt.alloc(), users, bound)?;
+    expect_filled(rt, &mut session, users, filled, steps)
+}
+
+/// Takes so many bytes `x`, and steps behind them.
+fn expect_filled(
+    rt: &(impl AllocGlobal + Abort),
+    session: &mut Session,
+    users: &Users,
+    filled: usize,
+    steps: &[Step],
+) -> Result<(), NoMemory> {
+    fill(session, filled)?;
+    expect_steps(rt, session, users, steps)
 }
 
 /// Takes so many bytes `x`, one by one.
@@ -472,10 +515,20 @@ fn expect_cut(
     first: &[u8],
     second: &[u8],
 ) -> Result<(), NoMemory> {
-    let mut session = Session::new(rt.alloc());
-    let number = converse(rt, &mut session, users, first, 0)?;
-    converse(rt, &mut session, users, second, number)?;
-    expect_said(rt, &session);
+    say_cut(rt, &mut Session::new(rt.alloc()), users, first, second)
+}
+
+/// The same on this connection.
+fn say_cut(
+    rt: &(impl AllocGlobal + Abort),
+    session: &mut Session,
+    users: &Users,
+    first: &[u8],
+    second: &[u8],
+) -> Result<(), NoMemory> {
+    let number = converse(rt, session, users, first, 0)?;
+    converse(rt, session, users, second, number)?;
+    expect_said(rt, session);
     Ok(())
 }
 

@@ -29,28 +29,40 @@ fn answer_next_later(
     Ok(())
 }
 
+/// The same of a look-up that finds so many bytes under this key.
+fn find_later(
+    alloc: Global,
+    session: &mut Session,
+    users: &Users,
+    name: &str,
+    size: usize,
+) -> Result<(), Fail> {
+    let outcome = found(alloc, &[name], size)?;
+    answer_next_later(alloc, session, users, outcome)?;
+    Ok(())
+}
+
 #[test]
 fn replies_that_are_written_later_keep_their_order(rt: HostRuntime) -> Result<(), Fail> {
     let users = users(rt.alloc())?;
     let mut session = opened(rt.alloc(), &users, true)?;
-    push(&mut session, b"get k\r\ngets l\r\nno\r\n")?;
-    answer_next_later(
-        rt.alloc(),
-        &mut session,
-        &users,
-        found(rt.alloc(), &["k"], 1)?,
-    )?;
-    answer_next_later(
-        rt.alloc(),
-        &mut session,
-        &users,
-        found(rt.alloc(), &["l"], 2)?,
-    )?;
+    expect_order(&rt, &mut session, &users)
+}
+
+/// Two replies are written later, and a third behind them.
+fn expect_order(
+    rt: &(impl AllocGlobal + Abort),
+    session: &mut Session,
+    users: &Users,
+) -> Result<(), Fail> {
+    push(session, b"get k\r\ngets l\r\nno\r\n")?;
+    find_later(rt.alloc(), session, users, "k", 1)?;
+    find_later(rt.alloc(), session, users, "l", 2)?;
     assert!(rt; session.has_out() && session.parts().is_empty());
-    let said = wanted(rt.alloc(), &mut session, &users)?;
-    expect_wanted(&rt, said, Wanted::Said, "no");
+    let said = wanted(rt.alloc(), session, users)?;
+    expect_wanted(rt, said, Wanted::Said, "no");
     let out = b"VALUE k 7 1\r\nd\r\nEND\r\nVALUE l 7 2 1\r\ndd\r\nEND\r\nERROR\r\n";
-    expect_out(&rt, &session, out, "written");
+    expect_out(rt, session, out, "written");
     Ok(())
 }
 
@@ -58,14 +70,18 @@ fn replies_that_are_written_later_keep_their_order(rt: HostRuntime) -> Result<()
 fn a_reply_that_is_written_later_waits_to_be_sent(rt: HostRuntime) -> Result<(), Fail> {
     let users = users(rt.alloc())?;
     let mut session = opened(rt.alloc(), &users, true)?;
-    push(&mut session, b"get k\r\n")?;
-    answer_next_later(
-        rt.alloc(),
-        &mut session,
-        &users,
-        found(rt.alloc(), &["k"], 1)?,
-    )?;
+    expect_settled(&rt, &mut session, &users)
+}
+
+/// A reply that is written later waits once it is settled.
+fn expect_settled(
+    rt: &(impl AllocGlobal + Abort),
+    session: &mut Session,
+    users: &Users,
+) -> Result<(), Fail> {
+    push(session, b"get k\r\n")?;
+    find_later(rt.alloc(), session, users, "k", 1)?;
     session.settle();
-    expect_out(&rt, &session, b"VALUE k 7 1\r\nd\r\nEND\r\n", "settled");
+    expect_out(rt, session, b"VALUE k 7 1\r\nd\r\nEND\r\n", "settled");
     Ok(())
 }

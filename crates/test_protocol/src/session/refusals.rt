@@ -80,27 +80,60 @@ fn expect_declined(
     users: &Users,
     reply: &Reply,
 ) -> Result<(), NoMemory> {
-    let (said, out) = *reply;
     let mut session = opened(rt.alloc(), users, true)?;
-    push(&mut session, said.as_bytes())?;
-    push(&mut session, b"get k\r\n")?;
-    assert!(rt; decline(rt.alloc(), &mut session)?.is_none(), "{said}");
-    expect_out(rt, &session, out.as_bytes(), said);
+    expect_passed_over(rt, &mut session, reply)?;
+    expect_behind(rt, &mut session, users, reply.0)
+}
+
+/// Whether the next request was declined, so that nothing is wanted.
+fn is_declined(alloc: Global, session: &mut Session) -> Result<bool, NoMemory> {
+    Ok(decline(alloc, session)?.is_none())
+}
+
+/// The first of two commands is declined.
+fn expect_passed_over(
+    rt: &(impl AllocGlobal + Abort),
+    session: &mut Session,
+    reply: &Reply,
+) -> Result<(), NoMemory> {
+    let (said, out) = *reply;
+    push(session, said.as_bytes())?;
+    push(session, b"get k\r\n")?;
+    assert!(rt; is_declined(rt.alloc(), session)?, "{said}");
+    expect_out(rt, session, out.as_bytes(), said);
     assert_eq!(rt; session.take_news(), Some(News::NoMemory), "{said}");
-    let behind = wanted(rt.alloc(), &mut session, users)?;
+    Ok(())
+}
+
+/// The second is still there.
+fn expect_behind(
+    rt: &(impl AllocGlobal + Abort),
+    session: &mut Session,
+    users: &Users,
+    said: &str,
+) -> Result<(), NoMemory> {
+    let behind = wanted(rt.alloc(), session, users)?;
     expect_wanted(rt, behind, Wanted::Alices, said);
+    Ok(())
+}
+
+/// The same, each on a connection of alice's own.
+fn expect_each_declined(
+    rt: &(impl AllocGlobal + Abort),
+    users: &Users,
+    replies: &[Reply],
+) -> Result<(), NoMemory> {
+    for reply in replies {
+        expect_declined(rt, users, reply)?;
+    }
     Ok(())
 }
 
 #[test]
 fn a_declined_command_is_passed_over_and_its_refusal_said(rt: HostRuntime) -> Result<(), Fail> {
     let users = users(rt.alloc())?;
-    for reply in &REFUSALS {
-        expect_declined(&rt, &users, reply)?;
-    }
-    for reply in &DECLINED {
-        expect_declined(&rt, &users, reply)?;
-    }
+    expect_each_declined(&rt, &users, &REFUSALS)?;
+    expect_each_declined(&rt, &users, &DECLINED)?;
     Ok(())
 }
 
@@ -108,9 +141,15 @@ fn a_declined_command_is_passed_over_and_its_refusal_said(rt: HostRuntime) -> Re
 fn a_request_that_is_not_whole_is_not_declined(rt: HostRuntime) -> Result<(), Fail> {
     let users = users(rt.alloc())?;
     let mut session = opened(rt.alloc(), &users, true)?;
-    push(&mut session, b"set k 0 0 5\r\nab")?;
-    assert!(&rt; decline(rt.alloc(), &mut session).is_err());
-    expect_number(&rt, session.unread_len() as u64, 15, "kept");
+    expect_kept(&rt, &mut session)?;
+    Ok(())
+}
+
+/// A request that is not whole is not declined here, and stays.
+fn expect_kept(rt: &(impl AllocGlobal + Abort), session: &mut Session) -> Result<(), NoMemory> {
+    push(session, b"set k 0 0 5\r\nab")?;
+    assert!(rt; decline(rt.alloc(), session).is_err());
+    expect_number(rt, session.unread_len() as u64, 15, "kept");
     Ok(())
 }
 
@@ -118,12 +157,21 @@ fn a_request_that_is_not_whole_is_not_declined(rt: HostRuntime) -> Result<(), Fa
 fn expect_asked(rt: &(impl AllocGlobal + Abort), is_retry: bool) -> Result<(), Fail> {
     let users = users(rt.alloc())?;
     let mut session = opened(rt.alloc(), &users, true)?;
-    let mut declined = Declined::new();
-    push(&mut session, b"get k\r\n")?;
-    let asked = session.ask(rt.alloc(), &users, is_retry, &mut declined)?;
-    let want = asked.as_ref().map_or(Wanted::Nothing, wanted_of);
+    let want = asked(rt.alloc(), &mut session, &users, is_retry)?;
     expect_wanted(rt, want, Wanted::Alices, "asked");
     Ok(())
+}
+
+/// What is asked for then.
+fn asked(
+    alloc: Global,
+    session: &mut Session,
+    users: &Users,
+    is_retry: bool,
+) -> Result<Wanted, NoMemory> {
+    push(session, b"get k\r\n")?;
+    let asked = session.ask(alloc, users, is_retry, &mut Declined::new())?;
+    Ok(asked.as_ref().map_or(Wanted::Nothing, wanted_of))
 }
 
 #[test]

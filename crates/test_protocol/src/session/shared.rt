@@ -166,11 +166,24 @@ fn expect_replies(
     sendings: &[Sending],
 ) -> Result<(), Fail> {
     let users = users(rt.alloc())?;
-    let mut session = opened(rt.alloc(), &users, true)?;
     let outcome = found(rt.alloc(), names, 16_384)?;
+    let mut session = opened(rt.alloc(), &users, true)?;
+    expect_twice(rt, &mut session, &users, lines, &outcome, sendings)?;
+    Ok(())
+}
+
+/// The same on this connection, where this is found.
+fn expect_twice(
+    rt: &(impl AllocGlobal + Abort),
+    session: &mut Session,
+    users: &Users,
+    lines: &[&str],
+    outcome: &Outcome,
+    sendings: &[Sending],
+) -> Result<(), NoMemory> {
     for _ in 0..2 {
-        ask_all(rt, &mut session, &users, lines, &outcome)?;
-        expect_sendings(rt, &mut session, sendings);
+        ask_all(rt, session, users, lines, outcome)?;
+        expect_sendings(rt, session, sendings);
         session.sent(usize::MAX);
     }
     Ok(())
@@ -187,10 +200,19 @@ fn large_data_is_sent_from_where_it_lies(rt: HostRuntime) -> Result<(), Fail> {
 fn smaller_data_is_shared_where_a_reply_is_long(rt: HostRuntime) -> Result<(), Fail> {
     let users = users(rt.alloc())?;
     let mut session = opened(rt.alloc(), &users, true)?;
+    expect_long(&rt, &mut session, &users)
+}
+
+/// A reply with 64 hits, of which the first slices are looked at.
+fn expect_long(
+    rt: &(impl AllocGlobal + Abort),
+    session: &mut Session,
+    users: &Users,
+) -> Result<(), Fail> {
     let outcome = found(rt.alloc(), &["k"; 64], 16_383)?;
-    ask(&rt, &mut session, &users, "get k\r\n", &outcome)?;
+    ask(rt, session, users, "get k\r\n", &outcome)?;
     let first = [Slice::Text(b"VALUE k 7 16383\r\n"), Slice::Data(16_383)];
-    let behind = expect_front(&rt, &session, &first);
-    expect_number(&rt, behind as u64, 63 * 16_402 + 7, "behind");
+    let behind = expect_front(rt, session, &first);
+    expect_number(rt, behind as u64, 63 * 16_402 + 7, "behind");
     Ok(())
 }

@@ -215,39 +215,66 @@ fn expect_within(
     Ok(())
 }
 
+/// Whether a fault's words hold these, which are made for it.
+fn expect_made(
+    rt: &(impl AllocGlobal + Abort),
+    fault: SettingsFault,
+    want: Result<String, AllocError>,
+) -> Result<(), Fail> {
+    let want = want?;
+    expect_within(rt, fault, want.as_str())
+}
+
+/// What is wanted of `workers`.
+fn workers_words(alloc: Global) -> Result<String, AllocError> {
+    format!(in alloc; "wanted: a whole number, 1 to {MOST_WORKERS}")
+}
+
+/// What is wanted of `journal`.
+fn journal_words(alloc: Global) -> Result<String, AllocError> {
+    format!(in alloc; "wanted: a whole number, {SMALLEST_PAGE} to {LARGEST_PAGE}")
+}
+
+/// What is wanted of a budget.
+fn budget_words(alloc: Global) -> Result<String, AllocError> {
+    format!(in alloc; "number of bytes, {SMALLEST_BUDGET} to {LARGEST_BUDGET}")
+}
+
+/// What is wanted of a largest item.
+fn largest_words(alloc: Global) -> Result<String, AllocError> {
+    format!(in alloc; "number of bytes, 1 to {LARGEST_ITEM}")
+}
+
 #[test]
 fn the_words_of_a_range_spell_the_numbers_that_are_checked(rt: HostRuntime) -> Result<(), Fail> {
-    let alloc = rt.alloc();
-    let found = 0;
-    let want = format!(in alloc; "wanted: a whole number, 1 to {MOST_WORKERS}")?;
-    expect_within(&rt, SettingsFault::WorkersRange { found }, want.as_str())?;
-    let want = format!(in alloc; "wanted: a whole number, {SMALLEST_PAGE} to {LARGEST_PAGE}")?;
-    expect_within(&rt, SettingsFault::JournalRange { found }, want.as_str())?;
-    let (user, found) = (1, 0);
-    let want = format!(in alloc; "number of bytes, {SMALLEST_BUDGET} to {LARGEST_BUDGET}")?;
-    expect_within(
-        &rt,
-        SettingsFault::BudgetRange { user, found },
-        want.as_str(),
-    )?;
-    let want = format!(in alloc; "number of bytes, 1 to {LARGEST_ITEM}")?;
-    expect_within(
-        &rt,
-        SettingsFault::LargestRange { user, found },
-        want.as_str(),
-    )
+    let fault = SettingsFault::WorkersRange { found: 0 };
+    expect_made(&rt, fault, workers_words(rt.alloc()))?;
+    let fault = SettingsFault::JournalRange { found: 0 };
+    expect_made(&rt, fault, journal_words(rt.alloc()))?;
+    let fault = SettingsFault::BudgetRange { user: 1, found: 0 };
+    expect_made(&rt, fault, budget_words(rt.alloc()))?;
+    let fault = SettingsFault::LargestRange { user: 1, found: 0 };
+    expect_made(&rt, fault, largest_words(rt.alloc()))
+}
+
+/// What is wanted of a name.
+fn name_words(alloc: Global) -> Result<String, AllocError> {
+    format!(in alloc; "wanted: 1 to {LONGEST_NAME} letters")
+}
+
+/// What is wanted of a token.
+fn token_words(alloc: Global) -> Result<String, AllocError> {
+    format!(in alloc; "wanted: 1 to {LONGEST_TOKEN} printable ASCII characters")
 }
 
 #[test]
 fn the_words_of_a_text_spell_the_lengths_that_are_checked(rt: HostRuntime) -> Result<(), Fail> {
-    let alloc = rt.alloc();
-    let fault = TextFault::Empty;
-    let user = 1;
-    let want = format!(in alloc; "wanted: 1 to {LONGEST_NAME} letters")?;
-    expect_within(&rt, SettingsFault::BadName { user, fault }, want.as_str())?;
+    let (user, fault) = (1, TextFault::Empty);
+    let named = SettingsFault::BadName { user, fault };
+    expect_made(&rt, named, name_words(rt.alloc()))?;
     let field = Field::Token(user);
-    let want = format!(in alloc; "wanted: 1 to {LONGEST_TOKEN} printable ASCII characters")?;
-    expect_within(&rt, SettingsFault::BadToken { field, fault }, want.as_str())
+    let told = SettingsFault::BadToken { field, fault };
+    expect_made(&rt, told, token_words(rt.alloc()))
 }
 
 /// A fault, its number and its words.
