@@ -50,9 +50,16 @@ fn make(rt: &impl Abort, index: &mut Index, step: &Move, place: usize) -> Result
 /// Makes moves on an index with room for four slots, which has four buckets.
 fn run(rt: &impl Abort, alloc: Global, moves: &[Move]) -> Result<(), NoMemory> {
     let mut index = Index::new(alloc);
+    let made = make_all(rt, &mut index, moves);
+    drop(index);
+    made
+}
+
+/// The same on this index.
+fn make_all(rt: &impl Abort, index: &mut Index, moves: &[Move]) -> Result<(), NoMemory> {
     index.reserve(4)?;
     for (place, step) in moves.iter().enumerate() {
-        make(rt, &mut index, step, place)?;
+        make(rt, index, step, place)?;
     }
     Ok(())
 }

@@ -43,7 +43,19 @@ fn write_page(rt: &impl Abort, past: &mut Past<u8>) -> Result<(), NoMemory> {
 /// What a vector holds, and what it held when its page began.
 fn expect_page(rt: &impl Abort, alloc: Global, journal: Journal) -> Result<(), NoMemory> {
     let mut past = Past::new(alloc, journal);
-    write_page(rt, &mut past)?;
+    let expected = expect_written(rt, alloc, &mut past, journal);
+    drop(past);
+    expected
+}
+
+/// The same of this vector.
+fn expect_written(
+    rt: &impl Abort,
+    alloc: Global,
+    past: &mut Past<u8>,
+    journal: Journal,
+) -> Result<(), NoMemory> {
+    write_page(rt, past)?;
     assert!(rt; are_items(past.copy(alloc)?.as_slice(), &[0, 4, 3]));
     match past.opened(alloc) {
         Ok(opened) => assert!(rt;
@@ -68,8 +80,9 @@ fn a_sketch_is_alike_with_the_journal_off_and_its_past_is_refused(
     rt: HostRuntime,
 ) -> Result<(), Fail> {
     let mut sketch = PastSketch::new(rt.alloc(), 8, Journal::Off)?;
-    record_around_a_turn(&rt, rt.alloc(), &mut sketch)?;
-    Ok(())
+    let recorded = record_around_a_turn(&rt, rt.alloc(), &mut sketch);
+    drop(sketch);
+    Ok(recorded?)
 }
 
 /// Records a hash before a page's turn and behind it.
@@ -100,9 +113,16 @@ fn is_past_refused(alloc: Global, sketch: &PastSketch) -> bool {
 #[test]
 fn with_the_journal_off_the_past_of_lists_is_refused(rt: HostRuntime) -> Result<(), Fail> {
     let mut lists = Lists::new(rt.alloc(), 10, 100, 80, Journal::Off)?;
+    let refused = turn_without_past(&rt, rt.alloc(), &mut lists);
+    drop(lists);
+    Ok(refused?)
+}
+
+/// Turns a page of lists that remember none.
+fn turn_without_past(rt: &impl Abort, alloc: Global, lists: &mut Lists) -> Result<(), NoMemory> {
     lists.reserve(2)?;
     lists.prepare();
     lists.turn();
-    assert!(rt; lists.slots() == 2 && lists.opened(rt.alloc()).is_err());
+    assert!(rt; lists.slots() == 2 && lists.opened(alloc).is_err());
     Ok(())
 }

@@ -128,10 +128,23 @@ fn play(
     moves: &[Move],
 ) -> Result<(), Fail> {
     for journal in &[Journal::On, Journal::Off] {
-        let mut lists = Lists::new(alloc, window, u64::from(main), protected, *journal)?;
-        lists.reserve(5)?;
-        make_all(rt, &mut lists, moves);
+        let lists = Lists::new(alloc, window, u64::from(main), protected, *journal)?;
+        play_on(rt, lists, moves)?;
     }
+    Ok(())
+}
+
+/// Makes moves on these lists, which are let go of then.
+fn play_on(rt: &impl Abort, mut lists: Lists, moves: &[Move]) -> Result<(), NoMemory> {
+    let played = make_in_room(rt, &mut lists, moves);
+    drop(lists);
+    played
+}
+
+/// Makes moves on lists with room for five slots.
+fn make_in_room(rt: &impl Abort, lists: &mut Lists, moves: &[Move]) -> Result<(), NoMemory> {
+    lists.reserve(5)?;
+    make_all(rt, lists, moves);
     Ok(())
 }
 
@@ -382,8 +395,9 @@ fn expect_room(rt: &impl Abort, lists: &mut Lists) -> Result<(), NoMemory> {
 #[test]
 fn a_refused_reserve_changes_nothing(rt: HostRuntime) -> Result<(), Fail> {
     let mut lists = Lists::new(rt.alloc(), 10, 100, 80, Journal::On)?;
-    expect_room(&rt, &mut lists)?;
-    Ok(())
+    let asked = expect_room(&rt, &mut lists);
+    drop(lists);
+    Ok(asked?)
 }
 
 /// The slots of the window, by their numbers.
@@ -398,9 +412,17 @@ fn opened_window(
     lists: &Lists,
     want: &[usize],
 ) -> Result<(), NoMemory> {
-    let window = lists.opened(alloc)?.slots_in(alloc, Area::Window)?;
+    let window = slots_then(alloc, lists)?;
     assert!(rt; slots_of(&window, want));
     Ok(())
+}
+
+/// The slots that the window held then.
+fn slots_then(alloc: Global, lists: &Lists) -> Result<Vec<Slot>, NoMemory> {
+    let opened = lists.opened(alloc)?;
+    let slots = opened.slots_in(alloc, Area::Window);
+    drop(opened);
+    slots
 }
 
 /// Pushes, pages that are prepared and turned between them, and what each page began with.
@@ -425,6 +447,7 @@ fn turn_pages(rt: &impl Abort, alloc: Global, lists: &mut Lists) -> Result<(), N
 #[test]
 fn a_page_shows_what_it_began_with_until_the_next_turns(rt: HostRuntime) -> Result<(), Fail> {
     let mut lists = Lists::new(rt.alloc(), 100, 100, 80, Journal::On)?;
-    turn_pages(&rt, rt.alloc(), &mut lists)?;
-    Ok(())
+    let turned = turn_pages(&rt, rt.alloc(), &mut lists);
+    drop(lists);
+    Ok(turned?)
 }
