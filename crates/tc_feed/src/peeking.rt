@@ -1,11 +1,11 @@
 //! A guess at what a request asks for, from its first bytes, for who reads memory ahead of its use. Nothing
 //! rests on a guess: the request is read as any other when its turn comes.
 
-/// The most bytes of a command's name: of `prepend`, `gets`.
-const LONGEST_NAME: usize = 7;
+use tc_grammar::{Verb, verb_named};
+use tc_item::LONGEST_KEY;
 
-/// The most bytes of a key.
-const LONGEST_KEY: usize = 250;
+/// The most bytes of the name of a command with a key: of `prepend`.
+const LONGEST_NAME: usize = 7;
 
 /// The most digits of a number of a storage line.
 const LONGEST_NUMBER: usize = 20;
@@ -58,31 +58,20 @@ fn behind_block(bytes: &[u8]) -> Option<&[u8]> {
     behind_line(bytes)?.get(block..)
 }
 
-/// Whether a block follows the line of the command of this name.
-fn has_block(name: &[u8]) -> bool {
-    matches!(
-        name,
-        b"set" | b"add" | b"cas" | b"append" | b"prepend" | b"replace"
-    )
-}
-
-/// Whether the command of this name looks keys up, which may be several.
-fn is_lookup(name: &[u8]) -> bool {
-    matches!(name, b"get" | b"gets" | b"gat" | b"gats")
-}
-
 /// What the request that these bytes begin with seems to ask for; nothing where it looks several keys up,
 /// which are read ahead when it is done.
 pub(crate) fn peek(bytes: &[u8]) -> Option<Peeked<'_>> {
     let (name, rest) = split_word(bytes, LONGEST_NAME)?;
+    let verb = verb_named(name)?;
     let (key, rest) = split_word(rest.get(1..)?, LONGEST_KEY)?;
-    if key.is_empty() || is_lookup(name) && rest.first() == Some(&b' ') {
-        return None;
-    }
-    let behind = if has_block(name) {
-        behind_block(rest)
-    } else {
-        behind_line(rest)
+    let behind = match verb {
+        _ if key.is_empty() => return None,
+        Verb::Get(_) | Verb::Gat(_) if rest.first() == Some(&b' ') => return None,
+        Verb::Store(_) => behind_block(rest),
+        Verb::Get(_) | Verb::Gat(_) | Verb::Delete | Verb::Count(_) | Verb::Touch => behind_line(
+            rest,
+        ),
+        _ => return None,
     };
     let end = match behind {
         Some(behind) => Some(bytes.len().saturating_sub(behind.len())),

@@ -31,3 +31,4 @@ pub use number::read_number;
 pub use outline::{Outline, outline_line};
 pub use parse::parse_line;
 pub use spelling::each_line_spells_one_thing;
+pub use verb::{Verb, verb_named};

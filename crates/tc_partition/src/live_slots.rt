@@ -29,7 +29,7 @@ use crate::wanted::Wanted;
 use crate::work::Work;
 use std::alloc::Global;
 use tc_item::{Due, Key, Moment, NoMemory, Slot, alive};
-use tc_plain::{Areas, Change, End, Entry, EvictionState, Limits};
+use tc_plain::{Areas, Change, End, Entry, EvictionState, Limits, is_flush_due};
 use tc_readbuf::LookUp;
 use tc_sketch::{PastSketch, hash};
 use tc_slru::Area;
@@ -52,16 +52,6 @@ pub struct LiveSlots {
     pub flush: Option<u64>,
     /// The moment that the cache was last advanced to.
     pub moment: Moment,
-}
-
-/// Whether a pending flush stands at or before the moment.
-fn is_flush_due(flush: Option<u64>, moment: Moment) -> bool
-    ensures { result ≡ is_flush_due flush moment }
-{
-    match flush {
-        None => false,
-        Some(second) => second <= moment.seconds(),
-    }
 }
 
 /// Whether what a key holds in this slot is alive at the moment, with this due if one is given.

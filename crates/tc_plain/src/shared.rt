@@ -1,7 +1,8 @@
 //! What every cache shares of a command: the law that it keeps (`Cache`), the entry under a key, which
 //! work each command is (`Commands`, `act`), what a storage line offers (`offer`), what a command will
-//! do (`Plan`), how it ends (`End`), the hits that it shows, what is given to answer and to keep (`Acted`),
-//! what the turn of a page leaves over, and how far deferred work came (`Progress`).
+//! do (`Plan`), how it ends (`End`), when a flush takes effect (`is_flush_due`), the hits that it shows,
+//! what is given to answer and to keep (`Acted`), what the turn of a page leaves over, and how far deferred
+//! work came (`Progress`).
 //!
 //! The cache that a server runs (`tc_partition`) and the reference keep these alike. Nothing here looks
 //! through a list of entries.
@@ -12,6 +13,7 @@ pub(crate) mod change;
 pub(crate) mod commands;
 pub(crate) mod end;
 pub(crate) mod entry;
+pub(crate) mod flush;
 pub(crate) mod hits;
 pub(crate) mod left_over;
 pub(crate) mod offers;

@@ -11,6 +11,7 @@ ghost use Rattle.tc_plain.specs.AreaLists.{areas_of, live_of, HasRoom, is_from_w
 use crate::reference::areas::Origin;
 use crate::reference::lists::put_first;
 use crate::reference::lookup::find_alive;
+use crate::shared::flush::is_flush_due;
 use crate::{Areas, Entry, Limits};
 use std::alloc::Global;
 use tc_item::{Due, Moment, NoMemory, alive};
@@ -30,16 +31,6 @@ pub struct EvictionState {
     pub flush: Option<u64>,
     /// The moment that the cache was last advanced to.
     pub moment: Moment,
-}
-
-/// Whether a pending flush stands at or before the moment.
-fn is_flush_due(flush: Option<u64>, moment: Moment) -> bool
-    ensures { result ≡ is_flush_due flush moment }
-{
-    match flush {
-        None => false,
-        Some(second) => second <= moment.seconds(),
-    }
 }
 
 impl EvictionState {

@@ -1,7 +1,8 @@
 //! Replies whose data is sent from where it lies. Texts are by hand from the protocol's text.
 
+use super::replies::serve_next;
 use super::table::Wanted;
-use super::{expect_wanted, opened, push, serve_next};
+use super::{expect_wanted, opened, push};
 use crate::fixtures::{expect_bytes, expect_number, users};
 use std::alloc::Global;
 use std::process::Abort;
