@@ -10,3 +10,4 @@ pub mod Audits
 pub mod Refusals
 pub mod Witnesses
 pub mod Pages
+pub mod Entered

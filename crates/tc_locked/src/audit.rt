@@ -37,7 +37,13 @@ fn do_again(alloc: Global, cache: &mut Plain, entry: &CallEntry) -> Result<Outco
         ≡ (act cache.old entry.now.moment entry.now.command).0) }
     ensures state { OnOk result (cache.new ≡ (act cache.old entry.now.moment entry.now.command).1) }
 {
-    let acted = act(cache, alloc, entry.moment, &entry.command, Journal::Off)?;
+    let acted = act(
+        cache,
+        alloc,
+        entry.moment,
+        entry.command.get(),
+        Journal::Off,
+    )?;
     Ok(acted.answer)
 }
 

@@ -1,5 +1,5 @@
 //! A user's book.
-ghost use Rattle.std.specs.Prelude.{◌≡◌, ◌≢◌, ℕ, ◌+◌, ◌-◌, ◌^◌, ◌<◌, ◌≤◌, length, IfOk, OnOk, IfErr, OnErr, slice_get};
+ghost use Rattle.std.specs.Prelude.{◌≡◌, ◌≢◌, ℕ, ◌+◌, ◌-◌, ◌^◌, ◌<◌, ◌≤◌, ◌++◌, ◌∷◌, [], length, IfOk, OnOk, IfErr, OnErr, slice_get};
 ghost use Rattle.std.specs.Prelude.{slice_index, slice_set, vec_len, vec_capacity, Some, IfSome, IfNone};
 ghost use Rattle.tc_past.specs.declared.journal.Journal.TheVariants.{Off as IsOff};
 ghost use Rattle.tc_plain.specs.Keeping.{kept_by, IsActed};
@@ -9,12 +9,15 @@ ghost use Rattle.tc_fresh.specs.Beginning.{IsEmptyCache};
 ghost use Rattle.tc_plain.specs.Doing.{act};
 ghost use Rattle.tc_locked.specs.Books.{entry_of, after_call, slip_of, after_maintain, page_turned, paged, fresh_book, IsBookFault, IsNumberAt};
 ghost use Rattle.tc_locked.specs.Closing.{HasLegalPage};
+ghost use Rattle.tc_locked.specs.Entered.{entered};
 
 use crate::call_entry::{CallEntry, Numbers, Slip};
 use crate::call_fault::CallFault;
 use crate::called::Called;
+use crate::kept_command::KeptCommand;
 use crate::page::Page;
 use crate::unread::Unread;
+use crate::witness::Witness;
 use std::alloc::Global;
 use std::marker::Model;
 use tc_grammar::Command;
@@ -77,6 +80,69 @@ fn count_entry(number: &mut u64, counts: &mut Vec<u64>, seat_no: usize) -> (u64,
     counts[seat_no] = tally;
     *number += 1;
     (*number, tally)
+}
+
+/// Which seat calls, at which moment, and on which connection.
+#[derive(Clone, Copy)]
+struct Caller {
+    seat_no: usize,
+    moment: Moment,
+    conn: u32,
+}
+
+/// Enters on a page what a command of a caller came to. What the caller is told, and the entry.
+fn enter(
+    page: &mut Page,
+    number: &mut u64,
+    counts: &mut Vec<u64>,
+    turns: u64,
+    by: Caller,
+    command: &Command,
+    copy: Option<KeptCommand>,
+    acted: Acted,
+) -> (Slip, Witness)
+    requires seat { by.seat_no < length counts.old.items }
+    requires number { number.old + 1 < 2 ^ 64 }
+    requires tally { slice_index counts.old.items by.seat_no + 1 < 2 ^ 64 }
+    requires page { IsPage page.old }
+    requires room { HasRoom page.old }
+    requires few { length (entries_on page.old) + 1 < 2 ^ 64 }
+    requires copy { copy ≡ kept_by page.old.journal command.now }
+    requires kept { acted.kept ≡ kept_by page.old.journal acted.answer }
+    ensures page { IsPage page.new }
+    ensures entries { entries_on page.new ≡ entries_on page.old
+        ++ entered counts.old.items number.old by command.now acted.answer ∷ [] }
+    ensures journal { page.new.journal ≡ page.old.journal }
+    ensures number { number.new ≡ number.old + 1 }
+    ensures counts { counts.new.items ≡ slice_set counts.old.items by.seat_no
+        (slice_index counts.old.items by.seat_no + 1) }
+    ensures slip { result.0 ≡ record {
+      page = turns;
+      number = number.old + 1;
+      tally = slice_index counts.old.items by.seat_no + 1;
+      moment = by.moment;
+      outcome = acted.answer;
+    } }
+    ensures entry { result.1
+        ≡ entered counts.old.items number.old by command.now acted.answer }
+{
+    let (number, tally) = count_entry(number, counts, by.seat_no);
+    let numbers = Numbers {
+        seat: by.seat_no,
+        tally,
+        number,
+        moment: by.moment,
+        conn: by.conn,
+    };
+    let (outcome, entry) = page.add(numbers, command, copy, acted);
+    let slip = Slip {
+        page: turns,
+        number,
+        tally,
+        moment: by.moment,
+        outcome,
+    };
+    (slip, entry)
 }
 
 /// What can fail before the cache is called: a number for the entry, and room for it.
@@ -161,7 +227,7 @@ impl<C: Cache> Book<C> {
         now: Moment,
         conn: u32,
         command: &Command,
-        copy: Option<Command>,
+        copy: Option<KeptCommand>,
     ) -> Result<Called, CallFault>
         requires seat { seat_no < length self.old.counts }
         requires copy { copy ≡ kept_by self.old.keeps command.now }
@@ -177,23 +243,22 @@ impl<C: Cache> Book<C> {
         let moment = self.moment.later(now);
         make_ready(&mut self.page, self.number)?;
         let acted = self.cache.act(alloc, moment, command, self.page.journal)?;
-        let (number, tally) = count_entry(&mut self.number, &mut self.counts, seat_no);
-        let numbers = Numbers {
-            seat: seat_no,
-            tally,
-            number,
+        let by = Caller {
+            seat_no,
             moment,
             conn,
         };
-        let (outcome, entry) = self.page.add(numbers, command, copy, acted);
+        let (slip, entry) = enter(
+            &mut self.page,
+            &mut self.number,
+            &mut self.counts,
+            self.turns,
+            by,
+            command,
+            copy,
+            acted,
+        );
         self.moment = moment;
-        let slip = Slip {
-            page: self.turns,
-            number,
-            tally,
-            moment,
-            outcome,
-        };
         Ok(Called {
             slip,
             entry,
@@ -219,7 +284,7 @@ impl<C: Cache> Book<C> {
         now: Moment,
         conn: u32,
         command: &Command,
-        copy: Option<Command>,
+        copy: Option<KeptCommand>,
     ) -> Result<Called, CallFault>
         requires seat { seat_no < length self.old.counts }
         requires copy { copy ≡ kept_by self.old.keeps command.now }
@@ -247,23 +312,22 @@ impl<C: Cache> Book<C> {
         left.push_reserved(self.cache.turn());
         self.turns += 1;
         self.page.clear();
-        let (number, tally) = count_entry(&mut self.number, &mut self.counts, seat_no);
-        let numbers = Numbers {
-            seat: seat_no,
-            tally,
-            number,
+        let by = Caller {
+            seat_no,
             moment,
             conn,
         };
-        let (outcome, entry) = self.page.add(numbers, command, copy, acted);
+        let (slip, entry) = enter(
+            &mut self.page,
+            &mut self.number,
+            &mut self.counts,
+            self.turns,
+            by,
+            command,
+            copy,
+            acted,
+        );
         self.moment = moment;
-        let slip = Slip {
-            page: self.turns,
-            number,
-            tally,
-            moment,
-            outcome,
-        };
         Ok(Called { slip, entry, left })
     }
 
@@ -277,7 +341,7 @@ impl<C: Cache> Book<C> {
         now: Moment,
         conn: u32,
         command: &Command,
-        copy: Option<Command>,
+        copy: Option<KeptCommand>,
     ) -> Result<Called, CallFault>
         requires journal { 0 < journal }
         requires seat { seat_no < length self.old.counts }

@@ -2,6 +2,8 @@
 ghost use Rattle.std.specs.Prelude.{◌≡◌};
 ghost use Rattle.tc_locked.specs.Witnesses.{entry_from};
 
+use crate::kept_command::KeptCommand;
+use std::mem::size_of;
 use tc_grammar::Command;
 use tc_item::Moment;
 use tc_stats::Outcome;
@@ -28,13 +30,15 @@ pub struct CallEntry {
     pub moment: Moment,
     /// The connection, by the caller's number.
     pub conn: u32,
-    pub command: Command,
+    pub command: KeptCommand,
     pub outcome: Outcome,
 }
 
+const _: () = prove!(size_of::<CallEntry>() == 120);
+
 impl CallEntry {
     /// The entry of these numbers.
-    pub(crate) fn of(numbers: Numbers, command: Command, outcome: Outcome) -> CallEntry
+    pub(crate) fn of(numbers: Numbers, command: KeptCommand, outcome: Outcome) -> CallEntry
         ensures { result ≡ entry_from numbers command outcome }
     {
         CallEntry {
@@ -49,8 +53,11 @@ impl CallEntry {
     }
 }
 
-/// How many bytes an entry takes by itself, and each key and each hit of a look-up of several.
-const ENTRY: u64 = 200;
+/// How many bytes an entry takes by itself and its command beside it, and each key and each hit of a look-up
+/// of several.
+const ENTRY: u64 = 120;
+
+const COMMAND: u64 = 88;
 
 const KEY: u64 = 24;
 
@@ -90,8 +97,8 @@ fn shown_by(outcome: &Outcome) -> u64 {
 impl CallEntry {
     /// How many bytes it keeps, its data among them, whether the cache has them too or not.
     pub(crate) fn bytes(&self) -> u64 {
-        ENTRY
-            .saturating_add(kept_by(&self.command))
+        (ENTRY + COMMAND)
+            .saturating_add(kept_by(self.command.get()))
             .saturating_add(shown_by(&self.outcome))
     }
 }

@@ -11,6 +11,7 @@ use crate::called::Called;
 use crate::closed::{Closed, Missing};
 use crate::closing::{Room, compare, take_books, take_seats};
 use crate::kept::Kept;
+use crate::kept_command::KeptCommand;
 use crate::lease::Lease;
 use crate::locking::lock_soon;
 use crate::naming::{HallTable, Naming};
@@ -63,13 +64,13 @@ fn copy_to_keep(
     alloc: Global,
     command: &Command,
     keeps: Journal,
-) -> Result<Option<Command>, CallFault>
+) -> Result<Option<KeptCommand>, CallFault>
     ensures copy { IfOk result (λ copy. copy ≡ kept_by keeps command.now) }
     ensures refused { IfErr result (λ fault. fault ≡ OutOfMemory) }
 {
     match keeps {
         Journal::On => {
-            let Ok(copy) = command.copy(alloc) else {
+            let Ok(copy) = KeptCommand::of(alloc, command) else {
                 return Err(CallFault::NoMemory);
             };
             Ok(Some(copy))

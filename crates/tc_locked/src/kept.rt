@@ -9,6 +9,7 @@ use crate::book::Book;
 use crate::call_fault::CallFault;
 use crate::called::Called;
 use crate::entering::note_both;
+use crate::kept_command::KeptCommand;
 use crate::naming::{Naming, Shared};
 use crate::seat::Seat;
 use crate::view::View;
@@ -56,7 +57,7 @@ impl<C: Cache, N: Naming> Kept<C, N> {
         now: Moment,
         conn: u32,
         command: &Command,
-        copy: Option<Command>,
+        copy: Option<KeptCommand>,
     ) -> Result<Called, CallFault>
         requires table { (table.now.table_id ≡ N.table)
             × (table_words ≤ table.now.table_id.words) }

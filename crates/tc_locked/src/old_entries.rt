@@ -18,7 +18,7 @@ fn data_of_hits(hits: &Hits) -> u64 {
 
 /// The same of an entry that holds one item's data at most.
 fn data_of_one(entry: &CallEntry) -> u64 {
-    if let Command::Store(_, blob) = &entry.command {
+    if let Command::Store(_, blob) = entry.command.get() {
         return blob.len() as u64;
     }
     match &entry.outcome {

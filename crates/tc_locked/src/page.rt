@@ -7,6 +7,7 @@ ghost use Rattle.tc_locked.specs.Witnesses.{entry_from};
 ghost use Rattle.tc_locked.specs.Pages.{entries_on, IsPage, HasRoom};
 
 use crate::call_entry::{CallEntry, Numbers};
+use crate::kept_command::KeptCommand;
 use crate::old_entries::prefetch;
 use crate::unread::Unread;
 use crate::witness::Witness;
@@ -55,7 +56,7 @@ fn keep(
     journal: Journal,
     numbers: Numbers,
     command: &Command,
-    copy: Option<Command>,
+    copy: Option<KeptCommand>,
     answer: &Outcome,
     outcome: Option<Outcome>,
 )
@@ -118,7 +119,7 @@ impl Page {
         &mut self,
         numbers: Numbers,
         command: &Command,
-        copy: Option<Command>,
+        copy: Option<KeptCommand>,
         acted: Acted,
     ) -> (Outcome, Witness)
         requires page { IsPage self.old }

@@ -277,7 +277,8 @@ fn is_entered<C: Cache, N: Naming>(
     command: &Command,
 ) -> bool {
     match closed.entry_of(receipt) {
-        Ok(Some(entry)) => entry.command == *command && entry.outcome == receipt.slip.outcome,
+        Ok(Some(entry)) => *entry.command.get() == *command
+            && entry.outcome == receipt.slip.outcome,
         Ok(None) | Err(_) => false,
     }
 }

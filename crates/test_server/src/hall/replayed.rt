@@ -5,7 +5,7 @@ use std::test::*;
 use tc_grammar::Command;
 use tc_item::Moment;
 use tc_kinds::Journal;
-use tc_locked::{Audit, CallEntry, Closed, Naming, audit_page};
+use tc_locked::{Audit, CallEntry, Closed, KeptCommand, Naming, audit_page};
 use tc_plain::{Cache, Plain, act};
 use tc_stats::Outcome;
 use tc_users::UserNo;
@@ -72,7 +72,7 @@ fn entry_of(
         number,
         moment,
         conn: 1,
-        command,
+        command: KeptCommand::of(alloc, &command)?,
         outcome,
     })
 }

@@ -40,7 +40,7 @@ pub fn read_back<C: Cache, N: Naming, R: Wait + Abort>(
     let get = get(alloc)?;
     let (one, other) = find_both(rt, alloc, hall, seat, &get)?;
     assert!(rt; one && !other);
-    assert!(rt; journals(rt, hall) == [406, 200, 0]);
+    assert!(rt; journals(rt, hall) == [422, 208, 0]);
     Ok(())
 }
 

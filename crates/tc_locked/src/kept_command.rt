@@ -1,0 +1,39 @@
+//! A command that an entry keeps.
+ghost use Rattle.std.specs.Prelude.{◌≡◌, IfOk};
+
+use std::alloc::Global;
+use std::marker::Model;
+use tc_grammar::Command;
+use tc_item::NoMemory;
+
+/// A command in a box of its own, so that a call of which no entry is kept moves no room for one about.
+#[derive(Debug, Drop)]
+pub struct KeptCommand {
+    command: Box<Command>,
+}
+
+impl Model for KeptCommand {
+    ghost use Rattle.tc_grammar.specs.declared.command.Command.{Command};
+
+    ghost Value = { Command };
+
+    ghost view = { λ k. k.command.value };
+}
+
+impl KeptCommand {
+    /// An equal command, over the same data.
+    pub fn of(alloc: Global, command: &Command) -> Result<KeptCommand, NoMemory>
+        ensures { IfOk result (λ kept. kept ≡ command.now) }
+    {
+        let command = command.copy(alloc)?;
+        let command = Box::new(alloc, command)?;
+        Ok(KeptCommand { command })
+    }
+
+    /// The command.
+    pub fn get(&self) -> &Command
+        ensures { result.now ≡ self.now }
+    {
+        &self.command
+    }
+}
