@@ -184,7 +184,7 @@ fn command<'a>(alloc: Global) -> Result<Command<'a>, AllocError> {
         serve_command(alloc)?,
     );
     Command::new(alloc, "partcached")
-        .version("1.10.0")
+        .version("1.11.0")
         .about("A memcached server in which each user has a partition of its own")
         .subcommand_required(true)
         .subcommand(run)?

@@ -2,7 +2,7 @@
 use crate::readiness::Readiness;
 use std::alloc::{AllocError, Global};
 use std::sync::Arc;
-use tc_workers::{Balance, Did, Shares, Traffic};
+use tc_fairness::{Balance, Did, Shares, Traffic};
 
 /// How many microseconds lie between two looks at least.
 const BETWEEN: u64 = 20_000;

@@ -22,11 +22,12 @@ use std::sync::{Arc, Wait};
 use std::thread::Threads;
 use std::time::{Clock as Time, Instant};
 use std::{io, thread};
+use tc_fairness::Shares;
 use tc_item::NoMemory;
 use tc_locked::{Clock, Hall, Naming, Seat};
 use tc_plain::Cache;
 use tc_users::{Address, Settings, Users};
-use tc_workers::{Homes, Keeper, Open, Returned, Shares, Worker, run_crew};
+use tc_workers::{Homes, Keeper, Open, Returned, Worker, run_crew};
 
 /// Why a server doesn't serve.
 #[derive(Debug, Drop, Clone, Copy, PartialEq, Eq)]

@@ -1,10 +1,9 @@
 //! The accounts of a worker's users: how turns are dealt out among them, and their half blocks.
-use crate::dealing::{Backlog, Dealing, PIECES};
 use crate::gate::Gate;
-use crate::half_blocks::{HalfBlocks, Part, Reads};
 use crate::service::Service;
 use std::alloc::Global;
 use std::sync::Wait;
+use tc_fairness::{Backlog, Dealing, HalfBlocks, PIECES, Part, Reads};
 use tc_item::Moment;
 use tc_locked::Naming;
 use tc_plain::{Cache, Progress};

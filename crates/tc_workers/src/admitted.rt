@@ -1,6 +1,6 @@
 //! As whom and when a connection was admitted to a turn.
-use crate::dealing::LEAST_OUT;
 use crate::pace::Pace;
+use tc_fairness::LEAST_OUT;
 use tc_item::Moment;
 
 /// Whose it was for the deal, the moment to which that user's cache was maintained, and with how many

@@ -1,6 +1,7 @@
 //! The keys that the next requests of a user's connections seem to ask for. What holds them is read ahead, for
 //! all of these connections at once, so that their requests do not wait for memory one after the other.
 //! Nothing rests on a guess, and no clause speaks of it.
+use crate::link::requests::REQUESTS;
 use std::alloc::{AllocError, Global};
 use tc_session::Session;
 use tc_sketch::hash;
@@ -8,14 +9,11 @@ use tc_sketch::hash;
 /// The most keys that are read ahead at once.
 const KEYS: usize = 128;
 
-/// The most requests of a connection that are looked at: as many as a turn does.
-const REQUESTS: u32 = 16;
-
-/// The hashes of keys, at most 128, and for which connections of a turn's list they were seen.
+/// The hashes of keys, at most 128, and which connections of a turn's list were looked at for them.
 #[derive(Drop)]
 pub(crate) struct Ahead {
     hashes: Vec<u64>,
-    /// The place behind the last of them.
+    /// The place behind the last of these connections.
     next: usize,
 }
 
@@ -28,7 +26,7 @@ impl Ahead {
         })
     }
 
-    /// Whether the connection at a place was seen in this turn.
+    /// Whether the connection at a place was looked at in this turn.
     pub(crate) fn is_seen(&self, at: usize) -> bool {
         at < self.next
     }
@@ -39,17 +37,13 @@ impl Ahead {
         self.next = at;
     }
 
-    /// Whether there is room for keys of the connection at a place, the next one, which is seen then.
-    pub(crate) fn goes_on(&mut self, at: usize) -> bool {
-        if self.is_full() {
-            return false;
-        }
+    /// The connection at a place, the next one, was looked at.
+    pub(crate) fn note_seen(&mut self, at: usize) {
         self.next = at.saturating_add(1);
-        true
     }
 
     /// Whether there is no room for a further key.
-    fn is_full(&self) -> bool {
+    pub(crate) fn is_full(&self) -> bool {
         self.hashes.len() >= KEYS
     }
 
@@ -58,7 +52,7 @@ impl Ahead {
         self.hashes.as_slice()
     }
 
-    /// Adds the keys of a session's next requests, as far as there is room.
+    /// Adds the keys of a session's next requests, of as many as a turn does and as far as there is room.
     pub(crate) fn look(&mut self, session: &Session) {
         let mut at = 0;
         for _ in 0..REQUESTS {

@@ -2,9 +2,9 @@
 ghost use Rattle.std.specs.Prelude.{◌≡◌, ◌*◌, ◌<◌, ℕ, Option, None};
 ghost use Rattle.tc_workers.specs.Homes.{elsewhere, home_of as nth_home};
 
-use crate::shares::Shares;
 use std::alloc::Global;
 use std::sync::Arc;
+use tc_fairness::Shares;
 use tc_users::UserNo;
 
 /// The worker, of so many, that is a user's home: users are dealt out in the order of their numbers.

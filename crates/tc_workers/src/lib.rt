@@ -3,16 +3,16 @@
 //! A `Worker` has a seat of the hall and its connections, each a `Wire` and a `Session`. A turn goes
 //! over those that may have something to do, three times. First each reads once. Then what their
 //! requests seem to ask for is read ahead (`ahead.rt`), and each asks for at most 16 requests, each
-//! command of which is one `Hall::call_with`; one with more than 16,384 bytes to send writes at once.
+//! command of which is one `Hall::call_with`; one with more than 131,072 bytes to send writes at once.
 //! From one call to the next the worker keeps the user's lock (`Lease`), but touches no socket with it.
 //! Last each writes until its wire takes no more, and where nothing is left to do it looks at the wire
-//! once more. A turn is dealt out by user (`dealing.rt`): where several users' connections have
+//! once more. A turn is dealt out by user (tc_fairness): where several users' connections have
 //! something to do, those of one who did more than its share are left out, and go first in the next. So
 //! are those of a user of whose items many are due in a new second: they are taken out in pieces, one a
-//! turn, before that user is served. What is unread of half blocks is bounded by user, too
-//! (`half_blocks.rt`): beyond that one connection is read, and the others wait. A connection whose wire
-//! answered that nothing can be done is left out of the turns until the worker's `Inlet` names it.
-//! Where each user has a worker (`Homes`), a connection is passed on to it after the turn of its login.
+//! turn, before that user is served. What is unread of half blocks is bounded by user, too: beyond that
+//! one connection is read, and the others wait. A connection whose wire answered that nothing can be
+//! done is left out of the turns until the worker's `Inlet` names it. Where each user has a worker
+//! (`Homes`), a connection is passed on to it after the turn of its login.
 //! A `Keeper` does the deferred work of one user after another; its thread also asks a `Source` for the
 //! moment, which may look at the hall by a seat of its own. `run_crew` gives each worker a thread and
 //! the keeper one, and hands all seats and the source back.
@@ -58,14 +58,9 @@
 mod accounts;
 mod admitted;
 mod ahead;
-mod balance;
 mod crew;
-mod dealing;
 mod desk;
-mod did;
 mod gate;
-mod guesses;
-mod half_blocks;
 mod homes;
 mod keeper;
 mod laws;
@@ -75,21 +70,17 @@ mod order;
 mod pace;
 mod seat_of;
 mod service;
-mod shares;
 mod start;
 mod talk;
 mod wire;
 mod work;
 mod worker;
 
-pub use balance::Balance;
 pub use crew::{CrewFault, Returned, Why, run_crew};
-pub use did::{Did, Traffic};
 pub use gate::{Gate, Open, Stage};
 pub use homes::{Homes, home_of};
 pub use keeper::{Keeper, Source};
 pub use laws::{answering, staying_open};
-pub use shares::Shares;
 pub use talk::Talk;
 pub use tc_session::{News, Parts};
 pub use wire::{Change, Got, Inlet, Patience, Put, Remark, Taken, Wire};

@@ -6,12 +6,11 @@ ghost use Rattle.tc_session.specs.TextProtocol.{text_protocol};
 ghost use Rattle.tc_workers.specs.Talks.{Carries};
 ghost use Rattle.tc_workers.specs.Turns.{longest_piece, most_kept};
 
-mod requests;
+pub(crate) mod requests;
 
 use crate::accounts::Holding;
 use crate::admitted::Admitted;
 use crate::ahead::Ahead;
-use crate::guesses::Guesses;
 use crate::homes::Homes;
 use crate::pace::{Onward, Pace};
 use crate::wire::{Change, Got, Put, Remark, Wire};
@@ -19,6 +18,7 @@ use crate::work::Work;
 use std::alloc::Global;
 use std::marker::Model;
 use std::sync::Wait;
+use tc_fairness::Guesses;
 use tc_item::Moment;
 use tc_session::Session;
 use tc_users::UserNo;
@@ -229,11 +229,13 @@ impl<W: Wire + Drop> Link<W> {
         self.session.user()
     }
 
-    /// Adds the keys that its next requests seem to ask for, where it is this user's.
-    pub(crate) fn look_ahead(&self, user: UserNo, ahead: &mut Ahead) {
-        if self.bound() == Some(user) {
+    /// Adds the keys that its next requests seem to ask for, where it is this user's. Whether it is.
+    pub(crate) fn look_ahead(&self, user: UserNo, ahead: &mut Ahead) -> bool {
+        let is_his = self.bound() == Some(user);
+        if is_his {
             ahead.look(&self.session);
         }
+        is_his
     }
 
     /// How many of its bytes are unread.

@@ -167,9 +167,9 @@ impl<W: Wire + Drop> Talk<W> {
         self.link.bound()
     }
 
-    /// Adds the keys that its next requests seem to ask for, where it is this user's.
-    pub(crate) fn look_ahead(&self, user: UserNo, ahead: &mut Ahead) {
-        self.link.look_ahead(user, ahead);
+    /// Adds the keys that its next requests seem to ask for, where it is this user's. Whether it is.
+    pub(crate) fn look_ahead(&self, user: UserNo, ahead: &mut Ahead) -> bool {
+        self.link.look_ahead(user, ahead)
     }
 
     /// How many of its bytes are unread.

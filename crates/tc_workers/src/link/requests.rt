@@ -7,7 +7,6 @@ ghost use Rattle.tc_session.specs.SessionView.{reply_room};
 ghost use Rattle.tc_workers.specs.Talks.{Talks, Answers};
 
 use crate::admitted::Admitted;
-use crate::dealing::SHARE;
 use crate::desk::Desk;
 use crate::gate::{Gate, Stage};
 use crate::link::Link;
@@ -17,6 +16,7 @@ use crate::service::Service;
 use crate::wire::{Remark, Wire};
 use crate::work::Work;
 use std::sync::Wait;
+use tc_fairness::SHARE;
 use tc_grammar::Command;
 use tc_item::Moment;
 use tc_locked::{Clock, Lease, Naming};
@@ -25,11 +25,11 @@ use tc_session::{News, Want};
 use tc_users::UserNo;
 
 /// How many requests are done in a turn at most.
-const REQUESTS: u32 = 16;
+pub(crate) const REQUESTS: u32 = 16;
 
 /// More bytes than these are sent as soon as a turn's requests are done; fewer wait until the other
 /// connections' are done too.
-const EARLY_OUT: usize = 16_384;
+const EARLY_OUT: usize = 131_072;
 
 impl<W: Wire + Drop> Link<W> {
     /// The second part of a turn: does requests, and writes where much waits. Each command is one call of

@@ -8,13 +8,13 @@ ghost use Rattle.tc_workers.specs.SilentTurns.{ServesSilently};
 use crate::accounts::Holding;
 use crate::admitted::Admitted;
 use crate::gate::Gate;
-use crate::half_blocks::Reads;
 use crate::listed::{Leaving, Listed};
 use crate::pace::{Onward, Pace};
 use crate::service::Service;
 use crate::wire::{Patience, Wire};
 use crate::worker::Worker;
 use std::sync::Wait;
+use tc_fairness::Reads;
 use tc_item::Moment;
 use tc_locked::{Clock, Hall, Lease, Naming};
 use tc_plain::Cache;
@@ -143,7 +143,7 @@ impl<W: Wire + Drop, N: Naming> Worker<W, N> {
     }
 
     /// Reads ahead what holds the keys that the next requests seem to ask for, of the connections of one user
-    /// from a place of the list on, where that was not done for this one.
+    /// from a place of the list on up to one of another user, where that was not done for the first of them.
     fn read_ahead<'a, R: Wait, C: Cache, G: Gate>(
         &mut self,
         service: &Service<'a, R, C, N, G>,
@@ -171,30 +171,36 @@ impl<W: Wire + Drop, N: Naming> Worker<W, N> {
         self.links.get(listed.key)?.bound()
     }
 
-    /// Sees which keys the connections of a user from a place of the list on seem to ask for, as many as there
-    /// is room for.
+    /// Sees which keys the connections of a user from a place of the list on seem to ask for, up to one of
+    /// another user and as many as there is room for.
     fn look_ahead(&mut self, user: UserNo, from: usize)
         ensures { self.new ≡ self.old }
     {
         self.ahead.begin(from);
         for at in from..self.listed.len() {
-            self.look_at(user, at);
+            if !self.look_at(user, at) {
+                break;
+            }
         }
     }
 
-    /// Sees which keys the connection at a place of the list seems to ask for, where there is room.
-    fn look_at(&mut self, user: UserNo, at: usize)
+    /// Sees which keys the connection at a place of the list seems to ask for. Whether it is this user's, or is
+    /// left out of the turn, and there was room.
+    fn look_at(&mut self, user: UserNo, at: usize) -> bool
         ensures { self.new ≡ self.old }
     {
-        if !self.ahead.goes_on(at) {
-            return;
+        if self.ahead.is_full() {
+            return false;
         }
         if let Some(listed) = self.listed.get(at)
             && listed.is_admitted()
             && let Some(link) = self.links.get(listed.key)
+            && !link.look_ahead(user, &mut self.ahead)
         {
-            link.look_ahead(user, &mut self.ahead);
+            return false;
         }
+        self.ahead.note_seen(at);
+        true
     }
 
     /// The requests of the connection at a place of the list, unless its user is to wait.

@@ -1,8 +1,8 @@
 -- How much of requests that are not whole yet is kept for the users of a worker. Source: this project's own.
 use Rattle.std.specs.Prelude.{ℕ, ◌+◌, ◌-◌, ◌^◌, ◌==◌, min, List, Option, None, Some, slice_index_or, slice_set, if◌then◌else◌}
-use Rattle.tc_workers.specs.declared.half_blocks.Part.{Part}
-use Rattle.tc_workers.specs.declared.half_blocks.Lead.{Lead}
-use Rattle.tc_workers.specs.declared.half_blocks.Parts.{Parts}
+use Rattle.tc_fairness.specs.declared.half_blocks.Part.{Part}
+use Rattle.tc_fairness.specs.declared.half_blocks.Lead.{Lead}
+use Rattle.tc_fairness.specs.declared.half_blocks.Parts.{Parts}
 
 -- a connection of which no more bytes are unread is always read
 abbrev pub least_part : ℕ

@@ -1,7 +1,7 @@
 //! Refused logins of a connection.
 ghost use Rattle.std.specs.Prelude.{◌≡◌, ◌<◌, ◌≤◌, ◌+◌, ◌↔◌, true, false, Some, None};
 ghost use Rattle.std.specs.Prelude.{IsTrue, IsSome, MatchOption};
-ghost use Rattle.tc_workers.specs.Guesses.{free, held_seconds};
+ghost use Rattle.tc_fairness.specs.Guesses.{free, held_seconds};
 
 use tc_item::Moment;
 
@@ -13,14 +13,14 @@ const HELD_SECONDS: u64 = 2;
 
 /// How many logins of a connection were refused, and since when the reply to the last one waits.
 #[derive(Clone, Copy, Debug)]
-pub(crate) struct Guesses {
+pub struct Guesses {
     refused: u32,
     waits: Option<Moment>,
 }
 
 impl Guesses {
     /// No login was refused.
-    pub(crate) fn none() -> Guesses
+    pub fn none() -> Guesses
         ensures { (result.refused ≡ 0) × (result.waits ≡ None) }
     {
         Guesses {
@@ -30,7 +30,7 @@ impl Guesses {
     }
 
     /// A login was refused: from the fourth on the reply waits.
-    pub(crate) fn add(&mut self, now: Moment)
+    pub fn add(&mut self, now: Moment)
         ensures first { self.old.refused < free → self.new.waits ≡ self.old.waits }
         ensures fourth { free ≤ self.old.refused → self.new.waits ≡ Some now }
     {
@@ -41,14 +41,14 @@ impl Guesses {
     }
 
     /// Whether a reply waits.
-    pub(crate) fn waits(&self) -> bool
+    pub fn waits(&self) -> bool
         ensures { IsTrue result ↔ IsSome self.now.waits }
     {
         self.waits.is_some()
     }
 
     /// Ends the wait once a second passed. Whether a reply still waits.
-    pub(crate) fn still_waits(&mut self, now: Moment) -> bool
+    pub fn still_waits(&mut self, now: Moment) -> bool
         ensures until { MatchOption self.old.waits (result ≡ false)
             (λ since. IsTrue result ↔ (now < since + held_seconds)) }
         ensures ended { result ≡ false → self.new.waits ≡ None }

@@ -9,7 +9,7 @@ const GOLDEN: u32 = 2_654_435_769;
 
 /// The nth helper of a home, of so many workers: the others in the order of their numbers, from the home
 /// on, beginning with the one that is its first.
-pub(crate) fn helper_of(home: usize, first: usize, nth: usize, workers: usize) -> usize {
+pub fn helper_of(home: usize, first: usize, nth: usize, workers: usize) -> usize {
     let others = workers.saturating_sub(1).max(1);
     let place = first.wrapping_add(nth) % others;
     home.wrapping_add(place).wrapping_add(1) % workers.max(1)
@@ -53,7 +53,7 @@ impl Shares {
     }
 
     /// Which helper of a home serves a connection; `None` where the home itself does.
-    pub(crate) fn helper(&self, home: usize, conn: u32) -> Option<usize> {
+    pub fn helper(&self, home: usize, conn: u32) -> Option<usize> {
         let share = self.shares.get(home)?;
         let width = share.width.load(SeqCst).min(u64::from(u32::MAX));
         let place = u64::from(conn.wrapping_mul(GOLDEN)).wrapping_mul(width) >> 32;

@@ -2,8 +2,8 @@
 use Rattle.std.specs.Prelude.{ℕ, ◌+◌, ◌-◌, ◌*◌, ◌^◌, min, max, List, slice_index_or, slice_set}
 use Rattle.tc_plain.specs.declared.shared.progress.Progress.{Progress}
 use Rattle.tc_plain.specs.declared.shared.progress.Progress.TheVariants.{Done, MoreLeft}
-use Rattle.tc_workers.specs.declared.dealing.Account.{Account}
-use Rattle.tc_workers.specs.declared.dealing.Backlog.{Backlog}
+use Rattle.tc_fairness.specs.declared.dealing.Account.{Account}
+use Rattle.tc_fairness.specs.declared.dealing.Backlog.{Backlog}
 
 -- the work that a turn pays each user
 abbrev pub share : ℕ

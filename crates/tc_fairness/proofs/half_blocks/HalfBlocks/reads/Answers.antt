@@ -1,8 +1,8 @@
 use Rattle.std.proofs.Common.{◌≡◌, ◌+◌, ◌<◌, MatchOption, subst, arith}
 use Rattle.std.proofs.lemmas.Grind.{common_steps}
-use Rattle.tc_workers.specs.declared.half_blocks.Parts.{Parts}
-use Rattle.tc_workers.specs.HalfBlocks.{lead_seconds, parts_of}
-use Rattle.tc_workers.proofs.half_blocks.HalfBlocks.reads.Goals as goal
+use Rattle.tc_fairness.specs.declared.half_blocks.Parts.{Parts}
+use Rattle.tc_fairness.specs.HalfBlocks.{lead_seconds, parts_of}
+use Rattle.tc_fairness.proofs.half_blocks.HalfBlocks.reads.Goals as goal
 
 pub returns-in-Some-clause-gives_way : goal.returns-in-Some-clause-gives_way
 returns-in-Some-clause-gives_way c = λ other e.

@@ -12,21 +12,21 @@
 //! What waits to be sent to a user's connections is summed. Where it comes to more than the user may have,
 //! each of them with more than a few bytes that wait is full: it reads nothing and does no request.
 ghost use Rattle.std.specs.Prelude.{◌≡◌, ◌≢◌, ◌<◌, ◌↔◌, ◌+◌, ◌-◌, ◌^◌, ◌≤◌, min, IsTrue, IfSome, slice_set};
-ghost use Rattle.tc_workers.specs.Dealing.{idle, paid_at, charged, after_progress, account_of};
-ghost use Rattle.tc_workers.specs.Dealing.{least_out, most_out, with_backlog, without_backlog};
+ghost use Rattle.tc_fairness.specs.Dealing.{idle, paid_at, charged, after_progress, account_of};
+ghost use Rattle.tc_fairness.specs.Dealing.{least_out, most_out, with_backlog, without_backlog};
 
 use std::alloc::Global;
 use tc_item::Moment;
 use tc_plain::Progress;
 
 /// What a turn pays each user, in quarters of a microsecond: half a millisecond.
-pub(crate) const SHARE: u64 = 2_000;
+pub const SHARE: u64 = 2_000;
 
 /// The most that is done in a turn of one user alone.
 const ALONE: u64 = 8_000;
 
 /// How many pieces of deferred work are done at a time before a user is served in a new second.
-pub(crate) const PIECES: u32 = 2_048;
+pub const PIECES: u32 = 2_048;
 
 /// What so many cost: a third of a microsecond each.
 const PIECES_COST: u64 = 2_730;
@@ -35,16 +35,16 @@ const PIECES_COST: u64 = 2_730;
 const MOST_OUT: usize = 1_048_576;
 
 /// A connection to which no more wait is never full.
-pub(crate) const LEAST_OUT: usize = 16_384;
+pub const LEAST_OUT: usize = 16_384;
 
 /// How many bytes may wait to be sent to all connections of a user before those with more are full.
 const MOST_OF_USER: usize = 8_388_608;
 
 /// How many bytes wait to be sent to a connection, and whose it is.
 #[derive(Clone, Copy, Debug)]
-pub(crate) struct Backlog {
-    pub(crate) user: usize,
-    pub(crate) bytes: usize,
+pub struct Backlog {
+    pub user: usize,
+    pub bytes: usize,
 }
 
 /// What a user did that no share has paid, how far its cache is maintained, and what waits for it.
@@ -143,7 +143,7 @@ impl Account {
 
 /// The accounts of a worker's users. One who has none, since memory was refused, is never left out.
 #[derive(Drop)]
-pub(crate) struct Dealing {
+pub struct Dealing {
     /// By the users' numbers; the first is that of all who have not logged in.
     accounts: Vec<Account>,
     /// How many turns began.
@@ -155,7 +155,7 @@ pub(crate) struct Dealing {
 
 impl Dealing {
     /// Before the first turn.
-    pub(crate) fn new(alloc: Global) -> Dealing {
+    pub fn new(alloc: Global) -> Dealing {
         Dealing {
             accounts: Vec::new(alloc),
             turn: 0,
@@ -164,12 +164,12 @@ impl Dealing {
     }
 
     /// The turn that began last.
-    pub(crate) fn turn(&self) -> u64 {
+    pub fn turn(&self) -> u64 {
         self.turn
     }
 
     /// Begins a turn in which `sole` alone has something to do, or several users of so many.
-    pub(crate) fn begin(&mut self, users: usize, sole: Option<usize>)
+    pub fn begin(&mut self, users: usize, sole: Option<usize>)
         ensures alone { IfSome sole (λ user. (account_of self.new.accounts.items user).owed ≡ 0) }
     {
         self.turn = self.turn.saturating_add(1);
@@ -200,7 +200,7 @@ impl Dealing {
     }
 
     /// Whether a connection of this user is served now.
-    pub(crate) fn serves(&mut self, user: usize) -> bool
+    pub fn serves(&mut self, user: usize) -> bool
         ensures paid { self.new.accounts.items ≡ slice_set self.old.accounts.items user
             (paid_at self.old.turn (account_of self.old.accounts.items user)) }
         ensures left { IsTrue result
@@ -216,7 +216,7 @@ impl Dealing {
     }
 
     /// Whether a user's cache may have deferred work left at this moment.
-    pub(crate) fn is_behind(&self, user: usize, now: Moment) -> bool
+    pub fn is_behind(&self, user: usize, now: Moment) -> bool
         ensures { IsTrue result → (account_of self.now.accounts.items user).kept_up ≢ now }
     {
         match self.accounts.get(user) {
@@ -226,7 +226,7 @@ impl Dealing {
     }
 
     /// Notes how far maintenance of a user's cache came at this moment.
-    pub(crate) fn note_progress(&mut self, user: usize, now: Moment, progress: Progress)
+    pub fn note_progress(&mut self, user: usize, now: Moment, progress: Progress)
         ensures { self.new.accounts.items ≡ slice_set self.old.accounts.items user
             (after_progress now progress (account_of self.old.accounts.items user)) }
     {
@@ -236,7 +236,7 @@ impl Dealing {
     }
 
     /// With how many bytes that wait to be sent this connection is not full yet.
-    pub(crate) fn most_out(&self, backlog: Backlog) -> usize
+    pub fn most_out(&self, backlog: Backlog) -> usize
         ensures most { result
             ≡ most_out (account_of self.now.accounts.items backlog.user).backlog backlog.bytes }
         ensures least { least_out ≤ result }
@@ -248,7 +248,7 @@ impl Dealing {
     }
 
     /// A connection came.
-    pub(crate) fn enter(&mut self, backlog: Backlog) {
+    pub fn enter(&mut self, backlog: Backlog) {
         self.open(backlog.user);
         self.add(backlog);
     }
@@ -263,7 +263,7 @@ impl Dealing {
     }
 
     /// A connection goes.
-    pub(crate) fn leave(&mut self, backlog: Backlog)
+    pub fn leave(&mut self, backlog: Backlog)
         ensures { self.new.accounts.items ≡ without_backlog backlog self.old.accounts.items }
     {
         if let Some(account) = self.accounts.get_mut(backlog.user) {
@@ -272,7 +272,7 @@ impl Dealing {
     }
 
     /// What waits for a connection was so much, and is so much now.
-    pub(crate) fn note_backlog(&mut self, before: Backlog, after: Backlog)
+    pub fn note_backlog(&mut self, before: Backlog, after: Backlog)
         ensures { self.new.accounts.items
             ≡ with_backlog after (without_backlog before self.old.accounts.items) }
     {
@@ -281,7 +281,7 @@ impl Dealing {
     }
 
     /// Notes what was done for a user.
-    pub(crate) fn charge(&mut self, user: usize, work: u64)
+    pub fn charge(&mut self, user: usize, work: u64)
         ensures { self.new.accounts.items ≡ slice_set self.old.accounts.items user
             (charged work (account_of self.old.accounts.items user)) }
     {

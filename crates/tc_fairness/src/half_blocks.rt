@@ -6,8 +6,8 @@
 //! whole. One that leads and of which nothing more comes gives way to another that waits, and is to be
 //! closed.
 ghost use Rattle.std.specs.Prelude.{◌≡◌, ◌≢◌, ◌⊎◌, ◌<◌, ◌≤◌, ◌+◌, ◌-◌, ◌^◌, ℕ, min, MatchOption};
-ghost use Rattle.tc_workers.specs.HalfBlocks.{least_part, most_parts, lead_seconds, lead_but, lead_heard};
-ghost use Rattle.tc_workers.specs.HalfBlocks.{parts_of, with_part, without_part, without_lead, with_heard};
+ghost use Rattle.tc_fairness.specs.HalfBlocks.{least_part, most_parts, lead_seconds, lead_but, lead_heard};
+ghost use Rattle.tc_fairness.specs.HalfBlocks.{parts_of, with_part, without_part, without_lead, with_heard};
 
 use std::alloc::Global;
 use tc_item::Moment;
@@ -23,10 +23,10 @@ const SECONDS: u64 = 5;
 
 /// How many bytes of a connection are unread, its key, and whose it is.
 #[derive(Clone, Copy, Debug)]
-pub(crate) struct Part {
-    pub(crate) user: usize,
-    pub(crate) key: usize,
-    pub(crate) bytes: usize,
+pub struct Part {
+    pub user: usize,
+    pub key: usize,
+    pub bytes: usize,
 }
 
 /// The one connection of a user that is read while others wait, and when bytes of it last came, or it
@@ -46,7 +46,7 @@ struct Parts {
 
 /// Whether a connection is read.
 #[derive(Clone, Copy, Debug, PartialEq, Eq)]
-pub(crate) enum Reads {
+pub enum Reads {
     Yes,
     /// In the place of the one under this key, of which nothing more comes.
     For(usize),
@@ -132,14 +132,14 @@ impl Parts {
 /// The unread bytes of a worker's users. A user of whom none are summed, since memory was refused, is
 /// always read.
 #[derive(Drop)]
-pub(crate) struct HalfBlocks {
+pub struct HalfBlocks {
     /// By the users' numbers; the first is that of all who have not logged in.
     users: Vec<Parts>,
 }
 
 impl HalfBlocks {
     /// Of a worker with no connection.
-    pub(crate) fn new(alloc: Global) -> HalfBlocks {
+    pub fn new(alloc: Global) -> HalfBlocks {
         HalfBlocks {
             users: Vec::new(alloc),
         }
@@ -147,7 +147,7 @@ impl HalfBlocks {
 
     /// Sums are kept of so many users, and of those who have not logged in. Where memory is refused, it is
     /// asked for again in the next turn.
-    pub(crate) fn open(&mut self, users: usize) {
+    pub fn open(&mut self, users: usize) {
         let users = users.saturating_add(1);
         if self.users.len() < users {
             let _ = self.users.resize(users, Parts::none());
@@ -155,7 +155,7 @@ impl HalfBlocks {
     }
 
     /// Whether a connection is read at this moment.
-    pub(crate) fn reads(&mut self, part: Part, now: Moment) -> Reads
+    pub fn reads(&mut self, part: Part, now: Moment) -> Reads
         ensures least { part.bytes ≤ least_part → result ≡ Reads.Yes }
         ensures few { (parts_of self.old.users.items part.user).bytes - part.bytes ≤ most_parts
             → result ≡ Reads.Yes }
@@ -177,7 +177,7 @@ impl HalfBlocks {
     }
 
     /// A connection came.
-    pub(crate) fn enter(&mut self, part: Part) {
+    pub fn enter(&mut self, part: Part) {
         self.open(part.user);
         self.add(part);
     }
@@ -219,7 +219,7 @@ impl HalfBlocks {
     }
 
     /// A connection goes.
-    pub(crate) fn leave(&mut self, part: Part)
+    pub fn leave(&mut self, part: Part)
         ensures { self.new.users.items
             ≡ without_lead part (without_part part self.old.users.items) }
     {
@@ -228,7 +228,7 @@ impl HalfBlocks {
     }
 
     /// So much of a connection was unread, and so much is now. With a few bytes it leads no more.
-    pub(crate) fn note(&mut self, before: Part, after: Part, now: Moment)
+    pub fn note(&mut self, before: Part, after: Part, now: Moment)
         ensures came { least_part < after.bytes → after.user ≡ before.user
             → before.bytes < after.bytes → self.new.users.items
             ≡ with_heard after now (with_part after (without_part before self.old.users.items)) }

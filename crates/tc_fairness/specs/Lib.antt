@@ -1,0 +1,3 @@
+pub mod Dealing
+pub mod HalfBlocks
+pub mod Guesses
