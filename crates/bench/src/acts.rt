@@ -12,7 +12,7 @@ use tc_plain::Cache;
 use tc_stats::Outcome;
 
 /// How many hits an outcome has.
-pub(crate) fn hits_of(outcome: &Outcome) -> u32 {
+fn hits_of(outcome: &Outcome) -> u32 {
     match outcome {
         Outcome::Values(hits) => u32::try_from(hits.len()).unwrap_or(u32::MAX),
         _ => 0,

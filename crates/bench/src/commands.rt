@@ -8,8 +8,8 @@ use tc_item::{Blob, Key, Keys, NoMemory};
 /// The bytes of each item's data.
 const DATA: usize = 100;
 
-/// The second at which all items are due. What is timed before happens at the first one.
-pub(crate) const DUE: u64 = 60;
+/// The second at which all items are due. What is timed happens before it.
+const DUE: u64 = 60;
 
 /// A prime, so that its multiples pass over each place of a span once.
 const STRIDE: u64 = 2_654_435_761;

@@ -13,7 +13,7 @@ pub(crate) enum Fault {
     NoMemory,
     /// The clock, the arguments or standard output failed.
     System,
-    /// A key or a user that is made to be measured was refused.
+    /// A key that is made to be measured was refused.
     Unfit,
 }
 
@@ -21,10 +21,10 @@ impl Fault {
     /// The line on standard error.
     pub(crate) fn text(self) -> &'static str {
         match self {
-            Fault::Usage => "usage: bench [partition|hall [--measure]]",
+            Fault::Usage => "usage: bench [--measure]",
             Fault::NoMemory => "bench: out of memory",
             Fault::System => "bench: the clock, the arguments or standard output failed",
-            Fault::Unfit => "bench: a key or a user was refused",
+            Fault::Unfit => "bench: a key was refused",
         }
     }
 

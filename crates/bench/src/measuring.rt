@@ -1,9 +1,9 @@
-//! What all parts share: how often work is done, what a call takes, and the lines of output.
+//! How often work is done, what a call takes, and the lines of output.
 
 use crate::fault::Fault;
 use std::time::Duration;
 
-/// How much of a part is done.
+/// How much is done.
 #[derive(Clone, Copy)]
 pub(crate) enum Extent {
     /// A little, of which only counts are printed.

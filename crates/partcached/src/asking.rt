@@ -114,59 +114,56 @@ fn listen_arg<'a>(alloc: Global) -> Result<Arg<'a>, AllocError> {
 
 /// Whether the hall is audited at the end.
 fn audit_arg<'a>(alloc: Global) -> Result<Arg<'a>, AllocError> {
-    let audit = Arg::new(alloc, "audit")
-        .long("audit")
+    let help = "At the end do each user's last calls again on the definition";
+    flag(alloc, "audit", help).requires_arg("until")
+}
+
+/// A word that takes no value.
+fn flag<'a>(alloc: Global, name: &'a str, help: &'a str) -> Arg<'a> {
+    Arg::new(alloc, name)
+        .long(name)
         .action(ArgAction::SetTrue)
-        .help("At the end do each user's last calls again on the definition");
-    audit.requires_arg("until")
+        .help(help)
+}
+
+/// After how many connections the server ends.
+fn until_arg<'a>(alloc: Global) -> Arg<'a> {
+    Arg::new(alloc, "until")
+        .long("until")
+        .value_name("N")
+        .value_parser(value_parser!(u32).range(1..))
+        .help("End once N connections were closed")
 }
 
 /// The same with what is asked of a demo.
 fn with_demo<'a>(alloc: Global, serve: Command<'a>) -> Result<Command<'a>, AllocError> {
-    let demo = Arg::new(alloc, "demo")
-        .long("demo")
-        .action(ArgAction::SetTrue)
-        .help("Serve two users of the program's own, on a loopback address, without a file");
-    let listen = listen_arg(alloc)?;
-    serve.arg(demo)?.arg(listen)
+    let help = "Serve two users of the program's own, on a loopback address, without a file";
+    let serve = serve.arg(flag(alloc, "demo", help))?;
+    serve.arg(listen_arg(alloc)?)
 }
 
 /// The same with what is asked of the server's end.
 fn with_end<'a>(alloc: Global, serve: Command<'a>) -> Result<Command<'a>, AllocError> {
-    let until = Arg::new(alloc, "until")
-        .long("until")
-        .value_name("N")
-        .value_parser(value_parser!(u32).range(1..))
-        .help("End once N connections were closed");
-    let audit = audit_arg(alloc)?;
-    serve.arg(until)?.arg(audit)
+    let serve = serve.arg(until_arg(alloc))?;
+    serve.arg(audit_arg(alloc)?)
 }
 
 /// `serve` and its arguments.
 fn serve_command<'a>(alloc: Global) -> Result<Command<'a>, AllocError> {
-    let spread = Arg::new(alloc, "spread")
-        .long("spread")
-        .action(ArgAction::SetTrue)
-        .help("Leave each connection to the worker that it came to");
-    let quiet = Arg::new(alloc, "quiet")
-        .long("quiet")
-        .action(ArgAction::SetTrue)
-        .help("Print no line for what becomes of a connection");
-    let settings = settings_arg(alloc)?;
     let serve = Command::new(alloc, "serve").about("Listen, and serve memcached's clients");
-    let serve = with_demo(alloc, serve.arg(settings)?)?;
-    with_end(alloc, serve.arg(spread)?)?.arg(quiet)
+    let serve = with_demo(alloc, serve.arg(settings_arg(alloc)?)?)?;
+    let help = "Leave each connection to the worker that it came to";
+    let serve = with_end(alloc, serve.arg(flag(alloc, "spread", help))?)?;
+    let help = "Print no line for what becomes of a connection";
+    serve.arg(flag(alloc, "quiet", help))
 }
 
 /// `run` and its argument.
 fn run_command<'a>(alloc: Global) -> Result<Command<'a>, AllocError> {
-    let reference = Arg::new(alloc, "reference")
-        .long("reference")
-        .action(ArgAction::SetTrue)
-        .help("Run it over the plain cache, which is the definition's reading, and slow");
+    let help = "Run it over the plain cache, which is the definition's reading, and slow";
     Command::new(alloc, "run")
         .about("Run the script on standard input, and print what each connection was sent")
-        .arg(reference)
+        .arg(flag(alloc, "reference", help))
 }
 
 /// `check` and its argument.
@@ -178,18 +175,13 @@ fn check_command<'a>(alloc: Global) -> Result<Command<'a>, AllocError> {
 
 /// What the command line may be.
 fn command<'a>(alloc: Global) -> Result<Command<'a>, AllocError> {
-    let (run, check, serve) = (
-        run_command(alloc)?,
-        check_command(alloc)?,
-        serve_command(alloc)?,
-    );
-    Command::new(alloc, "partcached")
-        .version("1.11.0")
+    let program = Command::new(alloc, "partcached")
+        .version("1.12.0")
         .about("A memcached server in which each user has a partition of its own")
-        .subcommand_required(true)
-        .subcommand(run)?
-        .subcommand(check)?
-        .subcommand(serve)
+        .subcommand_required(true);
+    let program = program.subcommand(run_command(alloc)?)?;
+    let program = program.subcommand(check_command(alloc)?)?;
+    program.subcommand(serve_command(alloc)?)
 }
 
 /// A copy of an argument's text.

@@ -65,6 +65,7 @@ pub fn prepare(
     at_end: AtEnd,
 ) -> Result<Beginning<Fast>, Unready> {
     let alloc = rt.alloc();
+    let opened = Opened::new(alloc)?;
     let mut settings = Settings::from_toml(alloc, text)?;
     if let Source::Demo(listen) = source {
         settings.listen = Address::copy(alloc, listen.as_str())?;
@@ -73,7 +74,6 @@ pub fn prepare(
         return Err(Unready::NoMemory);
     };
     let caches = begin_all::<Fast>(alloc, &settings.users, hasher, at_end.journal())?;
-    let opened = Opened::new(alloc)?;
     Ok(Beginning {
         settings,
         opened,

@@ -192,21 +192,36 @@ pub struct Ready<'a> {
     pub printing: Printing<'a>,
 }
 
-/// Makes ready what is asked for, and warns of fields of the settings that mean nothing.
-pub fn make_ready<'a>(rt: &'a HostRuntime, serving: &'a Serving) -> Result<Ready<'a>, Unready> {
+/// What a server of these settings says on standard output.
+fn printing_of<'a>(
+    rt: &'a HostRuntime,
+    serving: &'a Serving,
+    settings: &Settings,
+) -> Result<Printing<'a>, AllocError> {
+    let alloc = rt.alloc();
+    Ok(Printing {
+        rt,
+        source: &serving.source,
+        quiet: serving.quiet,
+        listen: String::from_str(alloc, settings.listen.as_str())?,
+        metrics: metrics_of(alloc, settings)?,
+        workers: settings.workers,
+        names: names_of(alloc, &settings.users)?,
+    })
+}
+
+/// What a server begins with; fields of its settings that mean nothing are warned of.
+fn begin(rt: &HostRuntime, serving: &Serving) -> Result<Beginning<Fast>, Unready> {
     let source = &serving.source;
     let text = read_text(rt, source)?;
     warn_aside(rt, text.as_str())?;
-    let beginning = prepare(rt, text.as_str(), source, serving.at_end)?;
-    let printing = Printing {
-        rt,
-        source,
-        quiet: serving.quiet,
-        listen: String::from_str(rt.alloc(), beginning.settings.listen.as_str())?,
-        metrics: metrics_of(rt.alloc(), &beginning.settings)?,
-        workers: beginning.settings.workers,
-        names: names_of(rt.alloc(), &beginning.settings.users)?,
-    };
+    prepare(rt, text.as_str(), source, serving.at_end)
+}
+
+/// Makes ready what is asked for.
+pub fn make_ready<'a>(rt: &'a HostRuntime, serving: &'a Serving) -> Result<Ready<'a>, Unready> {
+    let beginning = begin(rt, serving)?;
+    let printing = printing_of(rt, serving, &beginning.settings)?;
     printing.note_no_address();
     Ok(Ready {
         beginning,

@@ -52,7 +52,7 @@ impl Did {
     }
 
     /// Of a thousand parts of the time, those in which a worker did not wait.
-    pub fn busy(&self, worker: usize) -> u64 {
+    pub(crate) fn busy(&self, worker: usize) -> u64 {
         match self.busy.get(worker) {
             Some(busy) => *busy,
             None => 0,
@@ -68,7 +68,7 @@ impl Did {
     }
 
     /// How many thousandths of its time a worker had for the users of a home.
-    pub fn load_on(&self, worker: usize, home: usize) -> u64 {
+    pub(crate) fn load_on(&self, worker: usize, home: usize) -> u64 {
         let mut all = 0u64;
         for other in 0..self.workers {
             all = all.saturating_add(self.traffic(worker, other).calls);
@@ -78,7 +78,7 @@ impl Did {
     }
 
     /// The same of all workers.
-    pub fn load(&self, home: usize) -> u64 {
+    pub(crate) fn load(&self, home: usize) -> u64 {
         let mut all = 0u64;
         for worker in 0..self.workers {
             all = all.saturating_add(self.load_on(worker, home));
@@ -87,7 +87,7 @@ impl Did {
     }
 
     /// How many bytes came from the users of a home and went to them.
-    pub fn bytes(&self, home: usize) -> u64 {
+    pub(crate) fn bytes(&self, home: usize) -> u64 {
         let mut all = 0u64;
         for worker in 0..self.workers {
             all = all.saturating_add(self.traffic(worker, home).bytes);

@@ -9,7 +9,7 @@ const GOLDEN: u32 = 2_654_435_769;
 
 /// The nth helper of a home, of so many workers: the others in the order of their numbers, from the home
 /// on, beginning with the one that is its first.
-pub fn helper_of(home: usize, first: usize, nth: usize, workers: usize) -> usize {
+pub(crate) fn helper_of(home: usize, first: usize, nth: usize, workers: usize) -> usize {
     let others = workers.saturating_sub(1).max(1);
     let place = first.wrapping_add(nth) % others;
     home.wrapping_add(place).wrapping_add(1) % workers.max(1)

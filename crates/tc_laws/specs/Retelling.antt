@@ -10,7 +10,7 @@ use Rattle.tc_locked.specs.declared.view.Note.{Note}
 use Rattle.tc_locked.specs.Views.{of_user}
 use Rattle.tc_locked.specs.Books.{events_of}
 use Rattle.tc_locked.specs.KeptBooks.{Terms, KeptState, IsKept, entries_in}
-use Rattle.tc_workers.specs.Talks.{Move, Came, Asked, Did, Undone, Declined, Ended, LinkState, Goes, happening_of, notes_in}
+use Rattle.tc_links.specs.Talks.{Move, Came, Asked, Did, Undone, Declined, Ended, LinkState, Goes, happening_of, notes_in}
 use Rattle.tc_workers.specs.Answering.{IsPart}
 use Rattle.tc_core.specs.ServerMachine.{server_machine}
 use Rattle.tc_laws.specs.Numbers.{IsAmong, AreDistinct, AreOf}

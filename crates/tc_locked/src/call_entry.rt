@@ -36,6 +36,8 @@ pub struct CallEntry {
 
 const _: () = prove!(size_of::<CallEntry>() == 120);
 
+const _: () = prove!(size_of::<Command>() == 88);
+
 impl CallEntry {
     /// The entry of these numbers.
     pub(crate) fn of(numbers: Numbers, command: KeptCommand, outcome: Outcome) -> CallEntry
@@ -53,12 +55,13 @@ impl CallEntry {
     }
 }
 
-/// How many bytes an entry takes by itself and its command beside it, and each key and each hit of a look-up
-/// of several.
+/// How many bytes an entry takes by itself.
 const ENTRY: u64 = 120;
 
+/// How many bytes its command takes beside it.
 const COMMAND: u64 = 88;
 
+/// How many bytes each key and each hit take of a look-up of several.
 const KEY: u64 = 24;
 
 const HIT: u64 = 56;

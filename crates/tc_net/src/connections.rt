@@ -7,8 +7,8 @@ use std::net::SocketAddr;
 use std::sync::Wait;
 use std::sync::atomic::AtomicU64;
 use std::sync::atomic::Ordering::SeqCst;
+use tc_links::{News, Remark};
 use tc_users::{ConnectionLimits, LimitsByUser, UserNo};
-use tc_workers::{News, Remark};
 
 /// The most open connections.
 const MOST_OPEN: usize = 1_024;

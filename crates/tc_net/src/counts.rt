@@ -3,8 +3,8 @@ use std::alloc::{AllocError, Global};
 use std::sync::atomic::AtomicU64;
 use std::sync::atomic::Ordering::SeqCst;
 use tc_fairness::Traffic;
+use tc_links::home_of;
 use tc_users::UserNo;
-use tc_workers::home_of;
 
 /// How many microseconds a look at the poll takes by itself.
 const LOOKING: u64 = 5;

@@ -16,7 +16,7 @@ use std::io::ErrorKind;
 use std::net::Net;
 use std::sync::{Arc, Wait};
 use std::time::{Clock, Duration, Instant};
-use tc_workers::{Change, Inlet, Patience, Taken, Talk};
+use tc_links::{Change, Inlet, Patience, Taken, Talk};
 
 /// The most events of one wait.
 const EVENTS: usize = 256;
@@ -76,6 +76,28 @@ fn bits_of(event: &Event) -> u64 {
     bits
 }
 
+/// The readiness of a worker of so many.
+fn share_readiness(alloc: Global, workers: usize) -> io::Result<Arc<Readiness, Global>> {
+    match Arc::new(alloc, Readiness::new(alloc, PLACES, workers)?) {
+        Ok(readiness) => Ok(readiness),
+        Err(_) => Err(io::Error::from(ErrorKind::OutOfMemory)),
+    }
+}
+
+/// Room for the events of one wait, and for the keys of all places.
+fn make_room(alloc: Global) -> Result<(Events, Vec<usize>), AllocError> {
+    let woken = Vec::with_capacity(alloc, PLACES)?;
+    Ok((Events::with_capacity(alloc, EVENTS)?, woken))
+}
+
+/// A poll, and the two ends of what is handed to its worker.
+fn open_poll<N: Net + AllocGlobal>(net: &N) -> io::Result<(Poll, Outlet, Intake)> {
+    let poll = Poll::new(net)?;
+    let waker = Waker::new(poll.registry(), Token(usize::MAX))?;
+    let (outlet, intake) = handover(net.alloc(), waker)?;
+    Ok((poll, outlet, intake))
+}
+
 impl<R: Wait + Clock + Drop> EventLoop<R> {
     /// The inlet, of one of so many workers, that passes no connection on, and where its worker's
     /// connections are put.
@@ -87,14 +109,9 @@ impl<R: Wait + Clock + Drop> EventLoop<R> {
         workers: usize,
     ) -> io::Result<(EventLoop<R>, Outlet)> {
         let alloc = net.alloc();
-        let poll = Poll::new(net)?;
-        let waker = Waker::new(poll.registry(), Token(usize::MAX))?;
-        let (outlet, intake) = handover(alloc, waker)?;
-        let events = Events::with_capacity(alloc, EVENTS)?;
-        let woken = Vec::with_capacity(alloc, PLACES)?;
-        let Ok(readiness) = Arc::new(alloc, Readiness::new(alloc, PLACES, workers)?) else {
-            return Err(io::Error::from(ErrorKind::OutOfMemory));
-        };
+        let readiness = share_readiness(alloc, workers)?;
+        let (events, woken) = make_room(alloc)?;
+        let (poll, outlet, intake) = open_poll(net)?;
         let event_loop = EventLoop {
             rt,
             begun,

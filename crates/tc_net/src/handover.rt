@@ -10,7 +10,7 @@ use mio::Waker;
 use mio::net::TcpStream;
 use std::alloc::{AllocError, Global};
 use std::sync::{Arc, Wait};
-use tc_workers::Talk;
+use tc_links::Talk;
 
 /// The most connections that wait for one worker.
 const MOST_WAITING: usize = 1_024;

@@ -1,5 +1,5 @@
 //! A server from its settings to its end.
-ghost use Rattle.std.specs.Prelude.{◌≡◌, ◌<◌, ◌+◌, map};
+ghost use Rattle.std.specs.Prelude.{◌≡◌, ◌<◌, ◌+◌, map, IfOk};
 ghost use Rattle.tc_fresh.specs.Beginning.{fresh_cache};
 ghost use Rattle.tc_net.specs.Ends.{journal_of, page_length};
 
@@ -21,13 +21,14 @@ use std::net::{Net, SocketAddr};
 use std::sync::{Arc, Wait};
 use std::thread::Threads;
 use std::time::{Clock as Time, Instant};
-use std::{io, thread};
+use std::{io, mem, thread};
 use tc_fairness::Shares;
 use tc_item::NoMemory;
+use tc_links::{Homes, Open};
 use tc_locked::{Clock, Hall, Naming, Seat};
 use tc_plain::Cache;
-use tc_users::{Address, Settings, Users};
-use tc_workers::{Homes, Keeper, Open, Returned, Worker, run_crew};
+use tc_users::{Address, LimitsByUser, Settings, Users};
+use tc_workers::{Keeper, Returned, Worker, run_crew};
 
 /// Why a server doesn't serve.
 #[derive(Debug, Drop, Clone, Copy, PartialEq, Eq)]
@@ -115,6 +116,22 @@ struct Staff<N: Naming, R: Wait + Time + Drop> {
     outlets: Vec<Outlet>,
 }
 
+impl<N: Naming, R: Wait + Time + Drop> Staff<N, R> {
+    /// One more worker. A refusal changes nothing.
+    fn add(&mut self, hired: Hired<N, R>) -> Result<(), AllocError> {
+        self.outlets.reserve(1)?;
+        self.crew.reserve(1)?;
+        let Hired {
+            worker,
+            event_loop,
+            outlet,
+        } = hired;
+        self.outlets.push_reserved(outlet);
+        self.crew.push_reserved((worker, event_loop));
+        Ok(())
+    }
+}
+
 /// A worker for each seat.
 fn hire_all<N: Naming, R: Wait + Net + Time + AllocGlobal + Copy + Drop>(
     rt: &R,
@@ -124,19 +141,15 @@ fn hire_all<N: Naming, R: Wait + Net + Time + AllocGlobal + Copy + Drop>(
     seats: Vec<Seat<N>>,
 ) -> Result<Staff<N, R>, Unserved> {
     let workers = seats.len();
-    let mut outlets = Vec::new(alloc);
-    let mut crew = Vec::new(alloc);
+    let mut staff = Staff {
+        crew: Vec::new(alloc),
+        outlets: Vec::new(alloc),
+    };
     for seat in seats {
-        let Hired {
-            worker,
-            event_loop,
-            outlet,
-        } = hire(rt, alloc, connections, begun, workers, seat)?;
-        if outlets.push(outlet).is_err() || crew.push((worker, event_loop)).is_err() {
-            return Err(Unserved::NoMemory);
-        }
+        let hired = hire(rt, alloc, connections, begun, workers, seat)?;
+        staff.add(hired)?;
     }
-    Ok(Staff { crew, outlets })
+    Ok(staff)
 }
 
 /// Another outlet to each worker.
@@ -168,39 +181,60 @@ fn deal_out<N: Naming, R: Wait + Time + Drop>(
     Counting::new(alloc, counted, shares)
 }
 
-/// A worker for each seat, dealt out to users where that is asked for, and what then counts what they do.
+/// All workers with their inlets, and what the keeper's source is made of.
+#[derive(Drop)]
+struct Hiring<N: Naming, R: Wait + Time + Drop> {
+    crew: Vec<Member<N, R>>,
+    connections: Arc<Connections, Global>,
+    /// The seat for the metrics.
+    own: Seat<N>,
+    /// What counts what workers do, where users are dealt out to them.
+    counting: Option<Counting>,
+}
+
+/// A worker for each seat but the last, dealt out to users where that is asked for, and where the
+/// connections of each are put.
 fn hire_staff<N: Naming, R: Wait + Net + Time + AllocGlobal + Copy + Drop>(
     rt: &R,
     alloc: Global,
     connections: &Arc<Connections, Global>,
     begun: Option<Instant>,
-    seats: Vec<Seat<N>>,
+    mut seats: Vec<Seat<N>>,
     affinity: Affinity,
     workers: usize,
-) -> Result<(Staff<N, R>, Option<Counting>), Unserved>
+) -> Result<(Hiring<N, R>, Vec<Outlet>), Unserved>
     requires { 0 < workers }
 {
+    let theirs = shared(connections)?;
+    let Some(own) = seats.pop() else {
+        return Err(Unserved::NoMemory);
+    };
     let mut staff = hire_all(rt, alloc, connections, begun, seats)?;
-    match affinity {
-        Affinity::ByUser => {
-            let counting = deal_out(alloc, &mut staff, workers)?;
-            Ok((staff, Some(counting)))
-        }
-        Affinity::Spread => Ok((staff, None)),
-    }
+    let counting = match affinity {
+        Affinity::ByUser => Some(deal_out(alloc, &mut staff, workers)?),
+        Affinity::Spread => None,
+    };
+    let Staff { crew, outlets } = staff;
+    let hiring = Hiring {
+        crew,
+        connections: theirs,
+        own,
+        counting,
+    };
+    Ok((hiring, outlets))
 }
 
-/// A listener at an address, which puts connections where their workers take them. Else the audience is told
-/// why there is none.
+/// A listener, which puts connections where their workers take them. Else the audience is told why there is
+/// none.
 fn open_listener<R: Net + AllocGlobal, A: Audience>(
     rt: &R,
-    address: SocketAddr,
+    opening: Opening,
     outlets: Vec<Outlet>,
     connections: &Arc<Connections, Global>,
-    until: Option<u64>,
     audience: &A,
 ) -> Result<Listening, Unserved> {
-    match Listening::new(rt, address, outlets, shared(connections)?, until) {
+    let connections = shared(connections)?;
+    match Listening::new(rt, opening.address, outlets, connections, opening.until) {
         Ok(listening) => Ok(listening),
         Err(error) => {
             audience.cannot_listen(&error);
@@ -213,7 +247,7 @@ fn open_listener<R: Net + AllocGlobal, A: Audience>(
 /// it can't.
 fn listen_for_metrics<R: Net + AllocGlobal, A: Audience>(
     rt: &R,
-    metrics: Option<Address>,
+    metrics: &Option<Address>,
     users: &Users,
     audience: &A,
 ) -> Result<Option<Scraping>, Unserved> {
@@ -264,58 +298,144 @@ pub fn serve<
         opened,
         caches,
     } = beginning;
-    let Settings {
-        listen,
-        workers,
-        journal,
-        limits,
-        metrics,
-        users,
-        user_limits,
-    } = settings;
-    let Ok(address) = listen.as_str().parse::<SocketAddr>() else {
+    let opening = opening_of(&settings, affinity, until)?;
+    let (length, keeps) = (at_end.page_length(settings.journal), at_end.journal());
+    let (hall, seats) = Hall::<C, N>::new(
+        alloc,
+        opened,
+        &settings.users,
+        caches,
+        opening.seats,
+        length,
+        keeps,
+    )?;
+    let seats = serve_hall(rt, alloc, &hall, seats, settings, opening, audience)?;
+    match at_end {
+        AtEnd::Leaves => Ok(Found::Nothing),
+        AtEnd::Audits => Ok(audit_hall(alloc, hall, seats, audience)?),
+    }
+}
+
+/// How a server is to listen and serve.
+#[derive(Clone, Copy)]
+struct Opening {
+    address: SocketAddr,
+    affinity: Affinity,
+    /// It ends once so many connections were closed.
+    until: Option<u64>,
+    /// One for each worker, and one for the metrics.
+    seats: usize,
+}
+
+/// How a server of these settings is to listen and serve.
+fn opening_of(
+    settings: &Settings,
+    affinity: Affinity,
+    until: Option<u64>,
+) -> Result<Opening, Unserved>
+    ensures { IfOk result (λ opening. opening.seats ≡ settings.now.workers + 1) }
+{
+    let Ok(address) = settings.listen.as_str().parse::<SocketAddr>() else {
         return Err(Unserved::CannotListen);
     };
-    let Some(seats) = workers.checked_add(1) else {
+    let Some(seats) = settings.workers.checked_add(1) else {
         return Err(Unserved::NoMemory);
     };
-    let (length, keeps) = (at_end.page_length(journal), at_end.journal());
-    let (hall, mut seats) = Hall::<C, N>::new(alloc, opened, &users, caches, seats, length, keeps)?;
-    let Some(own) = seats.pop() else {
-        return Err(Unserved::NoMemory);
-    };
-    let Ok(connections) = Arc::new(alloc, Connections::new(alloc, limits, user_limits)?) else {
-        return Err(Unserved::NoMemory);
-    };
+    Ok(Opening {
+        address,
+        affinity,
+        until,
+        seats,
+    })
+}
+
+/// The places of all connections, by the settings' limits, which are taken out of these.
+fn share_connections(
+    alloc: Global,
+    settings: &mut Settings,
+) -> Result<Arc<Connections, Global>, Unserved>
+    ensures { settings.new.workers ≡ settings.old.workers }
+{
+    let no_limits = LimitsByUser::new(Vec::new(alloc));
+    let user_limits = mem::replace(&mut settings.user_limits, no_limits);
+    match Arc::new(
+        alloc,
+        Connections::new(alloc, settings.limits, user_limits)?,
+    ) {
+        Ok(connections) => Ok(connections),
+        Err(_) => Err(Unserved::NoMemory),
+    }
+}
+
+/// Serves the users of a hall, whose last seat is for the metrics. All seats come back.
+fn serve_hall<
+    C: Cache + Send + Sync,
+    N: Naming + Send + Sync,
+    R: Threads + Wait + Net + Time + AllocGlobal + Send + Sync + Copy + Drop + 'static,
+    A: Audience + Sync,
+>(
+    rt: &R,
+    alloc: Global,
+    hall: &Hall<C, N>,
+    seats: Vec<Seat<N>>,
+    mut settings: Settings,
+    opening: Opening,
+    audience: &A,
+) -> Result<Vec<Seat<N>>, Unserved>
+    requires { 0 < settings.workers }
+{
+    let connections = share_connections(alloc, &mut settings)?;
+    let standing = stand(rt, alloc, &connections, seats, &settings, opening, audience)?;
+    run(rt, alloc, hall, &settings.users, standing, &connections)
+}
+
+/// A server that listens.
+#[derive(Drop)]
+struct Standing<'a, N: Naming, R: Wait + Time + Drop, A: Audience> {
+    crew: Vec<Member<N, R>>,
+    source: Ticking<'a, R, N, A>,
+    listening: Listening,
+}
+
+/// Has workers hired and listens, for connections and for who asks for metrics. The audience is told so.
+fn stand<'a, N: Naming, R: Wait + Net + Time + AllocGlobal + Copy + Drop, A: Audience>(
+    rt: &R,
+    alloc: Global,
+    connections: &Arc<Connections, Global>,
+    seats: Vec<Seat<N>>,
+    settings: &Settings,
+    opening: Opening,
+    audience: &'a A,
+) -> Result<Standing<'a, N, R, A>, Unserved>
+    requires { 0 < settings.now.workers }
+{
     let begun = Instant::now(rt).ok();
-    let (staff, counting) = hire_staff(rt, alloc, &connections, begun, seats, affinity, workers)?;
-    let Staff { crew, outlets } = staff;
-    let listening = open_listener(rt, address, outlets, &connections, until, audience)?;
-    let scraping = listen_for_metrics(rt, metrics, &users, audience)?;
-    audience.listens(listening.address().unwrap_or(address));
+    let workers = settings.workers;
+    let affinity = opening.affinity;
+    let (hiring, outlets) = hire_staff(rt, alloc, connections, begun, seats, affinity, workers)?;
+    let listening = open_listener(rt, opening, outlets, connections, audience)?;
+    let scraping = listen_for_metrics(rt, &settings.metrics, &settings.users, audience)?;
+    audience.listens(listening.address().unwrap_or(opening.address));
+    let Hiring {
+        crew,
+        connections,
+        own,
+        counting,
+    } = hiring;
     let source = Ticking {
         rt: *rt,
         begun,
-        connections: shared(&connections)?,
+        connections,
         audience,
         seat: own,
         scraping,
         counting,
     };
-    let seats = run(
-        rt,
-        alloc,
-        &hall,
-        &users,
+    Ok(Standing {
         crew,
         source,
         listening,
-        &connections,
-    )?;
-    match at_end {
-        AtEnd::Leaves => Ok(Found::Nothing),
-        AtEnd::Audits => Ok(audit_hall(alloc, hall, seats, audience)?),
-    }
+    })
 }
 
 /// Runs the listener, the workers and the keeper, until the listener ends. All seats come back.
@@ -329,11 +449,14 @@ fn run<
     alloc: Global,
     hall: &Hall<C, N>,
     users: &Users,
-    crew: Vec<(Worker<Socket, N>, EventLoop<R>)>,
-    source: Ticking<'_, R, N, A>,
-    listening: Listening,
+    standing: Standing<'_, N, R, A>,
     connections: &Arc<Connections, Global>,
 ) -> Result<Vec<Seat<N>>, Unserved> {
+    let Standing {
+        crew,
+        source,
+        listening,
+    } = standing;
     let clock = Clock::new();
     // Commands that come before the keeper's first turn are done at the right moment.
     clock.advance(moment_now(rt));

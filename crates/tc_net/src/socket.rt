@@ -10,8 +10,8 @@ use std::alloc::Global;
 use std::io::{self, ErrorKind, IoSlice, Read, Write};
 use std::sync::{Arc, Wait};
 use tc_fairness::Traffic;
+use tc_links::{Change, Got, Parts, Put, Remark, Wire};
 use tc_users::UserNo;
-use tc_workers::{Change, Got, Parts, Put, Remark, Wire};
 
 /// After so many reads on end what a socket's worker did is noted.
 const MOST_UNNOTED: u64 = 16;

@@ -12,7 +12,7 @@ use Rattle.tc_partition.specs.declared.live_slots.LiveSlots.{LiveSlots}
 use Rattle.tc_partition.specs.declared.work.Work.{Work}
 use Rattle.tc_partition.specs.declared.work.Work.TheVariants.{Ends as EndsWork, Changes as ChangesWork}
 use Rattle.tc_item.specs.declared.slot.Slot.{Slot}
-use Rattle.tc_partition.specs.Held.{FindsSlot}
+use Rattle.tc_slots.specs.Held.{FindsSlot}
 use Rattle.tc_partition.specs.WaitingSlots.{SeeksSlot}
 use Rattle.tc_partition.specs.Working.{IsSought, IsAimed}
 use Rattle.tc_partition.proofs.Draining.{stays_one}

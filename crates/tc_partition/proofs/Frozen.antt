@@ -18,7 +18,7 @@ use Rattle.tc_partition.specs.Deferred.{Waiting, Lazy, IsLazy, replay_one, repla
 use Rattle.tc_partition.specs.WaitingSlots.{waiting_of, lazy_over}
 use Rattle.tc_partition.proofs.Deferral.{replayed, ends_at, settled_at, at_same}
 use Rattle.tc_partition.proofs.Draining.{sound_come, sound_light, note_limits, note_width}
-use Rattle.tc_partition.proofs.Tally.{length_map}
+use Rattle.tc_slots.proofs.Tally.{length_map}
 
 -- what comes to a moment stays light
 come_light : (l : EvictionState) (m : ℕ) → AreSound l.limits l.areas → l.limits.window + l.limits.main < 2 ^ 32

@@ -7,10 +7,10 @@ ghost use Rattle.tc_plain.specs.AreaLists.{areas_of, live_of, HasRoom};
 ghost use Rattle.tc_partition.specs.Deferred.{do_note, replay_one, settled, IsLazy};
 ghost use Rattle.tc_partition.specs.WaitingSlots.{note_at, waiting_of, lazy_over};
 
-use crate::slots::Slots;
 use tc_item::Moment;
 use tc_plain::EvictionState;
 use tc_readbuf::{LookUp, ReadBuf};
+use tc_slots::Slots;
 
 /// Does what was noted: a hit by the key of what its slot holds.
 fn do_noted(live: &mut EvictionState, slots: &Slots, noted: LookUp)

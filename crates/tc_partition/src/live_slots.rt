@@ -14,17 +14,14 @@ ghost use Rattle.tc_plain.specs.AreaLists.{areas_of, change_of, live_of as lists
 ghost use Rattle.tc_plain.specs.Soundness.{AreSound};
 ghost use Rattle.tc_plain.specs.UserCache.{UserCache};
 ghost use Rattle.tc_plain.specs.Plans.{outcome_of, planned, IsLightPlan};
-ghost use Rattle.tc_partition.specs.Held.{IsFound, FindsSlot};
+ghost use Rattle.tc_slots.specs.Held.{IsFound, FindsSlot};
 ghost use Rattle.tc_partition.specs.Deferred.{Miss, hit, do_note, peeked};
 ghost use Rattle.tc_partition.specs.WaitingSlots.{SeeksSlot, placed_in, IsPlaced};
 ghost use Rattle.tc_readbuf.specs.declared.look_up.LookUp.{LookUp};
 ghost use Rattle.tc_partition.specs.LiveSlots.{live_of, then_live, seen_of, plan_of};
 ghost use Rattle.tc_partition.specs.Working.{is_new, IsAimed};
 
-use crate::aside::{Aside, set_aside, shed, turn};
 use crate::hints::Hints;
-use crate::slots::Slots;
-use crate::tables::Tables;
 use crate::wanted::Wanted;
 use crate::work::Work;
 use std::alloc::Global;
@@ -32,6 +29,7 @@ use tc_item::{Due, Key, Moment, NoMemory, Slot, alive};
 use tc_plain::{Areas, Change, End, Entry, EvictionState, Limits, is_flush_due};
 use tc_readbuf::LookUp;
 use tc_sketch::{PastSketch, hash};
+use tc_slots::{Aside, Slots, Tables, set_aside, shed, turn};
 use tc_slru::Area;
 use tc_stats::Counters;
 

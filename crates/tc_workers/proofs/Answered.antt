@@ -9,9 +9,9 @@ use Rattle.tc_locked.specs.declared.view.Note.{Note}
 use Rattle.tc_locked.specs.Views.{of_user, by_seat}
 use Rattle.tc_locked.specs.KeptBooks.{Terms, KeptState, SeatState, IsKept}
 use Rattle.tc_locked.specs.Closing.{ClosedState, AllKept, AllTied, TiedTo}
-use Rattle.tc_workers.specs.Talks.{LinkState, last_after, notes_in}
-use Rattle.tc_workers.specs.Lives.{IsTalk, TalkState}
-use Rattle.tc_workers.specs.Turns.{WorkerState}
+use Rattle.tc_links.specs.Talks.{LinkState, last_after, notes_in}
+use Rattle.tc_links.specs.Lives.{IsTalk, TalkState}
+use Rattle.tc_links.specs.Turns.{WorkerState}
 use Rattle.tc_workers.specs.Crewing.{CrewState, Event, IsNew, AllEvents, IsOf, seats_of}
 use Rattle.tc_workers.specs.Answering.{IsPart, IsAnswered, Closes}
 use Rattle.tc_workers.proofs.Rising.{In, in-filter, of-filter, each-filter, Above, above-filter, rose-above}

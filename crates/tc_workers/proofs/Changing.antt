@@ -3,8 +3,8 @@ use Rattle.std.proofs.Common.{◌≡◌, ◌⊎◌, ℕ, List, [], ◌∷◌, �
 use Rattle.std.proofs.Common.{refl, ◌∙◌, ap, subst, inl, inr}
 use Rattle.std.specs.Prelude.{slice_index_or, slice_set}
 use Rattle.slab.specs.Slab.{Slab, Updates, get}
-use Rattle.tc_workers.specs.Lives.{TalkState}
-use Rattle.tc_workers.specs.Turns.{WorkerState}
+use Rattle.tc_links.specs.Lives.{TalkState}
+use Rattle.tc_links.specs.Turns.{WorkerState}
 use Rattle.tc_workers.specs.Between.{Enters, TakesIn, MayDrop, Change, Left, Back, ComesBack, AllChanges, Changes}
 
 all_changes-append : (a b c : List (Option TalkState)) (xs ys : List Change) → AllChanges a xs b → AllChanges b ys c

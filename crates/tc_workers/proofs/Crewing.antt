@@ -5,13 +5,13 @@ use Rattle.std.specs.List.{AllByRecursion as Each}
 use Rattle.std.proofs.lemmas.List.Elements.{All-nil, All-contains, recursion_from_All}
 use Rattle.tc_users.specs.declared.users.UserSpec.{UserSpec}
 use Rattle.tc_locked.specs.declared.view.Note.{Note}
-use Rattle.tc_workers.specs.Talks.{Move, LinkState, Carries, Goes, notes_in}
-use Rattle.tc_workers.specs.Lives.{IsTalk, TalkState, IsOpen, IsOpened}
-use Rattle.tc_workers.specs.Turns.{WorkerState, Visit, Moved, Dropped, AllVisits, moves_in}
+use Rattle.tc_links.specs.Talks.{Move, LinkState, Carries, Goes, notes_in}
+use Rattle.tc_links.specs.Lives.{IsTalk, TalkState, IsOpen, IsOpened}
+use Rattle.tc_links.specs.Turns.{WorkerState, Visit, Moved, Dropped, AllVisits, moves_in}
 use Rattle.tc_workers.specs.Crewing.{CrewState, IsNew, Event, Turn, Opening, Taking, Passing, Dropping, Befalls, Has, IsEvent}
 use Rattle.tc_workers.specs.Crewing.{AllEvents, IsOf}
-use Rattle.tc_workers.proofs.Talking.{goes-append, notes_in-append}
-use Rattle.tc_workers.proofs.SingleMoves.{carries-same}
+use Rattle.tc_links.proofs.Talking.{goes-append, notes_in-append}
+use Rattle.tc_links.proofs.SingleMoves.{carries-same}
 use Rattle.tc_workers.proofs.Staying.{open-new}
 use Rattle.tc_workers.proofs.Holding.{AllHeld, held-set, held-at, held-as, held-enters, held-changes, held-dropped}
 use Rattle.tc_workers.proofs.Rising.{In, in-front, in-behind, each-as, each-append, each-split, each-in}

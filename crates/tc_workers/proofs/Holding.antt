@@ -2,8 +2,8 @@
 use Rattle.std.proofs.Common.{◌≡◌, ℕ, zero, suc, List, [], ◌∷◌, Option, Some, None, refl, sym, ◌∙◌, ap, subst, inl, inr}
 use Rattle.std.specs.Prelude.{IfSome, slice_index_or, slice_set}
 use native.Mathlib.Decide.{ℕ_discrete}
-use Rattle.tc_workers.specs.Lives.{TalkState}
-use Rattle.tc_workers.specs.Turns.{WorkerState}
+use Rattle.tc_links.specs.Lives.{TalkState}
+use Rattle.tc_links.specs.Turns.{WorkerState}
 use Rattle.tc_workers.specs.Between.{Enters, MayDrop, Change, Left, Back, AllChanges}
 
 module _ (P : TalkState → Type 0) where

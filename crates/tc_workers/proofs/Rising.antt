@@ -7,9 +7,9 @@ use Rattle.std.proofs.lemmas.Bool.Decides.{nat_tests}
 use Rattle.tc_locked.specs.declared.view.Note.{Note}
 use Rattle.tc_locked.specs.Books.{AreNumbered}
 use Rattle.tc_locked.specs.KeptBooks.{entries_in}
-use Rattle.tc_workers.specs.Talks.{last_after}
+use Rattle.tc_links.specs.Talks.{last_after}
 use Rattle.tc_workers.specs.Answering.{IsPart}
-use Rattle.tc_workers.proofs.Latest.{fell}
+use Rattle.tc_links.proofs.Latest.{fell}
 
 -- the note is one of these
 abbrev pub In : Note → List Note → Type 0

@@ -1,11 +1,11 @@
 -- Each connection of a worker goes on, and was served by one table.
 use Rattle.std.proofs.Common.{ℕ, List, [], ◌∷◌, Option, Some, None, sym, subst}
 use Rattle.tc_users.specs.declared.users.UserSpec.{UserSpec}
-use Rattle.tc_workers.specs.Lives.{TalkState, AreAll, IsOpen, IsOpened}
-use Rattle.tc_workers.specs.Turns.{WorkerState, Visit, Moved, Dropped, AllVisits, Serves}
+use Rattle.tc_links.specs.Lives.{TalkState, AreAll, IsOpen, IsOpened}
+use Rattle.tc_links.specs.Turns.{WorkerState, Visit, Moved, Dropped, AllVisits, Serves}
 use Rattle.tc_workers.specs.Between.{TakesIn, Opens, MayDrop, Changes}
 use Rattle.tc_workers.specs.Staying.{AllOpen}
-use Rattle.tc_workers.proofs.Latest.{rose-first}
+use Rattle.tc_links.proofs.Latest.{rose-first}
 use Rattle.tc_workers.proofs.Holding.{AllHeld, held-set, held-at, held-enters, held-changes, held-dropped}
 
 open-visits : (rows : List UserSpec) (a b : List (Option TalkState)) (vs : List Visit) → AllHeld (IsOpen rows) a

@@ -5,14 +5,14 @@ use Rattle.std.proofs.lemmas.List.{append-nil, set-set, set-get_or}
 use Rattle.std.specs.Prelude.{slice_index_or, slice_set, OnSome, IfNone}
 use Rattle.slab.specs.Slab.{Slab, get}
 use Rattle.tc_users.specs.declared.users.UserSpec.{UserSpec}
-use Rattle.tc_workers.specs.declared.pace.Onward.{Onward}
-use Rattle.tc_workers.specs.declared.pace.Onward.TheVariants.{GoesOn, Done}
-use Rattle.tc_workers.specs.Talks.{DeskState, Goes, Notes, Talks, Carries}
-use Rattle.tc_workers.specs.Lives.{TalkState, IsOpen}
-use Rattle.tc_workers.specs.Turns.{WorkerState, Visit, Moved, Dropped, IsMoved, IsDropped, AllVisits, moves_of, moves_in}
-use Rattle.tc_workers.specs.Turns.{Serves, Ends, GoesOnOrEnds, goes_on}
-use Rattle.tc_workers.proofs.Talking.{notes-still, notes-as, notes-more, notes-append, carries-talks}
-use Rattle.tc_workers.proofs.SingleMoves.{carries-same}
+use Rattle.tc_links.specs.declared.pace.Onward.{Onward}
+use Rattle.tc_links.specs.declared.pace.Onward.TheVariants.{GoesOn, Done}
+use Rattle.tc_links.specs.Talks.{DeskState, Goes, Notes, Talks, Carries}
+use Rattle.tc_links.specs.Lives.{TalkState, IsOpen}
+use Rattle.tc_links.specs.Turns.{WorkerState, Visit, Moved, Dropped, IsMoved, IsDropped, AllVisits, moves_of, moves_in}
+use Rattle.tc_links.specs.Turns.{Serves, Ends, GoesOnOrEnds, goes_on}
+use Rattle.tc_links.proofs.Talking.{notes-still, notes-as, notes-more, notes-append, carries-talks}
+use Rattle.tc_links.proofs.SingleMoves.{carries-same}
 
 all_visits-append : (rows : List UserSpec) (a b c : List (Option TalkState)) (vs ws : List Visit) → AllVisits rows a vs b
     → AllVisits rows b ws c → AllVisits rows a (vs ++ ws) c

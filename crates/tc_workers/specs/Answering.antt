@@ -5,8 +5,8 @@ use Rattle.tc_locked.specs.declared.view.Note.{Note}
 use Rattle.tc_locked.specs.Views.{of_user}
 use Rattle.tc_locked.specs.KeptBooks.{Terms, KeptState}
 use Rattle.tc_locked.specs.Closing.{ClosedState, AllKept, AllTied}
-use Rattle.tc_workers.specs.Talks.{LinkState, notes_in}
-use Rattle.tc_workers.specs.Lives.{IsTalk, TalkState}
+use Rattle.tc_links.specs.Talks.{LinkState, notes_in}
+use Rattle.tc_links.specs.Lives.{IsTalk, TalkState}
 use Rattle.tc_workers.specs.Crewing.{CrewState, Event, IsNew, AllEvents, IsOf, seats_of}
 
 -- these notes stand among those, in this order, each once

@@ -1,7 +1,7 @@
 -- What a worker does to its connections between turns. Source: this project's own.
 use Rattle.std.specs.Prelude.{◌≡◌, ◌≢◌, ◌⊎◌, ℕ, List, [], ◌∷◌, Option, Some, None, slice_index_or, slice_set}
-use Rattle.tc_workers.specs.Lives.{TalkState, IsOpened}
-use Rattle.tc_workers.specs.Turns.{WorkerState}
+use Rattle.tc_links.specs.Lives.{TalkState, IsOpened}
+use Rattle.tc_links.specs.Turns.{WorkerState}
 
 -- a connection stands under a key that had none, and each other key has what it had
 pub record Enters (talk : TalkState) (before after : List (Option TalkState)) : Type 0 where

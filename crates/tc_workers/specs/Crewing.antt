@@ -4,8 +4,8 @@ use Rattle.std.specs.Prelude.{◌≡◌, ◌⊎◌, ℕ, List, [], ◌∷◌, ma
 use Rattle.std.specs.Prelude.{slice_set}
 use Rattle.tc_users.specs.declared.users.UserSpec.{UserSpec}
 use Rattle.tc_locked.specs.KeptBooks.{SeatState}
-use Rattle.tc_workers.specs.Lives.{TalkState}
-use Rattle.tc_workers.specs.Turns.{WorkerState, Serves}
+use Rattle.tc_links.specs.Lives.{TalkState}
+use Rattle.tc_links.specs.Turns.{WorkerState, Serves}
 use Rattle.tc_workers.specs.Between.{Opens, TakesIn, MayDrop, Changes}
 
 -- workers, and connections that left one, as they were when they did

@@ -5,7 +5,7 @@ use Rattle.tc_locked.specs.KeptBooks.{SeatState}
 use Rattle.tc_workers.specs.declared.crew.Why.{Why}
 use Rattle.tc_workers.specs.declared.crew.Why.TheVariants.{NoMemory, NoThread}
 use Rattle.tc_workers.specs.declared.seat_of.SeatOf.{SeatOf}
-use Rattle.tc_workers.specs.Turns.{WorkerState}
+use Rattle.tc_links.specs.Turns.{WorkerState}
 
 -- the number of a cause
 abbrev pub number_of : Why → ℕ

@@ -1,8 +1,8 @@
 -- Which connections of a worker are talks since they were opened. Source: this project's own.
 use Rattle.std.specs.Prelude.{ℕ, List, Option, None, IfSome, slice_index_or}
 use Rattle.tc_users.specs.declared.users.UserSpec.{UserSpec}
-use Rattle.tc_workers.specs.Lives.{TalkState, IsOpen}
-use Rattle.tc_workers.specs.Turns.{WorkerState, Serves}
+use Rattle.tc_links.specs.Lives.{TalkState, IsOpen}
+use Rattle.tc_links.specs.Turns.{WorkerState, Serves}
 use Rattle.tc_workers.specs.Between.{TakesIn, Opens, MayDrop, Changes}
 
 -- each connection goes on, and was served by this table alone

@@ -1,41 +1,12 @@
 //! The accounts of a worker's users: how turns are dealt out among them, and their half blocks.
-use crate::gate::Gate;
-use crate::service::Service;
 use std::alloc::Global;
 use std::sync::Wait;
-use tc_fairness::{Backlog, Dealing, HalfBlocks, PIECES, Part, Reads};
+use tc_fairness::{Dealing, HalfBlocks, PIECES, Reads};
 use tc_item::Moment;
+use tc_links::{Gate, Holding, Service};
 use tc_locked::Naming;
 use tc_plain::{Cache, Progress};
 use tc_users::UserNo;
-
-/// Whose a connection is for the deal, and what is kept for it.
-#[derive(Clone, Copy, Debug)]
-pub(crate) struct Holding {
-    /// Its user's number, 0 before it has logged in.
-    pub(crate) user: usize,
-    /// How many of its bytes are unread.
-    pub(crate) unread: usize,
-    /// How many bytes wait to be sent to it.
-    pub(crate) unsent: usize,
-}
-
-impl Holding {
-    fn backlog(&self) -> Backlog {
-        Backlog {
-            user: self.user,
-            bytes: self.unsent,
-        }
-    }
-
-    fn part(&self, key: usize) -> Part {
-        Part {
-            user: self.user,
-            key,
-            bytes: self.unread,
-        }
-    }
-}
 
 /// Both accounts of all users.
 #[derive(Drop)]

@@ -1,6 +1,6 @@
 //! The keeper: deferred work of one user after another.
 ghost use Rattle.std.specs.Prelude.{◌≡◌, ◌<◌};
-ghost use Rattle.tc_workers.specs.Turns.{user_after};
+ghost use Rattle.tc_links.specs.Turns.{user_after};
 
 use std::marker::Model;
 use std::sync::Wait;

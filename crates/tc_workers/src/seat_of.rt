@@ -1,10 +1,10 @@
 //! What a worker's thread gives back.
 ghost use Rattle.std.specs.Prelude.{◌≡◌};
 
-use crate::wire::Wire;
 use crate::worker::Worker;
 use std::snapshot::Snapshot;
 use std::thread::Promise;
+use tc_links::Wire;
 use tc_locked::{Naming, Seat};
 
 /// The promise that a thread gives back the seat of this worker, which it began with: one of that number.

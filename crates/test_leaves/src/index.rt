@@ -19,21 +19,19 @@ enum Move {
     Find(u32, usize, Option<usize>),
 }
 
-/// Makes one move, where the caller's conditions hold.
-fn make(rt: &impl Abort, index: &mut Index, step: &Move, place: usize) -> Result<(), NoMemory> {
+/// Makes one move. Whether the caller's conditions hold and it comes to what is wanted.
+fn make(index: &mut Index, step: &Move) -> Result<bool, NoMemory> {
     match step {
         Move::Insert(slot, tag) => {
-            assert!(rt;
-                *slot < index.slots() && index.tag(Slot(*slot)).is_none(),
-                "move {place}"
-            );
+            if *slot >= index.slots() || index.tag(Slot(*slot)).is_some() {
+                return Ok(false);
+            }
             index.insert(Slot(*slot), Tag(*tag));
         }
         Move::Remove(slot) => {
-            assert!(rt;
-                *slot < index.slots() && index.tag(Slot(*slot)).is_some(),
-                "move {place}"
-            );
+            if *slot >= index.slots() || index.tag(Slot(*slot)).is_none() {
+                return Ok(false);
+            }
             index.remove(Slot(*slot));
         }
         Move::Reserve(slots) => index.reserve(*slots)?,
@@ -41,10 +39,10 @@ fn make(rt: &impl Abort, index: &mut Index, step: &Move, place: usize) -> Result
         Move::Find(tag, right, found) => {
             let right = *right;
             let slot = index.find(Tag(*tag), |slot| slot.0 == right);
-            assert!(rt; slot.map(|slot| slot.0) == *found, "move {place}");
+            return Ok(slot.map(|slot| slot.0) == *found);
         }
     }
-    Ok(())
+    Ok(true)
 }
 
 /// Makes moves on an index with room for four slots, which has four buckets.
@@ -59,7 +57,7 @@ fn run(rt: &impl Abort, alloc: Global, moves: &[Move]) -> Result<(), NoMemory> {
 fn make_all(rt: &impl Abort, index: &mut Index, moves: &[Move]) -> Result<(), NoMemory> {
     index.reserve(4)?;
     for (place, step) in moves.iter().enumerate() {
-        make(rt, index, step, place)?;
+        assert!(rt; make(index, step)?, "move {place}");
     }
     Ok(())
 }

@@ -163,25 +163,33 @@ fn a_moment_is_below_2_to_the_40(rt: HostRuntime) {
 
 const NAMES: [&str; 10] = ["a", "b", "a", "d", "e", "f", "g", "h", "i", "j"];
 
+/// One more key behind the others.
+fn push(alloc: Global, keys: &mut Keys, name: &str) -> Result<(), KeyFault> {
+    let key = key_of(alloc, name)?;
+    Ok(keys.push(alloc, key)?)
+}
+
 fn keys_of(alloc: Global, names: &[&str]) -> Result<Keys, KeyFault> {
     let mut keys = Keys::new();
     for name in names {
-        keys.push(alloc, key_of(alloc, name)?)?;
+        push(alloc, &mut keys, name)?;
     }
     Ok(keys)
+}
+
+/// Whether keys are of these names, in order.
+fn are_named(keys: &Keys, names: &[&str]) -> bool {
+    let mut pairs = keys.as_slice().iter().zip(names);
+    keys.len() == names.len()
+        && keys.is_empty() == names.is_empty()
+        && pairs.all(|(key, name)| key.as_bytes() == name.as_bytes())
 }
 
 /// Whether keys and their copy are of these names, in order.
 fn are_kept(alloc: Global, names: &[&str]) -> Result<bool, KeyFault> {
     let keys = keys_of(alloc, names)?;
     let copied = keys.copy(alloc)?;
-    let mut pairs = copied.as_slice().iter().zip(names);
-    Ok(
-        copied == keys
-            && keys.len() == names.len()
-            && keys.is_empty() == names.is_empty()
-            && pairs.all(|(key, name)| key.as_bytes() == name.as_bytes()),
-    )
+    Ok(copied == keys && are_named(&copied, names))
 }
 
 /// Whether one key alone is what it is as the first of a list.
@@ -222,9 +230,8 @@ fn a_refused_push_leaves_the_keys_as_they_were(rt: HostRuntime) -> Result<(), Fa
 fn leaves_a_copy(alloc: Global, names: &[&str]) -> Result<bool, KeyFault> {
     let mut keys = keys_of(alloc, names)?;
     let copied = keys.copy(alloc)?;
-    keys.push(alloc, key_of(alloc, "more")?)?;
-    let before = keys_of(alloc, names)?;
-    Ok(copied == before && keys.len() == names.len().saturating_add(1))
+    push(alloc, &mut keys, "more")?;
+    Ok(are_named(&copied, names) && keys.len() == names.len().saturating_add(1))
 }
 
 #[test]
@@ -293,17 +300,30 @@ fn a_blob_shows_the_bytes_that_it_was_made_of(rt: HostRuntime) -> Result<(), Fai
 /// Lengths at both ends of each block's room.
 const BLOCK_ENDS: [usize; 13] = [0, 8, 9, 40, 41, 72, 73, 104, 105, 168, 169, 232, 233];
 
-/// Whether a blob of so many bytes shows them, however it was made, and so does its copy.
-fn is_shown_whole(alloc: Global, length: usize) -> Result<bool, NoMemory> {
+/// So many bytes, the last of which is another.
+fn bytes_of(alloc: Global, length: usize) -> Result<Vec<u8>, AllocError> {
     let mut bytes = vec![in alloc; b'a'; length]?;
     if let Some(last) = bytes.last_mut() {
         *last = b'z';
     }
-    let blob = Blob::from_slice(alloc, &bytes)?;
+    Ok(bytes)
+}
+
+/// Whether a blob shows these bytes, and its copy once the blob is gone.
+fn shows(blob: Blob, bytes: &[u8]) -> Result<bool, NoMemory> {
+    let shown = blob.as_slice() == bytes && blob.len() == bytes.len();
     let copy = blob.copy()?;
-    let shown = blob.as_slice() == bytes.as_slice() && blob.len() == length;
     drop(blob);
-    Ok(shown && copy.as_slice() == bytes.as_slice() && copy == Blob::new(alloc, bytes)?)
+    Ok(shown && copy.as_slice() == bytes)
+}
+
+/// Whether a blob of so many bytes shows them, however it was made, and so does its copy.
+fn is_shown_whole(alloc: Global, length: usize) -> Result<bool, NoMemory> {
+    let bytes = bytes_of(alloc, length)?;
+    Ok(
+        shows(Blob::from_slice(alloc, &bytes)?, &bytes)?
+            && shows(Blob::new(alloc, bytes_of(alloc, length)?)?, &bytes)?,
+    )
 }
 
 #[test]

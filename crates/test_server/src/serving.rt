@@ -61,11 +61,12 @@ fn ask<R: Net + Clock>(rt: &R) -> bool {
 
 /// A server of two workers on loopback.
 fn loopback(alloc: Global, hasher: RandomState) -> Result<Beginning<Fast>, Fail> {
+    let opened = Opened::new(alloc)?;
     let settings = Settings::from_toml(alloc, SETTINGS)?;
     let caches = begin_all::<Fast>(alloc, &settings.users, hasher, Journal::On)?;
     Ok(Beginning {
         settings,
-        opened: Opened::new(alloc)?,
+        opened,
         caches,
     })
 }

@@ -42,8 +42,6 @@ pub enum Scene {
     KeepsNothing,
     /// A page on which items are touched, evicted, expired and flushed.
     ChangesAll,
-    /// Fifty calls by each of four threads.
-    FourThreads,
     /// A hundred calls by each of eight threads, beside a keeper.
     EightThreads,
     /// Two connections of one worker, one after the other.
@@ -109,10 +107,16 @@ fn row(alloc: Global, name: &[u8], budget: u64) -> Result<UserSpec, Fail> {
     })
 }
 
+fn add(alloc: Global, users: &mut Users, name: &[u8], budget: u64) -> Result<(), Fail> {
+    let row = row(alloc, name, budget)?;
+    users.push(row)?;
+    Ok(())
+}
+
 fn two_users(alloc: Global, budget: u64) -> Result<Users, Fail> {
     let mut users = Users::new(alloc);
-    users.push(row(alloc, b"alice", budget)?)?;
-    users.push(row(alloc, b"bob", budget)?)?;
+    add(alloc, &mut users, b"alice", budget)?;
+    add(alloc, &mut users, b"bob", budget)?;
     Ok(users)
 }
 
@@ -157,7 +161,6 @@ fn perform<
         Scene::TurnsPages => pages::turn_two_pages(rt, alloc, hall, seats, all),
         Scene::KeepsNothing => pages::keep_nothing(rt, alloc, hall, seats, all),
         Scene::ChangesAll => busy::change_all(rt, alloc, hall, seats),
-        Scene::FourThreads => crowd::four_threads(rt, alloc, hall, seats, all),
         Scene::EightThreads => crowd::eight_threads(rt, alloc, hall, seats),
         Scene::Talks(one, other) => talks::talk(rt, alloc, &hall, users, &mut seats, one, other),
         Scene::Rests => talks::rest(rt, alloc, &hall, users, &mut seats),

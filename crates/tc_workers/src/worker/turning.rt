@@ -2,20 +2,15 @@
 ghost use Rattle.std.specs.Prelude.{◌≡◌, ◌*◌, List, IfSome, IfNone};
 ghost use Rattle.std.specs.Prelude.{Some, None};
 ghost use Rattle.tc_users.specs.declared.users.UserSpec.{UserSpec};
-ghost use Rattle.tc_workers.specs.Turns.{Serves, GoesOnOrEnds, goes_on};
+ghost use Rattle.tc_links.specs.Turns.{Serves, GoesOnOrEnds, goes_on};
 ghost use Rattle.tc_workers.specs.SilentTurns.{ServesSilently};
 
-use crate::accounts::Holding;
-use crate::admitted::Admitted;
-use crate::gate::Gate;
 use crate::listed::{Leaving, Listed};
-use crate::pace::{Onward, Pace};
-use crate::service::Service;
-use crate::wire::{Patience, Wire};
 use crate::worker::Worker;
 use std::sync::Wait;
 use tc_fairness::Reads;
 use tc_item::Moment;
+use tc_links::{Admitted, Gate, Holding, Onward, Pace, Patience, Service, Wire};
 use tc_locked::{Clock, Hall, Lease, Naming};
 use tc_plain::Cache;
 use tc_users::{UserNo, Users};

@@ -100,9 +100,24 @@ fn do_step<C: Cache, N: Naming, R: Wait + Abort>(
 ) -> Result<(), Fail> {
     let (second, key, ask, want) = *step;
     let command = command(alloc, key, ask)?;
-    let receipt = call(rt, alloc, hall, seat, 1, second, &command)?;
-    assert!(rt; meets(&receipt.slip.outcome, want));
+    let is_met = comes_to(rt, alloc, hall, seat, second, &command, want);
+    drop(command);
+    assert!(rt; is_met?);
     Ok(())
+}
+
+/// Whether a command comes to what is wanted.
+fn comes_to<C: Cache, N: Naming, R: Wait + Abort>(
+    rt: &R,
+    alloc: Global,
+    hall: &Hall<C, N>,
+    seat: &mut Seat<N>,
+    second: u64,
+    command: &Command,
+    want: Want,
+) -> Result<bool, Fail> {
+    let receipt = call(rt, alloc, hall, seat, 1, second, command)?;
+    Ok(meets(&receipt.slip.outcome, want))
 }
 
 /// Fills a page, and does the second one.

@@ -1,9 +1,8 @@
 //! Threads on one hall.
-ghost use Rattle.std.specs.Prelude.{◌≡◌};
 
 use super::commands::{append, get, incr, look_up, set};
 use super::replayed::has_page;
-use crate::stage::{Scene, closed, count, play};
+use crate::stage::{Scene, closed, play};
 use std::alloc::{AllocError, Global};
 use std::process::Abort;
 use std::sync::Wait;
@@ -14,70 +13,6 @@ use tc_item::Moment;
 use tc_locked::{Closed, Hall, Naming, Receipt, Seat};
 use tc_plain::Cache;
 use tc_users::UserNo;
-
-#[test]
-fn four_threads_make_two_hundred_calls(rt: HostRuntime) -> Result<(), Fail> {
-    play(&rt, rt.alloc(), 4, 16, Scene::FourThreads)
-}
-
-/// Fifty calls by each of four seats, each in a thread of its own.
-pub fn four_threads<
-    C: Cache + Send + Sync,
-    N: Naming + Send + Sync,
-    R: Threads + Wait + Abort + Sync,
->(rt: &R, alloc: Global, hall: Hall<C, N>, seats: Vec<Seat<N>>, all: usize) -> Result<(), Fail>
-    requires { all ≡ N.terms.seats }
-{
-    let seats = call_by_four(rt, alloc, &hall, seats)?;
-    let closed = closed(rt, hall, seats);
-    expect_two_hundred(rt, &closed, all);
-    Ok(())
-}
-
-/// The seats come back.
-fn call_by_four<C: Cache + Send + Sync, N: Naming + Send + Sync, R: Threads + Wait + Abort + Sync>(
-    rt: &R,
-    alloc: Global,
-    hall: &Hall<C, N>,
-    seats: Vec<Seat<N>>,
-) -> Result<Vec<Seat<N>>, Fail> {
-    let set = set(alloc, b"abc")?;
-    let called = thread::map_vec(
-        rt,
-        seats,
-        &|seat| { fifty_calls(rt, alloc, hall, seat, &set) },
-    );
-    Ok(called?)
-}
-
-/// Makes 25 calls on each of two users, and hands the seat back.
-fn fifty_calls<C: Cache, N: Naming, R: Wait + Abort>(
-    rt: &R,
-    alloc: Global,
-    hall: &Hall<C, N>,
-    mut seat: Seat<N>,
-    command: &Command,
-) -> Seat<N> {
-    for call in 0..50 {
-        let user = UserNo::new(1 + call % 2);
-        let Ok(_receipt) = hall.call(rt, alloc, &mut seat, user, Moment::FIRST, 1, command) else {
-            panic!(rt; "refused")
-        };
-    }
-    seat
-}
-
-fn expect_two_hundred<C: Cache, N: Naming, R: Abort>(rt: &R, closed: &Closed<C, N>, all: usize)
-    requires { all ≡ N.terms.seats }
-{
-    let mut sum = 0u64;
-    for seat_no in 0..4 {
-        for user in 1..3 {
-            sum = sum.saturating_add(count(rt, closed, all, seat_no, user));
-        }
-    }
-    assert!(rt; sum == 200);
-}
 
 /// A seat, and the receipts of what it called.
 #[derive(Drop)]
@@ -187,9 +122,8 @@ fn work_on<C: Cache, N: Naming, R: Wait + Abort>(
     let Ok(receipt) = hall.call(rt, alloc, seat, user, Moment::new(5), 1, command) else {
         panic!(rt; "refused")
     };
-    let Ok(()) = work.receipts.push(receipt) else {
-        panic!(rt; "no memory")
-    };
+    let is_kept = work.receipts.push(receipt).is_ok();
+    assert!(rt; is_kept);
 }
 
 fn close_with_works<C: Cache, N: Naming, R: Abort>(

@@ -40,20 +40,18 @@ pub fn keep_nothing<C: Cache, N: Naming, R: Wait + Abort>(
     assert!(rt; hall.journal_bytes(rt, UserNo::new(1)) == 0);
     let closed = closed(rt, hall, seats);
     assert!(rt; count(rt, &closed, all, 0, 1) == 40);
-    assert!(rt; shows_no_page(alloc, &closed, &receipts));
+    assert!(rt; shows_no_audit(alloc, &closed) && shows_no_page(&closed, &receipts));
     Ok(())
 }
 
-/// Whether the page can't be read, nor audited, nor the last receipt's entry shown.
-fn shows_no_page<C: Cache, N: Naming>(
-    alloc: Global,
-    closed: &Closed<C, N>,
-    receipts: &[Receipt<N>],
-) -> bool {
-    let user = UserNo::new(1);
-    if !matches!(closed.page(user), Err(Unread::Off))
-        || !matches!(closed.audit(alloc, user), Err(Unread::Off))
-    {
+/// Whether the first user's page can't be audited.
+fn shows_no_audit<C: Cache, N: Naming>(alloc: Global, closed: &Closed<C, N>) -> bool {
+    matches!(closed.audit(alloc, UserNo::new(1)), Err(Unread::Off))
+}
+
+/// Whether the first user's page can't be read, nor the last receipt's entry shown.
+fn shows_no_page<C: Cache, N: Naming>(closed: &Closed<C, N>, receipts: &[Receipt<N>]) -> bool {
+    if !matches!(closed.page(UserNo::new(1)), Err(Unread::Off)) {
         return false;
     }
     match receipts.last() {
@@ -78,44 +76,63 @@ pub fn turn_two_pages<C: Cache, N: Naming, R: Wait + Abort>(
     expect_forty(rt, alloc, &closed, &receipts)
 }
 
+/// The receipts of a set and 39 gets, each of which shows the data.
 fn set_and_forty<C: Cache, N: Naming, R: Wait + Abort>(
     rt: &R,
     alloc: Global,
     hall: &Hall<C, N>,
     seat: &mut Seat<N>,
 ) -> Result<Vec<Receipt<N>>, Fail> {
-    let (set, get) = (set(alloc, b"abc")?, get(alloc)?);
-    forty_receipts(rt, alloc, hall, seat, &set, &get)
-}
-
-/// The receipts of a set and 39 gets, each of which shows the data.
-fn forty_receipts<C: Cache, N: Naming, R: Wait + Abort>(
-    rt: &R,
-    alloc: Global,
-    hall: &Hall<C, N>,
-    seat: &mut Seat<N>,
-    set: &Command,
-    get: &Command,
-) -> Result<Vec<Receipt<N>>, Fail> {
-    let mut receipts = Vec::new(alloc);
-    receipts.push(call(rt, alloc, hall, seat, 1, 5, set)?)?;
-    for _ in 0..39 {
-        receipts.push(get_shown(rt, alloc, hall, seat, get)?)?;
-    }
+    let mut receipts = Vec::with_capacity(alloc, 40)?;
+    add_set(rt, alloc, hall, seat, &mut receipts)?;
+    add_gets(rt, alloc, hall, seat, &mut receipts)?;
     Ok(receipts)
 }
 
-/// The receipt of a get, which shows the data.
-fn get_shown<C: Cache, N: Naming, R: Wait + Abort>(
+/// Adds the receipt of a set.
+fn add_set<C: Cache, N: Naming, R: Wait + Abort>(
+    rt: &R,
+    alloc: Global,
+    hall: &Hall<C, N>,
+    seat: &mut Seat<N>,
+    receipts: &mut Vec<Receipt<N>>,
+) -> Result<(), Fail> {
+    let set = set(alloc, b"abc")?;
+    let called = call(rt, alloc, hall, seat, 1, 5, &set);
+    drop(set);
+    receipts.push(called?)?;
+    Ok(())
+}
+
+/// Adds the receipts of 39 gets.
+fn add_gets<C: Cache, N: Naming, R: Wait + Abort>(
+    rt: &R,
+    alloc: Global,
+    hall: &Hall<C, N>,
+    seat: &mut Seat<N>,
+    receipts: &mut Vec<Receipt<N>>,
+) -> Result<(), Fail> {
+    let get = get(alloc)?;
+    for _ in 0..39 {
+        add_shown(rt, alloc, hall, seat, &get, receipts)?;
+    }
+    Ok(())
+}
+
+/// Adds the receipt of a get, which shows the data.
+fn add_shown<C: Cache, N: Naming, R: Wait + Abort>(
     rt: &R,
     alloc: Global,
     hall: &Hall<C, N>,
     seat: &mut Seat<N>,
     get: &Command,
-) -> Result<Receipt<N>, Fail> {
+    receipts: &mut Vec<Receipt<N>>,
+) -> Result<(), Fail> {
     let receipt = call(rt, alloc, hall, seat, 1, 5, get)?;
-    assert!(rt; shows(&receipt.slip.outcome, b"abc"));
-    Ok(receipt)
+    let is_shown = shows(&receipt.slip.outcome, b"abc");
+    receipts.push(receipt)?;
+    assert!(rt; is_shown);
+    Ok(())
 }
 
 /// The last page has eight entries, and the first 32 are gone.

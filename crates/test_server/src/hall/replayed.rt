@@ -40,9 +40,12 @@ fn is_shown<C: Cache, N: Naming>(
     user: UserNo,
     entries: usize,
 ) -> Result<bool, Fail> {
-    match (closed.opening(alloc, user)?, closed.page(user)?) {
-        (Some(opening), Some(page)) => leads(alloc, opening, page, entries),
-        _ => Ok(false),
+    let Some(page) = closed.page(user)? else {
+        return Ok(false);
+    };
+    match closed.opening(alloc, user)? {
+        Some(opening) => leads(alloc, opening, page, entries),
+        None => Ok(false),
     }
 }
 

@@ -36,9 +36,13 @@ pub fn read_back<C: Cache, N: Naming, R: Wait + Abort>(
 ) -> Result<(), Fail> {
     assert!(rt; hall.users() == 2);
     store_for_one(rt, alloc, hall, seat)?;
-    read_ahead(rt, alloc, hall);
+    read_ahead(rt, alloc, hall, 1);
+    // And for nobody.
+    read_ahead(rt, alloc, hall, 3);
     let get = get(alloc)?;
-    let (one, other) = find_both(rt, alloc, hall, seat, &get)?;
+    let found = find_both(rt, alloc, hall, seat, &get);
+    drop(get);
+    let (one, other) = found?;
     assert!(rt; one && !other);
     assert!(rt; journals(rt, hall) == [422, 208, 0]);
     Ok(())
@@ -54,13 +58,11 @@ fn journals<C: Cache, N: Naming, R: Wait>(rt: &R, hall: &Hall<C, N>) -> [u64; 3]
     ]
 }
 
-/// Reads ahead for a user, and for nobody, of keys that may be held and are not.
-fn read_ahead<C: Cache, N: Naming, R: Wait>(rt: &R, alloc: Global, hall: &Hall<C, N>) {
-    for user in [1, 3] {
-        let mut lease = Lease::none(alloc);
-        hall.read_ahead(rt, &mut lease, UserNo::new(user), &[0, u64::MAX]);
-        lease.release(alloc);
-    }
+/// Reads ahead for a user, of keys that may be held and are not.
+fn read_ahead<C: Cache, N: Naming, R: Wait>(rt: &R, alloc: Global, hall: &Hall<C, N>, user: u32) {
+    let mut lease = Lease::none(alloc);
+    hall.read_ahead(rt, &mut lease, UserNo::new(user), &[0, u64::MAX]);
+    lease.release(alloc);
 }
 
 fn store_for_one<C: Cache, N: Naming, R: Wait + Abort>(
@@ -98,8 +100,9 @@ fn finds<C: Cache, N: Naming, R: Wait + Abort>(
 ) -> Result<bool, Fail> {
     let receipt = call(rt, alloc, hall, seat, user, 5, get)?;
     let outcome = &receipt.slip.outcome;
-    let finds = shows(outcome, b"abc");
-    assert!(rt; finds || shows_nothing(outcome));
+    let (finds, misses) = (shows(outcome, b"abc"), shows_nothing(outcome));
+    drop(receipt);
+    assert!(rt; finds || misses);
     Ok(finds)
 }
 
@@ -199,9 +202,9 @@ pub fn call_nobody<C: Cache, N: Naming, R: Wait + Abort>(
     seat: &mut Seat<N>,
 ) -> Result<(), Fail> {
     let get = get(alloc)?;
-    for user in [0, 3] {
-        assert!(rt; has_no_user(rt, alloc, hall, seat, user, &get));
-    }
+    let first = has_no_user(rt, alloc, hall, seat, 0, &get);
+    let last = has_no_user(rt, alloc, hall, seat, 3, &get);
+    assert!(rt; first && last);
     Ok(())
 }
 

@@ -11,10 +11,12 @@ use std::sync::atomic::AtomicU64;
 use std::sync::atomic::Ordering::SeqCst;
 use std::sync::{Arc, Wait};
 use std::test::*;
+use tc_grammar::Command;
+use tc_links::{Got, Open, Parts, Put, Remark, Wire};
 use tc_locked::{Clock, Hall, Naming, Seat};
 use tc_plain::Cache;
 use tc_users::{UserNo, Users};
-use tc_workers::{Got, Open, Parts, Put, Remark, Wire, Worker};
+use tc_workers::Worker;
 
 /// How many connections alice has. Bob has one more.
 const HERS: usize = 10;
@@ -216,6 +218,25 @@ impl Wire for Asker {
     fn note<R: Wait>(&mut self, _rt: &R, _remark: Remark) {}
 }
 
+/// A `set` of a large item, whose bytes are that of its key.
+fn large_set(alloc: Global, key: &[u8; 1]) -> Result<Command, Fail> {
+    let data = Vec::from_elem(alloc, key[0], DATA)?;
+    set_of(alloc, key, 0, &data)
+}
+
+/// Stores a large item of alice's.
+fn store_large<C: Cache, N: Naming, R: Wait + Abort>(
+    rt: &R,
+    alloc: Global,
+    hall: &Hall<C, N>,
+    seat: &mut Seat<N>,
+    key: &[u8; 1],
+) -> Result<(), Fail> {
+    let set = large_set(alloc, key)?;
+    call(rt, alloc, hall, seat, 1, 0, &set)?;
+    Ok(())
+}
+
 /// Stores alice's two items.
 fn store_both<C: Cache, N: Naming, R: Wait + Abort>(
     rt: &R,
@@ -223,12 +244,8 @@ fn store_both<C: Cache, N: Naming, R: Wait + Abort>(
     hall: &Hall<C, N>,
     seat: &mut Seat<N>,
 ) -> Result<(), Fail> {
-    for key in [b"a", b"b"] {
-        let data = Vec::from_elem(alloc, key[0], DATA)?;
-        let set = set_of(alloc, key, 0, &data)?;
-        call(rt, alloc, hall, seat, 1, 0, &set)?;
-    }
-    Ok(())
+    store_large(rt, alloc, hall, seat, b"a")?;
+    store_large(rt, alloc, hall, seat, b"b")
 }
 
 /// Adds a connection that logs in and then asks, so many bytes in all.

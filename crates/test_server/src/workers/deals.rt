@@ -9,10 +9,11 @@ use std::sync::atomic::AtomicU64;
 use std::sync::atomic::Ordering::SeqCst;
 use std::sync::{Arc, Wait};
 use std::test::*;
+use tc_links::{Got, Open, Parts, Patience, Put, Remark, Wire};
 use tc_locked::{Clock, Hall, Naming, Seat};
 use tc_plain::Cache;
 use tc_users::{UserNo, Users};
-use tc_workers::{Got, Open, Parts, Patience, Put, Remark, Wire, Worker};
+use tc_workers::Worker;
 
 pub(super) const ALICE: &[u8] = b"set a 0 0 9\r\nalice one\r\n";
 

@@ -9,10 +9,11 @@ use std::process::Abort;
 use std::sync::{Arc, Wait};
 use std::test::*;
 use tc_item::Moment;
+use tc_links::{Open, Patience};
 use tc_locked::{Clock, Hall, Naming, Seat};
 use tc_plain::Cache;
 use tc_users::Users;
-use tc_workers::{Open, Patience, Worker};
+use tc_workers::Worker;
 
 /// How many items are due: more than are taken out in two turns, and fewer than in three.
 const ITEMS: u64 = 5_000;
@@ -118,6 +119,18 @@ fn make<C: Cache, N: Naming, R: Wait + Abort>(
     assert!(rt; ledger.sent(MANY) == step.bob);
 }
 
+/// Adds alice's two connections and bob's.
+fn join_both<N: Naming, R: Abort>(
+    rt: &R,
+    worker: &mut Worker<Asking, N>,
+    ledger: &Arc<Ledger, Global>,
+) -> Result<(), Fail> {
+    for at in 0..HERS {
+        join(rt, worker, ledger, at, ALICE, GETS)?;
+    }
+    join(rt, worker, ledger, MANY, BOB, GETS)
+}
+
 /// Alice's two connections and bob's, before her items are due and after.
 pub fn fall_due<C: Cache, N: Naming, R: Wait + Abort>(
     rt: &R,
@@ -126,13 +139,10 @@ pub fn fall_due<C: Cache, N: Naming, R: Wait + Abort>(
     users: &Users,
     seats: &mut Vec<Seat<N>>,
 ) -> Result<(), Fail> {
-    let mut worker = worker_of(rt, alloc, seats);
     store_all(rt, alloc, hall, first(rt, seats))?;
     let ledger = Arc::new(alloc, Ledger::new(alloc)?)?;
-    for at in 0..HERS {
-        join(rt, &mut worker, &ledger, at, ALICE, GETS)?;
-    }
-    join(rt, &mut worker, &ledger, MANY, BOB, GETS)?;
+    let mut worker = worker_of(rt, alloc, seats);
+    join_both(rt, &mut worker, &ledger)?;
     let clock = Clock::new();
     for step in &STEPS {
         make(rt, hall, users, &mut worker, &clock, &ledger, step);

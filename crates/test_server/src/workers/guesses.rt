@@ -9,10 +9,11 @@ use std::sync::atomic::Ordering::SeqCst;
 use std::sync::{Arc, Wait};
 use std::test::*;
 use tc_item::Moment;
+use tc_links::Open;
 use tc_locked::{Clock, Hall, Naming, Seat};
 use tc_plain::Cache;
 use tc_users::Users;
-use tc_workers::{Open, Worker};
+use tc_workers::Worker;
 
 /// Three guesses, and behind them two more and alice's login, all sent at once.
 const GUESSES: Plan = Plan {

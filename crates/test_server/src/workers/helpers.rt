@@ -5,8 +5,8 @@ use std::process::Abort;
 use std::sync::Arc;
 use std::test::*;
 use tc_fairness::{Balance, Did, Shares, Traffic};
+use tc_links::Homes;
 use tc_users::UserNo;
-use tc_workers::Homes;
 
 /// How busy the three workers are: the first has no time left, and the others have some.
 const FIRST: [u64; 3] = [1_000, 200, 100];

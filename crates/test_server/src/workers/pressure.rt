@@ -11,10 +11,11 @@ use std::sync::atomic::AtomicU64;
 use std::sync::atomic::Ordering::SeqCst;
 use std::sync::{Arc, Wait};
 use std::test::*;
+use tc_links::{Got, Open, Parts, Put, Remark, Wire};
 use tc_locked::{Clock, Hall, Naming, Seat};
 use tc_plain::Cache;
 use tc_users::{UserNo, Users};
-use tc_workers::{Got, Open, Parts, Put, Remark, Wire, Worker};
+use tc_workers::Worker;
 
 /// After so many turns more than 1,048,576 bytes wait for one that doesn't read: each turn asks for 16
 /// times 2,813 bytes.

@@ -9,10 +9,11 @@ use std::sync::atomic::AtomicU64;
 use std::sync::atomic::Ordering::SeqCst;
 use std::sync::{Arc, Wait};
 use std::test::*;
+use tc_links::{Got, Open, Parts, Put, Remark, Wire};
 use tc_locked::{Clock, Hall, Naming, Seat};
 use tc_plain::Cache;
 use tc_users::{UserNo, Users};
-use tc_workers::{Got, Open, Parts, Put, Remark, Wire, Worker};
+use tc_workers::Worker;
 
 /// How many bytes `d` are stored, more than are copied to be sent.
 const DATA: usize = 17_000;
@@ -152,20 +153,33 @@ pub fn serve_sips<C: Cache, N: Naming, R: Wait + Abort>(
     users: &Users,
     seats: &mut Vec<Seat<N>>,
 ) -> Result<(), Fail> {
-    let mut worker: Worker<Sipping, N> = worker_of(rt, alloc, seats);
     let seen = Arc::new(alloc, Seen::new())?;
     let wire = Sipping {
         given: 0,
         told: 0,
         seen: Arc::try_clone(&seen)?,
     };
-    assert!(rt; worker.add(1, wire).is_ok());
+    let is_served = is_served(rt, hall, users, worker_of(rt, alloc, seats), wire);
+    assert!(rt; is_served);
+    assert!(rt; seen.odd.load(SeqCst) == 0 && seen.told.load(SeqCst) == HEARD);
+    Ok(())
+}
+
+/// Whether a worker is done with its one connection after so many turns.
+fn is_served<C: Cache, N: Naming, R: Wait>(
+    rt: &R,
+    hall: &Hall<C, N>,
+    users: &Users,
+    mut worker: Worker<Sipping, N>,
+    wire: Sipping,
+) -> bool {
+    if worker.add(1, wire).is_err() {
+        return false;
+    }
     for _ in 0..TURNS {
         worker.turn(rt, hall, users, &Clock::new(), &Open);
     }
-    assert!(rt; worker.is_idle());
-    assert!(rt; seen.odd.load(SeqCst) == 0 && seen.told.load(SeqCst) == HEARD);
-    Ok(())
+    worker.is_idle()
 }
 
 #[test]

@@ -14,10 +14,11 @@ use std::sync::{Arc, Wait};
 use std::test::*;
 use std::thread::Threads;
 use std::time::Clock as Time;
+use tc_links::{Open, Patience, Wire};
 use tc_locked::{Clock, Hall, Naming, Seat};
 use tc_plain::Cache;
 use tc_users::Users;
-use tc_workers::{Open, Patience, Wire, Worker};
+use tc_workers::Worker;
 
 /// So many turns are enough for each stream of the tables, a byte at a time.
 const TURNS: u64 = 256;

@@ -10,10 +10,11 @@ use std::sync::atomic::AtomicU64;
 use std::sync::atomic::Ordering::SeqCst;
 use std::sync::{Arc, Wait};
 use std::test::*;
+use tc_links::{Got, Open, Parts, Put, Remark, Wire};
 use tc_locked::{Clock, Hall, Naming, Seat};
 use tc_plain::Cache;
 use tc_users::{UserNo, Users};
-use tc_workers::{Got, Open, Parts, Put, Remark, Wire, Worker};
+use tc_workers::Worker;
 
 /// So many turns are enough.
 const TURNS: u32 = 4;

@@ -5,8 +5,8 @@ use std::alloc::Global;
 use std::sync::atomic::AtomicU64;
 use std::sync::atomic::Ordering::SeqCst;
 use std::sync::{Arc, Wait};
+use tc_links::{Got, Parts, Put, Remark, Wire};
 use tc_users::UserNo;
-use tc_workers::{Got, Parts, Put, Remark, Wire};
 
 /// How the bytes of a wire come.
 #[derive(Clone, Copy, Debug, PartialEq, Eq)]

@@ -8,7 +8,7 @@ use Rattle.tc_plain.specs.Keeping.{kept_by}
 use Rattle.tc_partition.specs.WaitingSlots.{waiting_of}
 use Rattle.tc_partition.specs.Delayed.{Delayed, waits_after}
 use Rattle.tc_partition.proofs.OneLook.{waits_room, waits_behind}
-use Rattle.tc_partition.proofs.Tally.{length_map}
+use Rattle.tc_slots.proofs.Tally.{length_map}
 use Rattle.tc_partition.proofs.deferring.Deferring.get_behind.Goals as goal
 
 pub get_found-requires : goal.get_found-requires

@@ -15,7 +15,7 @@ use Rattle.tc_partition.specs.SlotCaches.{cache_of}
 use Rattle.tc_partition.specs.Delayed.{Delayed, settled_in, lazy_in}
 use Rattle.tc_partition.proofs.Joined.{peeked_hits}
 use Rattle.tc_partition.proofs.OneLook.{look_all_now, found_long, noted_long, hashed_long, waits_room}
-use Rattle.tc_partition.proofs.Tally.{length_map}
+use Rattle.tc_slots.proofs.Tally.{length_map}
 use Rattle.tc_partition.proofs.deferring.Deferring.get_found.Goals as goal
 
 pub seek_hits-requires-clause-hashed : goal.seek_hits-requires-clause-hashed

@@ -10,7 +10,7 @@ use Rattle.tc_partition.specs.SlotCaches.{cache_of}
 use Rattle.tc_partition.specs.Delayed.{Delayed, settled_in, lazy_in}
 use Rattle.tc_partition.proofs.OneLook.{IsLookedUp, look_now, shown_now}
 use Rattle.tc_partition.proofs.Sought.{placed_sought}
-use Rattle.tc_partition.proofs.Tally.{length_map}
+use Rattle.tc_slots.proofs.Tally.{length_map}
 use Rattle.tc_partition.proofs.deferring.Deferring.get_one.Goals as goal
 
 pub seek_from-place-requires : goal.seek_from-place-requires

@@ -1,5 +1,5 @@
 use Rattle.std.proofs.Common.{subst}
-use Rattle.tc_partition.specs.Held.{FindsSlot}
+use Rattle.tc_slots.specs.Held.{FindsSlot}
 use Rattle.tc_partition.proofs.live_slots.LiveSlots.look.Goals as goal
 
 pub look_at-requires-clause-missed : goal.look_at-requires-clause-missed

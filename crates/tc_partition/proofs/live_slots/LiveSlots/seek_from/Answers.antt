@@ -4,7 +4,7 @@ use Rattle.tc_plain.specs.declared.shared.entry.Entry.{Entry}
 use Rattle.tc_plain.specs.Entries.{lives}
 use Rattle.tc_plain.proofs.Used.{held_later}
 use Rattle.tc_partition.specs.LiveSlots.{live_of}
-use Rattle.tc_partition.proofs.Filling.{some_same}
+use Rattle.tc_slots.proofs.Filling.{some_same}
 use Rattle.tc_partition.proofs.Touched.{held_kept, held_kept_none}
 use Rattle.tc_partition.proofs.live_slots.LiveSlots.seek_from.Goals as goal
 

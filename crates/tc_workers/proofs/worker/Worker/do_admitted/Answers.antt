@@ -1,5 +1,5 @@
 use Rattle.std.proofs.Common.{subst}
-use Rattle.tc_workers.specs.Turns.{WorkerState, Serves}
+use Rattle.tc_links.specs.Turns.{WorkerState, Serves}
 use Rattle.tc_workers.proofs.Visiting.{serves-same}
 use Rattle.tc_workers.proofs.worker.Worker.do_admitted.Goals as goal
 

@@ -1,5 +1,5 @@
 use Rattle.std.proofs.Common.{◌≡◌, ◌*◌}
-use Rattle.tc_workers.specs.Turns.{Serves}
+use Rattle.tc_links.specs.Turns.{Serves}
 use Rattle.tc_workers.proofs.worker.Worker.do_all.Given as goal
 
 abbrev pub invariant-loop-at : goal.invariant-loop-at

@@ -1,5 +1,5 @@
 use Rattle.std.proofs.Common.{Bool, subst}
-use Rattle.tc_workers.specs.Turns.{GoesOnOrEnds}
+use Rattle.tc_links.specs.Turns.{GoesOnOrEnds}
 use Rattle.tc_workers.proofs.Visiting.{ends-dropped}
 use Rattle.tc_workers.proofs.worker.Worker.do_requests.Goals as goal
 

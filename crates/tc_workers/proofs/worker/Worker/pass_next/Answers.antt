@@ -1,5 +1,5 @@
 use Rattle.std.proofs.Common.{◌≡◌, ◌⊎◌, subst, sym}
-use Rattle.tc_workers.specs.Lives.{TalkState}
+use Rattle.tc_links.specs.Lives.{TalkState}
 use Rattle.tc_workers.specs.Between.{TakesIn}
 use Rattle.tc_workers.proofs.Changing.{changes-left, changes-back}
 use Rattle.tc_workers.proofs.worker.Worker.pass_next.Goals as goal

@@ -1,5 +1,5 @@
 use Rattle.std.proofs.Common.{refl, sym}
-use Rattle.tc_workers.proofs.Talking.{carries-talks}
+use Rattle.tc_links.proofs.Talking.{carries-talks}
 use Rattle.tc_workers.proofs.Visiting.{visited}
 use Rattle.tc_workers.proofs.worker.Worker.read.Goals as goal
 

@@ -1,5 +1,5 @@
 use Rattle.std.proofs.Common.{subst}
-use Rattle.tc_workers.specs.Turns.{WorkerState, Serves}
+use Rattle.tc_links.specs.Turns.{WorkerState, Serves}
 use Rattle.tc_workers.proofs.worker.Worker.visit.Goals as goal
 
 pub returns-clause-serves : goal.returns-clause-serves

@@ -1,0 +1,4 @@
+pub mod Latest
+pub mod Talking
+pub mod SingleMoves
+pub mod Living

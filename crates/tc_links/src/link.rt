@@ -1,0 +1,460 @@
+//! One connection of a worker.
+ghost use Rattle.std.specs.Prelude.{◌≡◌, ◌≢◌, ◌≤◌, ℕ, List, [], true, false, length};
+ghost use Rattle.std.specs.Prelude.{OnSome, IfNone, Some, IsSome};
+ghost use Rattle.tc_model.specs.Connection.{new_endpoint, with_piece};
+ghost use Rattle.tc_session.specs.TextProtocol.{text_protocol};
+ghost use Rattle.tc_links.specs.Talks.{Carries};
+ghost use Rattle.tc_links.specs.Turns.{longest_piece, most_kept};
+
+pub(crate) mod requests;
+
+use crate::admitted::Admitted;
+use crate::ahead::Ahead;
+use crate::holding::Holding;
+use crate::homes::Homes;
+use crate::pace::{Onward, Pace};
+use crate::wire::{Change, Got, Put, Remark, Wire};
+use crate::work::Work;
+use std::alloc::Global;
+use std::marker::Model;
+use std::sync::Wait;
+use tc_fairness::Guesses;
+use tc_item::Moment;
+use tc_session::Session;
+use tc_users::UserNo;
+
+/// The most bytes of a read.
+pub const LONGEST_PIECE: usize = 16_384;
+
+/// The first byte of a connection that speaks the binary protocol (doc/protocol-binary.txt).
+const BINARY: u8 = 0x80;
+
+/// Once a wire took so many bytes in a part of a turn, it takes no more before the other connections went on.
+const MOST_TAKEN: usize = 524_288;
+
+/// A connection: its wire, and what came on it. Contracts see its number, its session, whether no whole
+/// request of it is unread, what bytes its wire gave and took, and the number of its latest entry.
+#[derive(Drop)]
+pub(crate) struct Link<W: Wire + Drop> {
+    pub(crate) conn: u32,
+    wire: W,
+    session: Session,
+    /// Nothing is unread, or the last request that was asked for isn't whole.
+    rests: bool,
+    /// When memory was refused to the last look for a request, where it was refused to each since then.
+    refused: Option<Moment>,
+    /// Its inlet names it when its wire may be read or written again.
+    is_watched: bool,
+    /// It stands on its worker's list.
+    is_listed: bool,
+    /// How far its turn came.
+    pace: Pace,
+    /// As whom and when it was admitted to its turn.
+    admitted: Admitted,
+    /// Its wire was told whose it is.
+    is_told: bool,
+    /// No byte came yet.
+    is_new: bool,
+    /// Its first byte is one of the binary protocol.
+    is_binary: bool,
+    /// Its refused logins.
+    guesses: Guesses,
+    /// What was done in this part of its turn.
+    work: Work,
+    /// The number in its book of its latest call's entry, 0 before the first; none once one was not above
+    /// the one before it. A book numbers its entries upwards, and a connection is one user's for good, so
+    /// that is never seen: what is asked here takes the place of a proof that two workers' calls for one
+    /// connection are entered in order.
+    last: Option<u64>,
+}
+
+impl<W: Wire + Drop> Model for Link<W> {
+    ghost use Rattle.std.specs.Prelude.{◌≡◌, ◌≤◌, true, length};
+    ghost use Rattle.tc_session.specs.SessionView.{most_resting};
+    ghost use Rattle.tc_links.specs.Turns.{most_kept};
+    ghost use Rattle.tc_links.specs.Talks.{LinkState};
+
+    ghost Value = { LinkState };
+
+    ghost view = { λ l. record {
+      conn = l.conn;
+      session = l.session;
+      rests = l.rests;
+      gave = W.gave l.wire;
+      took = W.took l.wire;
+      last = l.last;
+    } };
+
+    ghost invariant = { λ l. (length l.session.endpoint.reader.unread ≤ most_kept)
+        × (l.rests ≡ true → length l.session.endpoint.reader.unread ≤ most_resting) };
+}
+
+impl<W: Wire + Drop> Link<W> {
+    /// A connection as it is opened.
+    pub(crate) fn new(alloc: Global, conn: u32, wire: W) -> Link<W>
+        ensures conn { result.conn ≡ conn }
+        ensures endpoint { result.session.endpoint ≡ new_endpoint text_protocol }
+        ensures out { result.session.out ≡ [] }
+        ensures gave { result.gave ≡ W.gave wire }
+        ensures took { result.took ≡ W.took wire }
+        ensures last { result.last ≡ Some 0 }
+    {
+        Link {
+            conn,
+            wire,
+            session: Session::new(alloc),
+            rests: true,
+            refused: None,
+            is_watched: false,
+            is_listed: true,
+            pace: Pace::Rests,
+            admitted: Admitted::not_yet(),
+            is_told: false,
+            is_new: true,
+            is_binary: false,
+            guesses: Guesses::none(),
+            work: Work::none(),
+            last: Some(0),
+        }
+    }
+
+    /// The wire, of a connection that is given up.
+    pub(crate) fn into_wire(self) -> W {
+        let Link {
+            conn: _,
+            wire,
+            session: _,
+            rests: _,
+            refused: _,
+            is_watched: _,
+            is_listed: _,
+            pace: _,
+            admitted: _,
+            is_told: _,
+            is_new: _,
+            is_binary: _,
+            guesses: _,
+            work: _,
+            last: _,
+        } = self;
+        wire
+    }
+
+    /// Has an inlet that passes the connection on, or took it over, change its wire. Whether it could.
+    pub(crate) fn change_wire<C: Change<W>>(&mut self, change: C) -> bool
+        ensures { self.new ≡ self.old }
+    {
+        change.change(&mut self.wire)
+    }
+
+    /// The worker that is to serve it, where that is another one; none before it has logged in.
+    pub(crate) fn leaves_for(&mut self, homes: &Homes) -> Option<usize>
+        ensures { self.new ≡ self.old }
+    {
+        let user = self.session.user()?;
+        self.meet(user);
+        homes.elsewhere(user, self.conn)
+    }
+
+    /// Notes how far its turn came: one that rests is listed no more.
+    pub(crate) fn note_pace(&mut self, pace: Pace)
+        ensures { self.new ≡ self.old }
+    {
+        if pace == Pace::Rests {
+            self.is_listed = false;
+        }
+    }
+
+    /// Notes that it is on its worker's list. Whether it was not.
+    pub(crate) fn note_listed(&mut self) -> bool
+        ensures { self.new ≡ self.old }
+    {
+        let was_listed = self.is_listed;
+        self.is_listed = true;
+        !was_listed
+    }
+
+    /// Learns its key.
+    pub(crate) fn set_key(&mut self, key: usize)
+        ensures { self.new ≡ self.old }
+    {
+        self.is_watched = self.wire.set_key(key);
+    }
+
+    /// Whose it is for the deal of a turn: its user's number, 0 before it has logged in.
+    pub(crate) fn user(&self) -> usize {
+        match self.session.user() {
+            Some(user) => user.number() as usize,
+            None => 0,
+        }
+    }
+
+    /// Is admitted to a turn.
+    pub(crate) fn admit(&mut self, admitted: Admitted)
+        ensures { self.new ≡ self.old }
+    {
+        self.admitted = admitted;
+    }
+
+    /// Learns with how many bytes that wait to be sent it is not full yet.
+    pub(crate) fn set_most_out(&mut self, most_out: usize)
+        ensures { self.new ≡ self.old }
+    {
+        self.admitted.most_out = most_out;
+    }
+
+    /// Whose it is for the deal, and what is kept for it.
+    pub(crate) fn holding(&self) -> Holding {
+        Holding {
+            user: self.user(),
+            unread: self.session.unread_len(),
+            unsent: self.session.about_out(),
+        }
+    }
+
+    /// Has its wire end, since it holds up others of its user.
+    pub(crate) fn give_up<R: Wait>(&mut self, rt: &R)
+        ensures { self.new ≡ self.old }
+    {
+        self.wire.note(rt, Remark::HoldsUp);
+    }
+
+    /// What was done in the last part of a turn.
+    pub(crate) fn work(&self) -> u64 {
+        self.work.units()
+    }
+
+    /// The user that it logged in as.
+    pub(crate) fn bound(&self) -> Option<UserNo> {
+        self.session.user()
+    }
+
+    /// Adds the keys that its next requests seem to ask for, where it is this user's. Whether it is.
+    pub(crate) fn look_ahead(&self, user: UserNo, ahead: &mut Ahead) -> bool {
+        let is_of_user = self.bound() == Some(user);
+        if is_of_user {
+            ahead.look(&self.session);
+        }
+        is_of_user
+    }
+
+    /// How many of its bytes are unread.
+    pub(crate) fn unread_len(&self) -> usize
+        ensures { result ≤ most_kept }
+    {
+        self.session.unread_len()
+    }
+
+    /// The first part of a turn: reads. Whether it goes on.
+    pub(crate) fn take_in<R: Wait>(&mut self, rt: &R, buffer: &mut [u8]) -> bool
+        ensures moved { (lost : List ℕ) × Carries [] lost self.old self.new
+            × (result ≡ true → lost ≡ []) }
+    {
+        self.work = Work::none();
+        self.pace = Pace::Tries;
+        if self.guesses.waits() {
+            return true;
+        }
+        match self.read(buffer) {
+            Some(came) => {
+                self.pace = came;
+                true
+            }
+            None => {
+                self.tell_binary(rt);
+                false
+            }
+        }
+    }
+
+    /// The last part of a turn: writes, and looks once more whether there is something to read.
+    pub(crate) fn give_out(&mut self, now: Moment, buffer: &mut [u8]) -> Onward
+        ensures moved { (sent lost : List ℕ) × Carries sent lost self.old self.new
+            × (result ≢ Onward.Done → lost ≡ []) }
+    {
+        self.work = Work::none();
+        if self.guesses.still_waits(now) {
+            return Onward::GoesOn(Pace::Tries);
+        }
+        self.give_replies(now, buffer)
+    }
+
+    /// The last part of a turn in which no reply is held back.
+    fn give_replies(&mut self, now: Moment, buffer: &mut [u8]) -> Onward
+        ensures moved { (sent lost : List ℕ) × Carries sent lost self.old self.new
+            × (result ≢ Onward.Done → lost ≡ []) }
+    {
+        if !self.send() || self.is_starved(now) {
+            return Onward::Done;
+        }
+        let Some(pace) = self.look_again(self.pace, buffer) else {
+            return Onward::Done;
+        };
+        if self.session.is_closed() && !self.session.has_out() {
+            return Onward::Done;
+        }
+        match pace {
+            Pace::Rests if !self.is_watched => Onward::GoesOn(Pace::Tries),
+            pace => Onward::GoesOn(pace),
+        }
+    }
+
+    /// Writes, and notes how far the turn came by it. Whether the wire goes on.
+    fn send(&mut self) -> bool
+        ensures sends { (sent : List ℕ) × Carries sent [] self.old self.new }
+    {
+        match self.write() {
+            Some(went) => {
+                self.pace = self.pace.and(went);
+                true
+            }
+            None => false,
+        }
+    }
+
+    /// How far a turn of this pace came. One that got on and left nothing to do or to send reads once
+    /// more, so that a wire with nothing says so before its worker waits; `None` where it is over. What
+    /// this read gives is served in the next turn.
+    fn look_again(&mut self, pace: Pace, buffer: &mut [u8]) -> Option<Pace>
+        ensures moved { (lost : List ℕ) × Carries [] lost self.old self.new
+            × (IsSome result → lost ≡ []) }
+    {
+        let is_through = self.rests && !self.session.has_out();
+        if pace != Pace::GetsOn || !is_through || !self.is_watched {
+            return Some(pace);
+        }
+        self.read(buffer)
+    }
+
+    /// Whether memory was refused to its requests for a whole second, so that its client would hang.
+    fn is_starved(&self, now: Moment) -> bool {
+        match self.refused {
+            Some(since) => now.seconds() > since.seconds() + 1,
+            None => false,
+        }
+    }
+
+    /// Whether so much waits to be sent that its client is to read first.
+    fn is_full(&self) -> bool {
+        self.session.about_out() > self.admitted.most_out
+    }
+
+    /// Whether it reads nothing now.
+    fn is_unread(&self) -> bool {
+        self.is_full() || !self.admitted.is_read
+    }
+
+    /// Reads once, where all that came is read and little waits to be sent; `None` where it is over.
+    fn read(&mut self, buffer: &mut [u8]) -> Option<Pace>
+        ensures moved { (lost : List ℕ) × Carries [] lost self.old self.new
+            × (IsSome result → lost ≡ []) }
+    {
+        if !self.rests || self.session.is_closed() || self.is_unread() {
+            return Some(self.admitted.pace_unread());
+        }
+        let room = buffer.len().min(LONGEST_PIECE);
+        let into = &mut buffer[..room];
+        match self.wire.read(into) {
+            Got::Bytes(0) => Some(Pace::Tries),
+            Got::Bytes(n) => {
+                self.work.add_read(n);
+                self.take(&into[..n])
+            }
+            Got::Later => Some(Pace::Rests),
+            Got::Ended => {
+                // All that came whole was done; what waits is still written.
+                self.session.shut();
+                Some(Pace::GetsOn)
+            }
+            Got::Failed => None,
+        }
+    }
+
+    /// Takes what came; `None` where memory is refused, or where its first byte is one of the binary
+    /// protocol, whose client would wait for ever.
+    fn take(&mut self, piece: &[u8]) -> Option<Pace>
+        requires piece { length piece.now ≤ longest_piece }
+        requires rests { self.old.rests ≡ true }
+        ensures came { OnSome result (self.new.session.endpoint
+            ≡ with_piece text_protocol self.old.session.endpoint piece.now) }
+        ensures refused { IfNone result (self.new.session.endpoint ≡ self.old.session.endpoint) }
+        ensures out { self.new.session.out ≡ self.old.session.out }
+        ensures conn { self.new.conn ≡ self.old.conn }
+        ensures gave { self.new.gave ≡ self.old.gave }
+        ensures took { self.new.took ≡ self.old.took }
+        ensures last { self.new.last ≡ self.old.last }
+    {
+        self.is_binary = self.is_new && piece.first() == Some(&BINARY);
+        if self.is_binary || self.session.push(piece).is_err() {
+            return None;
+        }
+        self.is_new = false;
+        self.rests = false;
+        Some(Pace::GetsOn)
+    }
+
+    /// Tells the wire of a client that speaks the binary protocol.
+    fn tell_binary<R: Wait>(&mut self, rt: &R)
+        ensures { self.new ≡ self.old }
+    {
+        if self.is_binary {
+            self.wire.note(rt, Remark::IsBinary);
+        }
+    }
+
+    /// Tells the wire, once, as which user it logged in.
+    fn meet(&mut self, user: UserNo)
+        ensures { self.new ≡ self.old }
+    {
+        if !self.is_told {
+            self.tell_user(user);
+        }
+    }
+
+    /// Tells the wire as which user it logged in.
+    #[cold]
+    fn tell_user(&mut self, user: UserNo)
+        ensures { self.new ≡ self.old }
+    {
+        self.is_told = true;
+        self.wire.set_user(user);
+    }
+
+    /// Writes until all is out, the wire takes no more, or it took so much that others are to go on
+    /// first; `None` where it fails.
+    fn write(&mut self) -> Option<Pace>
+        ensures sends { (sent : List ℕ) × Carries sent [] self.old self.new }
+    {
+        let mut pace = Pace::Rests;
+        let mut taken = 0usize;
+        for _ in 0..u64::MAX {
+            if !self.session.has_out() || taken >= MOST_TAKEN {
+                return Some(pace);
+            }
+            match self.put() {
+                Put::Wrote(0) => return Some(pace.and(Pace::Tries)),
+                Put::Wrote(n) => taken = taken.saturating_add(n),
+                Put::Later => return Some(pace),
+                Put::Failed => return None,
+            }
+            pace = Pace::GetsOn;
+        }
+        Some(pace)
+    }
+
+    /// Writes once.
+    fn put(&mut self) -> Put
+        ensures sends { (sent : List ℕ) × Carries sent [] self.old self.new }
+    {
+        self.session.settle();
+        match self.wire.write(&self.session.parts()) {
+            Put::Wrote(n) => {
+                self.session.sent(n);
+                self.work.add_write(n);
+                Put::Wrote(n)
+            }
+            Put::Later => Put::Later,
+            Put::Failed => Put::Failed,
+        }
+    }
+}
