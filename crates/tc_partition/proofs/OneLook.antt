@@ -16,7 +16,6 @@ use Rattle.tc_plain.specs.AreaLists.{found_in}
 use Rattle.tc_readbuf.specs.Places.{places}
 use Rattle.tc_partition.specs.WaitingSlots.{lazy_by, ArePlaced, SeeksSlot, placed_in}
 use Rattle.tc_partition.specs.Seeking.{noted_at, all_noted, AreHashed, SeekSlots}
-use Rattle.tc_partition.specs.declared.wanted.Wanted.{Wanted}
 use Rattle.tc_partition.specs.Delayed.{waits_next, waits_after}
 use Rattle.tc_partition.proofs.Deferral.{look_state, noted_lazy, raised_lazy, raised_settled}
 use Rattle.tc_partition.proofs.Draining.{IsPut, put_hit, put_miss}
@@ -70,37 +69,37 @@ module _ (s : LiveSlots) (m : ℕ) where
     pub placed : ArePlaced s.held.slots rs'
     pub settled : settled (lazy_by s rs' m) ≡ (all_looked_up (λ i. i) keys (settled (lazy_by s rs m))).1
 
-  look_each : (rs : List (LookUp × ℕ)) (keys : List (List ℕ)) (wanted : List Wanted) (found : List (Option Slot))
-      → AreHashed keys wanted → IsLazy (lazy_by s rs m) → ArePlaced s.held.slots rs → SeekSlots m keys found s
-      → AreLookedUp rs keys (rs ++ all_noted m wanted found)
+  look_each : (rs : List (LookUp × ℕ)) (keys : List (List ℕ)) (hashes : List ℕ) (found : List (Option Slot))
+      → AreHashed keys hashes → IsLazy (lazy_by s rs m) → ArePlaced s.held.slots rs → SeekSlots m keys found s
+      → AreLookedUp rs keys (rs ++ all_noted m hashes found)
   look_each rs [] [] found hs h p at =
       subst (AreLookedUp rs []) (sym (append-nil rs)) (record { lazy = h; placed = p; settled = refl })
-  look_each rs [] (w ∷ wanted) found hs h p at = absurd hs
+  look_each rs [] (w ∷ hashes) found hs h p at = absurd hs
   look_each rs (key ∷ keys) [] found hs h p at = absurd hs
-  look_each rs (key ∷ keys) (w ∷ wanted) [] hs h p at = absurd at
-  look_each rs (key ∷ keys) (w ∷ wanted) (place ∷ found) hs h p at =
-      let r : LookUp × ℕ = (noted_at w.hash place, m) in
-      let put = put_found s rs m key w.hash place hs.0 at.0 p in
+  look_each rs (key ∷ keys) (w ∷ hashes) [] hs h p at = absurd at
+  look_each rs (key ∷ keys) (w ∷ hashes) (place ∷ found) hs h p at =
+      let r : LookUp × ℕ = (noted_at w place, m) in
+      let put = put_found s rs m key w place hs.0 at.0 p in
       let up : IsLazy (lazy_by s (rs ++ r ∷ []) m) = subst IsLazy (sym put.state) (noted_lazy (lazy_by s rs m) key h) in
       let one : settled (lazy_by s (rs ++ r ∷ []) m) ≡ hit key (settled (lazy_by s rs m)) =
       ap settled put.state ∙ look_state (lazy_by s rs m) key h in
-      let rest = look_each (rs ++ r ∷ []) keys wanted found hs.1 up put.placed at.1 in
-      subst (AreLookedUp rs (key ∷ keys)) (append_assoc rs (r ∷ []) (all_noted m wanted found)) (record {
+      let rest = look_each (rs ++ r ∷ []) keys hashes found hs.1 up put.placed at.1 in
+      subst (AreLookedUp rs (key ∷ keys)) (append_assoc rs (r ∷ []) (all_noted m hashes found)) (record {
         lazy = rest.lazy;
         placed = rest.placed;
         settled = rest.settled ∙ ap (λ l. (all_looked_up (λ i. i) keys l).1) one;
       })
 
-pub look_all_now : (s : LiveSlots) (rs : List (LookUp × ℕ)) (before now : ℕ) (keys : List (List ℕ)) (wanted : List Wanted)
-    (found : List (Option Slot)) (m : ℕ) → AreHashed keys wanted → m ≡ max before now → IsLazy (lazy_by s rs before)
+pub look_all_now : (s : LiveSlots) (rs : List (LookUp × ℕ)) (before now : ℕ) (keys : List (List ℕ)) (hashes : List ℕ)
+    (found : List (Option Slot)) (m : ℕ) → AreHashed keys hashes → m ≡ max before now → IsLazy (lazy_by s rs before)
     → ArePlaced s.held.slots rs → SeekSlots m keys found s
-    → (let rs' = rs ++ all_noted m wanted found in
+    → (let rs' = rs ++ all_noted m hashes found in
     IsLazy (lazy_by s rs' m) × ArePlaced s.held.slots rs'
     × (settled (lazy_by s rs' m) ≡ (all_looked_up (λ i. i) keys (advanced (settled (lazy_by s rs before)) now)).1))
-look_all_now s rs before now keys wanted found m hs e h p at =
+look_all_now s rs before now keys hashes found m hs e h p at =
     let up : IsLazy (lazy_by s rs m) =
     subst (λ t. IsLazy (lazy_by s rs t)) (sym e) (raised_lazy (lazy_by s rs before) now h) in
-    let all = look_each s m rs keys wanted found hs up p at in (
+    let all = look_each s m rs keys hashes found hs up p at in (
       all.lazy,
       all.placed,
       all.settled
@@ -132,34 +131,34 @@ found_push m [] (p ∷ found) s key place h at = absurd h
 found_push m (k ∷ keys) [] s key place h at = absurd h
 found_push m (k ∷ keys) (p ∷ found) s key place h at = (h.0, found_push m keys found s key place h.1 at)
 
-pub noted_push : (m : ℕ) (wanted : List Wanted) (found : List (Option Slot)) (w : Wanted) (place : Option Slot)
-    → length found ≡ length wanted
-    → all_noted m (wanted ++ w ∷ []) (found ++ place ∷ []) ≡ all_noted m wanted found ++ (noted_at w.hash place, m) ∷ []
+pub noted_push : (m : ℕ) (hashes : List ℕ) (found : List (Option Slot)) (w : ℕ) (place : Option Slot)
+    → length found ≡ length hashes
+    → all_noted m (hashes ++ w ∷ []) (found ++ place ∷ []) ≡ all_noted m hashes found ++ (noted_at w place, m) ∷ []
 noted_push m [] [] w place e = refl
 noted_push m [] (p ∷ found) w place e = absurd (omega (arith, e))
-noted_push m (v ∷ wanted) [] w place e = absurd (omega (arith, e))
-noted_push m (v ∷ wanted) (p ∷ found) w place e =
-    ap (λ rs. (noted_at v.hash p, m) ∷ rs) (noted_push m wanted found w place (omega (arith, e)))
+noted_push m (v ∷ hashes) [] w place e = absurd (omega (arith, e))
+noted_push m (v ∷ hashes) (p ∷ found) w place e =
+    ap (λ rs. (noted_at v p, m) ∷ rs) (noted_push m hashes found w place (omega (arith, e)))
 
-pub noted_long : (m : ℕ) (wanted : List Wanted) (found : List (Option Slot)) → length found ≡ length wanted
-    → length (all_noted m wanted found) ≡ length wanted
+pub noted_long : (m : ℕ) (hashes : List ℕ) (found : List (Option Slot)) → length found ≡ length hashes
+    → length (all_noted m hashes found) ≡ length hashes
 noted_long m [] found e = refl
-noted_long m (w ∷ wanted) [] e = absurd (omega (arith, e))
-noted_long m (w ∷ wanted) (p ∷ found) e = let rest = noted_long m wanted found (omega (arith, e)) in omega (arith, rest)
+noted_long m (w ∷ hashes) [] e = absurd (omega (arith, e))
+noted_long m (w ∷ hashes) (p ∷ found) e = let rest = noted_long m hashes found (omega (arith, e)) in omega (arith, rest)
 
 -- a hash for each key
-pub hashed_long : (keys : List (List ℕ)) (wanted : List Wanted) → AreHashed keys wanted → length wanted ≡ length keys
+pub hashed_long : (keys : List (List ℕ)) (hashes : List ℕ) → AreHashed keys hashes → length hashes ≡ length keys
 hashed_long [] [] h = refl
-hashed_long [] (w ∷ wanted) h = absurd h
+hashed_long [] (w ∷ hashes) h = absurd h
 hashed_long (k ∷ keys) [] h = absurd h
-hashed_long (k ∷ keys) (w ∷ wanted) h = let rest = hashed_long keys wanted h.1 in omega (arith, rest)
+hashed_long (k ∷ keys) (w ∷ hashes) h = let rest = hashed_long keys hashes h.1 in omega (arith, rest)
 
-pub hashed_push : (keys : List (List ℕ)) (wanted : List Wanted) (key : List ℕ) (w : Wanted) → AreHashed keys wanted
-    → w.hash ≡ hash key → AreHashed (keys ++ key ∷ []) (wanted ++ w ∷ [])
+pub hashed_push : (keys : List (List ℕ)) (hashes : List ℕ) (key : List ℕ) (w : ℕ) → AreHashed keys hashes
+    → w ≡ hash key → AreHashed (keys ++ key ∷ []) (hashes ++ w ∷ [])
 hashed_push [] [] key w h at = (at, tt)
-hashed_push [] (v ∷ wanted) key w h at = absurd h
+hashed_push [] (v ∷ hashes) key w h at = absurd h
 hashed_push (k ∷ keys) [] key w h at = absurd h
-hashed_push (k ∷ keys) (v ∷ wanted) key w h at = (h.0, hashed_push keys wanted key w h.1 at)
+hashed_push (k ∷ keys) (v ∷ hashes) key w h at = (h.0, hashed_push keys hashes key w h.1 at)
 
 -- how many wait where there is room for all
 pub waits_room : (k n : ℕ) → n + k ≤ places → waits_after k n ≡ n + k

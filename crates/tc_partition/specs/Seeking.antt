@@ -1,4 +1,4 @@
--- Keys that are sought, and what is noted of them where they were found. Source: this project's own.
+-- Keys that are sought, their hashes, and what is noted of them where they were found. Source: this project's own.
 use Rattle.std.specs.Prelude.{◌≡◌, ℕ, List, [], ◌∷◌, Option, Some, None}
 use Rattle.tc_item.specs.declared.slot.Slot.{Slot}
 use Rattle.tc_sketch.specs.Sketch.{hash}
@@ -6,25 +6,24 @@ use Rattle.tc_readbuf.specs.declared.look_up.LookUp.{LookUp}
 use Rattle.tc_readbuf.specs.declared.look_up.LookUp.TheVariants.{Hit as HitNoted, Miss as MissNoted}
 use Rattle.tc_partition.specs.WaitingSlots.{SeeksSlot}
 use Rattle.tc_partition.specs.declared.live_slots.LiveSlots.{LiveSlots}
-use Rattle.tc_partition.specs.declared.wanted.Wanted.{Wanted}
 
 -- what is noted of a key of this hash that was found at this place, or holds nothing
 abbrev pub noted_at : ℕ → Option Slot → LookUp
 noted_at h None = MissNoted h
 noted_at h (Some slot) = HitNoted slot h
 
--- what is noted of keys that were found so, one after another, at a moment
-abbrev pub all_noted : ℕ → List Wanted → List (Option Slot) → List (LookUp × ℕ)
+-- what is noted of keys of these hashes that were found so, one after another, at a moment
+abbrev pub all_noted : ℕ → List ℕ → List (Option Slot) → List (LookUp × ℕ)
 all_noted m [] found = []
-all_noted m (w ∷ wanted) [] = []
-all_noted m (w ∷ wanted) (place ∷ found) = (noted_at w.hash place, m) ∷ all_noted m wanted found
+all_noted m (h ∷ hashes) [] = []
+all_noted m (h ∷ hashes) (place ∷ found) = (noted_at h place, m) ∷ all_noted m hashes found
 
 -- the hash of each key
-abbrev pub AreHashed : List (List ℕ) → List Wanted → Type 0
+abbrev pub AreHashed : List (List ℕ) → List ℕ → Type 0
 AreHashed [] [] = Unit {0}
-AreHashed [] (w ∷ wanted) = ⊥
+AreHashed [] (h ∷ hashes) = ⊥
 AreHashed (key ∷ keys) [] = ⊥
-AreHashed (key ∷ keys) (w ∷ wanted) = (w.hash ≡ hash key) × AreHashed keys wanted
+AreHashed (key ∷ keys) (h ∷ hashes) = (h ≡ hash key) × AreHashed keys hashes
 
 -- where what each key will hold at a moment is, or nowhere
 abbrev pub SeekSlots : ℕ → List (List ℕ) → List (Option Slot) → LiveSlots → Type 0

@@ -35,10 +35,13 @@ impl Hints {
         Some(Slot(*slot as usize))
     }
 
-    /// Notes where a key of this hash is.
+    /// Notes where a key of this hash is. A hint that says so stays unwritten: other processors may have a
+    /// copy of its line.
     pub fn note(&mut self, hash: u64, slot: Slot) {
         let place = self.place(hash);
-        if let (Some(hint), Ok(slot)) = (self.slots.get_mut(place), u32::try_from(slot.0)) {
+        if let (Some(hint), Ok(slot)) = (self.slots.get_mut(place), u32::try_from(slot.0))
+            && *hint != slot
+        {
             *hint = slot;
         }
     }

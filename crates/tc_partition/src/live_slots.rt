@@ -22,7 +22,6 @@ ghost use Rattle.tc_partition.specs.LiveSlots.{live_of, then_live, seen_of, plan
 ghost use Rattle.tc_partition.specs.Working.{is_new, IsAimed};
 
 use crate::hints::Hints;
-use crate::wanted::Wanted;
 use crate::work::Work;
 use std::alloc::Global;
 use tc_item::{Due, Key, Moment, NoMemory, Slot, alive};
@@ -98,17 +97,6 @@ impl LiveSlots {
         self.held.make_log_room(dues)?;
         self.advance(now);
         Ok(())
-    }
-
-    /// What is known of a key before it is sought.
-    pub(crate) fn wanted(&self, key: &Key) -> Wanted
-        ensures { result.hash ≡ hash key.now }
-    {
-        let hash = hash(key.as_bytes());
-        Wanted {
-            hash,
-            hint: self.hints.slot(hash),
-        }
     }
 
     /// Reads where a key of this hash may be. What that comes to says nothing; so in the two below.

@@ -6,9 +6,9 @@ use Rattle.tc_partition.specs.Seeking.{SeekSlots}
 use Rattle.tc_partition.proofs.OneLook.{found_push, hashed_long}
 use Rattle.tc_partition.proofs.looking.seek_all.Goals as goal
 
-pub bounds-wanted-i : goal.bounds-wanted-i
-bounds-wanted-i c =
-    omega (arith, hashed_long c.args.keys.now c.args.wanted.now c.requires.hashed, c.loop-i-test.true)
+pub bounds-hashes-i : goal.bounds-hashes-i
+bounds-hashes-i c =
+    omega (arith, hashed_long c.args.keys.now c.args.hashes.now c.requires.hashed, c.loop-i-test.true)
 
 pub push_reserved-requires : goal.push_reserved-requires
 push_reserved-requires c = omega (arith, c.loop-i.invariant.room, c.loop-i-test.true)

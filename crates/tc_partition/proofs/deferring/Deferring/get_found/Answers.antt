@@ -10,7 +10,6 @@ use Rattle.tc_partition.specs.WaitingSlots.{lazy_by, waiting_of, ArePlaced}
 use Rattle.tc_item.specs.declared.slot.Slot.{Slot}
 use Rattle.tc_readbuf.specs.declared.look_up.LookUp.{LookUp}
 use Rattle.tc_partition.specs.Seeking.{all_noted, AreHashed}
-use Rattle.tc_partition.specs.declared.wanted.Wanted.{Wanted}
 use Rattle.tc_partition.specs.SlotCaches.{cache_of}
 use Rattle.tc_partition.specs.Delayed.{Delayed, settled_in, lazy_in}
 use Rattle.tc_partition.proofs.Joined.{peeked_hits}
@@ -20,14 +19,14 @@ use Rattle.tc_partition.proofs.deferring.Deferring.get_found.Goals as goal
 
 pub seek_hits-requires-clause-hashed : goal.seek_hits-requires-clause-hashed
 seek_hits-requires-clause-hashed c =
-    subst (AreHashed c.args.keys.now) (sym c.as_slice.ensures) c.in_ok-wanted.ensures
+    subst (AreHashed c.args.keys.now) (sym c.as_slice.ensures) c.in_ok-hashes.ensures
 
 pub note_all_found-requires-clause-long : goal.note_all_found-requires-clause-long
 note_all_found-requires-clause-long c =
     ap length c.as_slice-2.ensures
     ∙ found_long c.later-moment.result c.args.keys.now c.in_ok-hits.found.items c.self.inside.cache.live
     c.in_ok-hits.ensures.seen
-    ∙ sym (hashed_long c.args.keys.now c.in_ok-wanted.wanted.items c.in_ok-wanted.ensures)
+    ∙ sym (hashed_long c.args.keys.now c.in_ok-hashes.hashes.items c.in_ok-hashes.ensures)
     ∙ sym (ap length c.as_slice-3.ensures)
 
 pub note_all_found-requires-clause-room : goal.note_all_found-requires-clause-room
@@ -38,12 +37,12 @@ note_all_found-requires-clause-room c =
       c.requires,
       length_map (waiting_of i.cache.live.held.slots) i.waiting,
       ap (λ (z : Delayed). length z.waiting) c.self.view_is,
-      hashed_long c.args.keys.now c.in_ok-wanted.wanted.items c.in_ok-wanted.ensures,
+      hashed_long c.args.keys.now c.in_ok-hashes.hashes.items c.in_ok-hashes.ensures,
       ap length c.as_slice-3.ensures,
     )
 
 -- what was noted of what stands in the two lists
-noted_all : (m : ℕ) (before after : List (LookUp × ℕ)) (ws vs : List Wanted) (fs gs : List (Option Slot))
+noted_all : (m : ℕ) (before after : List (LookUp × ℕ)) (ws vs : List ℕ) (fs gs : List (Option Slot))
     → after ≡ before ++ all_noted m ws fs → fs ≡ gs → ws ≡ vs → after ≡ before ++ all_noted m vs gs
 noted_all m before after ws vs fs gs e f w =
     e ∙ ap (λ z. before ++ all_noted m ws z) f ∙ ap (λ z. before ++ all_noted m z gs) w
@@ -54,10 +53,10 @@ invariant_of-self c =
     let keys = c.args.keys.now in
     let m = c.later-moment.result in
     let found = c.in_ok-hits.found.items in
-    let wanted = c.in_ok-wanted.wanted.items in
-    let is = noted_all m i.waiting c.note_all_found.new.waiting c.as_slice-3.result.now wanted c.as_slice-2.result.now found
+    let hashes = c.in_ok-hashes.hashes.items in
+    let is = noted_all m i.waiting c.note_all_found.new.waiting c.as_slice-3.result.now hashes c.as_slice-2.result.now found
     c.note_all_found.ensures c.as_slice-2.ensures c.as_slice-3.ensures in
-    let all = look_all_now i.cache.live i.waiting i.moment c.args.now keys wanted found m c.in_ok-wanted.ensures
+    let all = look_all_now i.cache.live i.waiting i.moment c.args.now keys hashes found m c.in_ok-hashes.ensures
     c.later-moment.ensures
     c.self.invariant.lazy c.self.invariant.placed c.in_ok-hits.ensures.seen in
     record {
@@ -82,10 +81,10 @@ returns-clause-state c =
     let keys = c.args.keys.now in
     let m = c.later-moment.result in
     let found = c.in_ok-hits.found.items in
-    let wanted = c.in_ok-wanted.wanted.items in
-    let is = noted_all m i.waiting c.note_all_found.new.waiting c.as_slice-3.result.now wanted c.as_slice-2.result.now found
+    let hashes = c.in_ok-hashes.hashes.items in
+    let is = noted_all m i.waiting c.note_all_found.new.waiting c.as_slice-3.result.now hashes c.as_slice-2.result.now found
     c.note_all_found.ensures c.as_slice-2.ensures c.as_slice-3.ensures in
-    let all = look_all_now i.cache.live i.waiting i.moment c.args.now keys wanted found m c.in_ok-wanted.ensures
+    let all = look_all_now i.cache.live i.waiting i.moment c.args.now keys hashes found m c.in_ok-hashes.ensures
     c.later-moment.ensures
     c.self.invariant.lazy c.self.invariant.placed c.in_ok-hits.ensures.seen in
     ap (with_live (cache_of i.cache)) (ap (λ rs. settled (lazy_by i.cache.live rs m)) is ∙ all.2)
@@ -99,15 +98,15 @@ returns-clause-waits c =
     let keys = c.args.keys.now in
     let m = c.later-moment.result in
     let found = c.in_ok-hits.found.items in
-    let wanted = c.in_ok-wanted.wanted.items in
-    let is = noted_all m i.waiting c.note_all_found.new.waiting c.as_slice-3.result.now wanted c.as_slice-2.result.now found
+    let hashes = c.in_ok-hashes.hashes.items in
+    let is = noted_all m i.waiting c.note_all_found.new.waiting c.as_slice-3.result.now hashes c.as_slice-2.result.now found
     c.note_all_found.ensures c.as_slice-2.ensures c.as_slice-3.ensures in
     let long = found_long m keys found i.cache.live c.in_ok-hits.ensures.seen in
-    let same = hashed_long keys wanted c.in_ok-wanted.ensures in
-    length_map _ c.note_all_found.new.waiting ∙ ap length is ∙ length-append i.waiting (all_noted m wanted found)
+    let same = hashed_long keys hashes c.in_ok-hashes.ensures in
+    length_map _ c.note_all_found.new.waiting ∙ ap length is ∙ length-append i.waiting (all_noted m hashes found)
     ∙ omega (
       arith,
-      noted_long m wanted found (long ∙ sym same),
+      noted_long m hashes found (long ∙ sym same),
       same,
       length_map (waiting_of i.cache.live.held.slots) i.waiting,
       ap (λ (z : Delayed). length z.waiting) c.self.view_is,

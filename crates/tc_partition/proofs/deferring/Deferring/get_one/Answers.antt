@@ -1,5 +1,6 @@
 use Rattle.std.specs.Prelude.{length}
 use Rattle.std.proofs.Common.{◌∷◌, [], sym, ◌∙◌, ap, subst, arith}
+use Rattle.tc_sketch.specs.Sketch.{hash}
 use Rattle.tc_plain.specs.EvictionState.{advanced}
 use Rattle.tc_plain.specs.UserCache.{advance}
 use Rattle.tc_plain.specs.Doing.{with_live, all_looked_up}
@@ -32,8 +33,8 @@ invariant_of-self c =
     let key = c.args.key.now in
     let m = c.later-moment.result in
     let p = subst (λ rs. IsLookedUp i.cache.live i.waiting i.moment c.args.now key rs m) (sym c.note_found.ensures)
-    (look_now i.cache.live i.waiting i.moment c.args.now key c.wanted-wanted.result.hash c.seek_from-place.result m
-    c.wanted-wanted.ensures c.later-moment.ensures
+    (look_now i.cache.live i.waiting i.moment c.args.now key c.hash-hash.result c.seek_from-place.result m
+    (c.hash-hash.ensures ∙ ap hash c.as_bytes.ensures.bytes) c.later-moment.ensures
     c.self.invariant.lazy c.self.invariant.placed c.seek_from-place.ensures) in
     record { sound = c.self.invariant.sound; lazy = p.lazy; placed = p.placed }
 
@@ -54,8 +55,8 @@ returns-clause-state c =
     let key = c.args.key.now in
     let m = c.later-moment.result in
     let p = subst (λ rs. IsLookedUp i.cache.live i.waiting i.moment c.args.now key rs m) (sym c.note_found.ensures)
-    (look_now i.cache.live i.waiting i.moment c.args.now key c.wanted-wanted.result.hash c.seek_from-place.result m
-    c.wanted-wanted.ensures c.later-moment.ensures
+    (look_now i.cache.live i.waiting i.moment c.args.now key c.hash-hash.result c.seek_from-place.result m
+    (c.hash-hash.ensures ∙ ap hash c.as_bytes.ensures.bytes) c.later-moment.ensures
     c.self.invariant.lazy c.self.invariant.placed c.seek_from-place.ensures) in
     ap (with_live (cache_of i.cache)) p.settled
     ∙ ap (λ (z : Delayed). with_live (advance (settled_in z) c.args.now) (hit key (advance (settled_in z) c.args.now).live))

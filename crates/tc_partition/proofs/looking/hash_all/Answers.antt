@@ -1,10 +1,9 @@
-use Rattle.std.proofs.Common.{List, ◌∷◌, ◌++◌, [], ◌+◌, length, take, get_or, arith, sym, ◌∙◌, subst, ap}
+use Rattle.std.proofs.Common.{ℕ, List, ◌∷◌, ◌++◌, [], ◌+◌, length, take, get_or, arith, sym, ◌∙◌, subst, ap}
 use Rattle.std.proofs.lemmas.List.{take_more, length-append}
 use Rattle.tc_sketch.specs.Sketch.{hash}
 use Rattle.tc_partition.specs.Seeking.{AreHashed}
-use Rattle.tc_partition.specs.declared.wanted.Wanted.{Wanted}
 use Rattle.tc_partition.proofs.OneLook.{hashed_push}
-use Rattle.tc_partition.proofs.looking.all_wanted.Goals as goal
+use Rattle.tc_partition.proofs.looking.hash_all.Goals as goal
 
 pub push_reserved-requires : goal.push_reserved-requires
 push_reserved-requires c = omega (arith, c.loop-key.invariant.room, c.loop-key-test.true)
@@ -17,16 +16,16 @@ loop-key-preserved c =
     let before = c.loop-key.all.items in
     record {
       hashed =
-          subst (λ (ws : List Wanted). AreHashed (take (i + 1) keys) ws) (sym c.push_reserved.ensures.items)
-          (subst (λ ks. AreHashed ks (before ++ c.wanted.result ∷ [])) (sym (take_more keys i key c.loop-key-test.true))
-          (hashed_push (take i keys) before (get_or keys i key) c.wanted.result c.loop-key.invariant.hashed
-          (c.wanted.ensures ∙ ap hash c.key-item.is)));
+          subst (λ (ws : List ℕ). AreHashed (take (i + 1) keys) ws) (sym c.push_reserved.ensures.items)
+          (subst (λ ks. AreHashed ks (before ++ c.hash.result ∷ [])) (sym (take_more keys i key c.loop-key-test.true))
+          (hashed_push (take i keys) before (get_or keys i key) c.hash.result c.loop-key.invariant.hashed
+          (c.hash.ensures ∙ ap hash (c.as_bytes.ensures.bytes ∙ c.key-item.is))));
       room =
           omega (
             arith,
             c.loop-key.invariant.room,
             c.push_reserved.ensures.capacity,
             ap length c.push_reserved.ensures.items,
-            length-append before (c.wanted.result ∷ []),
+            length-append before (c.hash.result ∷ []),
           );
     }

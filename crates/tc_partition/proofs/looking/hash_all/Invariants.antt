@@ -1,6 +1,6 @@
 use Rattle.std.proofs.Common.{◌+◌, ◌≤◌, length, take}
 use Rattle.tc_partition.specs.Seeking.{AreHashed}
-use Rattle.tc_partition.proofs.looking.all_wanted.Given as goal
+use Rattle.tc_partition.proofs.looking.hash_all.Given as goal
 
 abbrev pub invariant-loop-key : goal.invariant-loop-key
 invariant-loop-key l = record {
