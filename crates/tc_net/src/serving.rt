@@ -61,7 +61,7 @@ impl From<io::Error> for Unserved {
 }
 
 /// Which worker serves a connection once its user is known.
-#[derive(Clone, Copy, Debug, PartialEq, Eq)]
+#[derive(Clone, Copy, PartialEq, Eq)]
 pub enum Affinity {
     /// That of its user, or one that helps it: users are dealt out to the workers in the order of their
     /// numbers, and a worker that has no time left gets helpers.
@@ -309,7 +309,13 @@ pub fn serve<
         length,
         keeps,
     )?;
-    let seats = serve_hall(rt, alloc, &hall, seats, settings, opening, audience)?;
+    let server = Server {
+        rt,
+        alloc,
+        hall: &hall,
+        audience,
+    };
+    let seats = server.serve(seats, settings, opening)?;
     match at_end {
         AtEnd::Leaves => Ok(Found::Nothing),
         AtEnd::Audits => Ok(audit_hall(alloc, hall, seats, audience)?),
@@ -349,7 +355,8 @@ fn opening_of(
     })
 }
 
-/// The places of all connections, by the settings' limits, which are taken out of these.
+/// The places of all connections, by the settings' limits. Those of users are taken out of these, whatever comes
+/// of it.
 fn share_connections(
     alloc: Global,
     settings: &mut Settings,
@@ -365,28 +372,6 @@ fn share_connections(
         Ok(connections) => Ok(connections),
         Err(_) => Err(Unserved::NoMemory),
     }
-}
-
-/// Serves the users of a hall, whose last seat is for the metrics. All seats come back.
-fn serve_hall<
-    C: Cache + Send + Sync,
-    N: Naming + Send + Sync,
-    R: Threads + Wait + Net + Time + AllocGlobal + Send + Sync + Copy + Drop + 'static,
-    A: Audience + Sync,
->(
-    rt: &R,
-    alloc: Global,
-    hall: &Hall<C, N>,
-    seats: Vec<Seat<N>>,
-    mut settings: Settings,
-    opening: Opening,
-    audience: &A,
-) -> Result<Vec<Seat<N>>, Unserved>
-    requires { 0 < settings.workers }
-{
-    let connections = share_connections(alloc, &mut settings)?;
-    let standing = stand(rt, alloc, &connections, seats, &settings, opening, audience)?;
-    run(rt, alloc, hall, &settings.users, standing, &connections)
 }
 
 /// A server that listens.
@@ -438,41 +423,75 @@ fn stand<'a, N: Naming, R: Wait + Net + Time + AllocGlobal + Copy + Drop, A: Aud
     })
 }
 
-/// Runs the listener, the workers and the keeper, until the listener ends. All seats come back.
-fn run<
+/// A server, as each of its parts knows it.
+#[derive(Drop)]
+struct Server<'a, C: Cache, N: Naming, R, A: Audience> {
+    rt: &'a R,
+    alloc: Global,
+    hall: &'a Hall<C, N>,
+    audience: &'a A,
+}
+
+impl<
+    'a,
     C: Cache + Send + Sync,
     N: Naming + Send + Sync,
     R: Threads + Wait + Net + Time + AllocGlobal + Send + Sync + Copy + Drop + 'static,
     A: Audience + Sync,
->(
-    rt: &R,
-    alloc: Global,
-    hall: &Hall<C, N>,
-    users: &Users,
-    standing: Standing<'_, N, R, A>,
-    connections: &Arc<Connections, Global>,
-) -> Result<Vec<Seat<N>>, Unserved> {
-    let Standing {
-        crew,
-        source,
-        listening,
-    } = standing;
-    let clock = Clock::new();
-    // Commands that come before the keeper's first turn are done at the right moment.
-    clock.advance(moment_now(rt));
-    let own = *rt;
-    let Ok(listener) = thread::spawn(rt, move || listening.run(&own)) else {
-        return Err(Unserved::NoMemory);
-    };
-    let keeper = Keeper::new();
-    let ended = run_crew(rt, alloc, hall, users, &clock, &Open, keeper, crew, source);
-    connections.end();
-    let _outlets = listener.join(rt);
-    let Ok(Returned { mut seats, source }) = ended else {
-        return Err(Unserved::NoMemory);
-    };
-    match seats.push(source.into_seat()) {
-        Ok(()) => Ok(seats),
-        Err(_) => Err(Unserved::NoMemory),
+> Server<'a, C, N, R, A> {
+    /// Serves the hall's users, whose last seat is for the metrics, until it ends. All seats come back.
+    fn serve(
+        &self,
+        seats: Vec<Seat<N>>,
+        mut settings: Settings,
+        opening: Opening,
+    ) -> Result<Vec<Seat<N>>, Unserved>
+        requires { 0 < settings.workers }
+    {
+        let connections = share_connections(self.alloc, &mut settings)?;
+        let standing = stand(
+            self.rt,
+            self.alloc,
+            &connections,
+            seats,
+            &settings,
+            opening,
+            self.audience,
+        )?;
+        self.run(&settings.users, standing, &connections)
+    }
+
+    /// Runs the listener, the workers and the keeper, until the listener ends. All seats come back.
+    fn run(
+        &self,
+        users: &Users,
+        standing: Standing<'a, N, R, A>,
+        connections: &Arc<Connections, Global>,
+    ) -> Result<Vec<Seat<N>>, Unserved> {
+        let Standing {
+            crew,
+            source,
+            listening,
+        } = standing;
+        let clock = Clock::new();
+        // Commands that come before the keeper's first turn are done at the right moment.
+        clock.advance(moment_now(self.rt));
+        let own = *self.rt;
+        let Ok(listener) = thread::spawn(self.rt, move || listening.run(&own)) else {
+            return Err(Unserved::NoMemory);
+        };
+        let keeper = Keeper::new();
+        let ended = run_crew(
+            self.rt, self.alloc, self.hall, users, &clock, &Open, keeper, crew, source,
+        );
+        connections.end();
+        let _outlets = listener.join(self.rt);
+        let Ok(Returned { mut seats, source }) = ended else {
+            return Err(Unserved::NoMemory);
+        };
+        match seats.push(source.into_seat()) {
+            Ok(()) => Ok(seats),
+            Err(_) => Err(Unserved::NoMemory),
+        }
     }
 }
