@@ -10,7 +10,7 @@ use tc_net::{Affinity, AtEnd};
 const DEMO_LISTEN: &str = "127.0.0.1:11211";
 
 /// Over which cache a script is run.
-#[derive(Clone, Copy, Debug, PartialEq, Eq)]
+#[derive(Clone, Copy, PartialEq, Eq)]
 pub enum Reading {
     /// The fast one, which a server runs.
     Served,
@@ -176,7 +176,7 @@ fn check_command<'a>(alloc: Global) -> Result<Command<'a>, AllocError> {
 /// What the command line may be.
 fn command<'a>(alloc: Global) -> Result<Command<'a>, AllocError> {
     let program = Command::new(alloc, "partcached")
-        .version("1.12.0")
+        .version("1.13.0")
         .about("A memcached server in which each user has a partition of its own")
         .subcommand_required(true);
     let program = program.subcommand(run_command(alloc)?)?;

@@ -11,7 +11,7 @@ use tc_item::NoMemory;
 use tc_session::Session;
 
 /// All bytes that a connection was sent.
-#[derive(Debug, Drop)]
+#[derive(Drop)]
 pub struct Sent {
     bytes: Vec<u8>,
 }
@@ -43,7 +43,7 @@ impl Sent {
 }
 
 /// What one connection was sent, and whether it is closed.
-#[derive(Debug, Drop)]
+#[derive(Drop)]
 pub struct Output {
     pub connection: ConnectionNo,
     pub closed: bool,
@@ -51,7 +51,7 @@ pub struct Output {
 }
 
 /// What each opened connection was sent, by rising number.
-#[derive(Debug, Drop)]
+#[derive(Drop)]
 pub struct Outputs {
     outputs: Vec<Output>,
 }

@@ -6,7 +6,7 @@ use tc_item::Moment;
 pub type ConnectionNo = u32;
 
 /// What may come to a connection.
-#[derive(Clone, Copy, Debug)]
+#[derive(Clone, Copy)]
 pub enum Happening<'a> {
     /// It is opened.
     Open,
@@ -21,7 +21,7 @@ pub enum Happening<'a> {
 /// A step. Connections are numbered by the caller, users from 1. A step on a connection that is not
 /// open does nothing, but for opening one that never was; nor does opening one again, or a step on an
 /// unknown user.
-#[derive(Clone, Copy, Debug)]
+#[derive(Clone, Copy)]
 pub enum Step<'a> {
     /// Something comes to a connection.
     On(ConnectionNo, Happening<'a>),

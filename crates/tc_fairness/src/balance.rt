@@ -63,7 +63,7 @@ const GAIN: u64 = 12;
 const LARGE_GAIN: u64 = 4;
 
 /// Whether twice as many workers are tried, or half of them.
-#[derive(Clone, Copy, Debug, PartialEq, Eq)]
+#[derive(Clone, Copy, PartialEq, Eq)]
 enum Way {
     More,
     Fewer,
@@ -71,7 +71,7 @@ enum Way {
 
 /// A trial: how many workers there were before it, how many looks are left of it, and at those made what
 /// was sent, and which load it was.
-#[derive(Clone, Copy, Debug)]
+#[derive(Clone, Copy)]
 struct Trial {
     way: Way,
     before: usize,
@@ -81,7 +81,7 @@ struct Trial {
 }
 
 /// How long trials of a kind wait.
-#[derive(Clone, Copy, Debug)]
+#[derive(Clone, Copy)]
 struct Rest {
     left: u32,
     last: u32,
@@ -108,7 +108,7 @@ impl Rest {
 }
 
 /// What a look shows of a home.
-#[derive(Clone, Copy, Debug)]
+#[derive(Clone, Copy)]
 struct Seen {
     /// How many bytes came from its users and went to them.
     sent: u64,
@@ -123,7 +123,7 @@ struct Seen {
 }
 
 /// How the users of a home are served.
-#[derive(Clone, Copy, Debug)]
+#[derive(Clone, Copy)]
 struct Home {
     width: usize,
     /// The first helper, counted from the home.

@@ -41,14 +41,14 @@ pub const LEAST_OUT: usize = 16_384;
 const MOST_OF_USER: usize = 8_388_608;
 
 /// How many bytes wait to be sent to a connection, and whose it is.
-#[derive(Clone, Copy, Debug)]
+#[derive(Clone, Copy)]
 pub struct Backlog {
     pub user: usize,
     pub bytes: usize,
 }
 
 /// What a user did that no share has paid, how far its cache is maintained, and what waits for it.
-#[derive(Clone, Copy, Debug)]
+#[derive(Clone, Copy)]
 struct Account {
     owed: u64,
     /// The turn whose share was paid last.

@@ -2,7 +2,7 @@
 use std::alloc::{AllocError, Global};
 
 /// What a worker did for the users of a home.
-#[derive(Clone, Copy, Debug, Default)]
+#[derive(Clone, Copy, Default)]
 pub struct Traffic {
     /// How often it read and wrote.
     pub calls: u64,

@@ -12,7 +12,7 @@ const FREE: u32 = 3;
 const HELD_SECONDS: u64 = 2;
 
 /// How many logins of a connection were refused, and since when the reply to the last one waits.
-#[derive(Clone, Copy, Debug)]
+#[derive(Clone, Copy)]
 pub struct Guesses {
     refused: u32,
     waits: Option<Moment>,

@@ -22,7 +22,7 @@ const MOST: usize = 16_777_216;
 const SECONDS: u64 = 5;
 
 /// How many bytes of a connection are unread, its key, and whose it is.
-#[derive(Clone, Copy, Debug)]
+#[derive(Clone, Copy)]
 pub struct Part {
     pub user: usize,
     pub key: usize,
@@ -31,21 +31,21 @@ pub struct Part {
 
 /// The one connection of a user that is read while others wait, and when bytes of it last came, or it
 /// began to lead.
-#[derive(Clone, Copy, Debug)]
+#[derive(Clone, Copy)]
 struct Lead {
     key: usize,
     heard: Moment,
 }
 
 /// How many bytes of a user's connections are unread, and which of these leads.
-#[derive(Clone, Copy, Debug)]
+#[derive(Clone, Copy)]
 struct Parts {
     bytes: usize,
     lead: Option<Lead>,
 }
 
 /// Whether a connection is read.
-#[derive(Clone, Copy, Debug, PartialEq, Eq)]
+#[derive(Clone, Copy, PartialEq, Eq)]
 pub enum Reads {
     Yes,
     /// In the place of the one under this key, of which nothing more comes.

@@ -27,7 +27,7 @@ use tc_item::NoMemory;
 const KEPT_ROOM: usize = 131_072;
 
 /// The unread bytes of a stream, and how many of those to come are skipped.
-#[derive(Debug, Drop)]
+#[derive(Drop)]
 pub struct Feed {
     bytes: Vec<u8>,
     /// Where the unread bytes begin.

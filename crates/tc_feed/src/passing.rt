@@ -21,7 +21,7 @@ pub enum Passed {
 }
 
 /// A request, how many bytes it takes, and how many bytes after it are skipped.
-#[derive(Clone, Copy, Debug, PartialEq, Eq)]
+#[derive(Clone, Copy, PartialEq, Eq)]
 pub(crate) struct Passing {
     pub request: Passed,
     pub length: usize,

@@ -14,7 +14,7 @@ const LONGEST_NUMBER: usize = 20;
 const LINE_REST: usize = 16;
 
 /// What a request seems to ask for.
-#[derive(Clone, Copy, Debug)]
+#[derive(Clone, Copy)]
 pub struct Peeked<'a> {
     /// Its key.
     pub key: &'a [u8],

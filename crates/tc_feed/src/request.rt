@@ -13,7 +13,7 @@ pub enum Request {
 }
 
 /// A request, how many bytes it takes, and how many bytes after it are skipped.
-#[derive(Debug, PartialEq, Eq, Drop)]
+#[derive(PartialEq, Eq, Drop)]
 pub(crate) struct Framed {
     pub request: Request,
     pub length: usize,

@@ -19,7 +19,7 @@ use crate::verb::{Verb, verb_named};
 use tc_item::is_key;
 
 /// What is known of a line without its keys.
-#[derive(Clone, Copy, Debug, PartialEq, Eq)]
+#[derive(Clone, Copy, PartialEq, Eq)]
 pub enum Outline {
     /// A whole command other than `quit`; it is not answered where it is quiet.
     Command {

@@ -8,7 +8,7 @@ use tc_item::NoMemory;
 pub(crate) const NOWHERE: u32 = u32::MAX;
 
 /// 32 bits of a hash.
-#[derive(Clone, Copy, Debug, PartialEq, Eq)]
+#[derive(Clone, Copy, PartialEq, Eq)]
 pub struct Tag(pub u32);
 
 /// A slot: the number of the next one in its chain, which is its slot and 1, or 0 where it is the last; and the

@@ -6,7 +6,7 @@ ghost use Rattle.tc_item.specs.Weight.{weight_of};
 use crate::{Blob, KeptDue, Key, Moment, RECORD_WEIGHT};
 
 /// What is kept under a key.
-#[derive(Debug, Drop)]
+#[derive(Drop)]
 pub struct Item {
     /// What the client stored beside the data and gets back with it.
     pub flags: u32,

@@ -6,7 +6,7 @@ use tc_item::Moment;
 /// Whose it was for the deal, the moment to which that user's cache was maintained, and with how many
 /// bytes that wait to be sent it is not full yet, and whether it is read. Its requests are done at that
 /// moment.
-#[derive(Clone, Copy, Debug, PartialEq, Eq)]
+#[derive(Clone, Copy, PartialEq, Eq)]
 pub struct Admitted {
     pub user: usize,
     pub now: Moment,

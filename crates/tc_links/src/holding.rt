@@ -3,7 +3,7 @@
 use tc_fairness::{Backlog, Part};
 
 /// Whose a connection is for the deal, and what is kept for it.
-#[derive(Clone, Copy, Debug)]
+#[derive(Clone, Copy)]
 pub struct Holding {
     /// Its user's number, 0 before it has logged in.
     pub user: usize,

@@ -1,7 +1,7 @@
 //! How far a connection came in a turn.
 
 /// What a step of a connection's turn came to, and the turn itself.
-#[derive(Clone, Copy, Debug, PartialEq, Eq)]
+#[derive(Clone, Copy, PartialEq, Eq)]
 pub enum Pace {
     /// Nothing can be done before more is there to read or there is room to write.
     Rests,
@@ -23,7 +23,7 @@ impl Pace {
 }
 
 /// What a turn leaves of a connection.
-#[derive(Clone, Copy, Debug, PartialEq, Eq)]
+#[derive(Clone, Copy, PartialEq, Eq)]
 pub enum Onward {
     GoesOn(Pace),
     /// It is to be dropped.

@@ -7,7 +7,7 @@ use tc_session::{News, Parts};
 use tc_users::UserNo;
 
 /// What a read gave.
-#[derive(Clone, Copy, Debug, PartialEq, Eq)]
+#[derive(Clone, Copy, PartialEq, Eq)]
 pub enum Got {
     /// So many bytes stand at the front of the buffer. After 0 it is to be asked again.
     Bytes(usize),
@@ -19,7 +19,7 @@ pub enum Got {
 }
 
 /// What a write came to.
-#[derive(Clone, Copy, Debug, PartialEq, Eq)]
+#[derive(Clone, Copy, PartialEq, Eq)]
 pub enum Put {
     /// So many of the first bytes were taken. After 0 it is to be asked again.
     Wrote(usize),
@@ -29,7 +29,7 @@ pub enum Put {
 }
 
 /// What an operator may want to know of a connection.
-#[derive(Clone, Copy, Debug, PartialEq, Eq)]
+#[derive(Clone, Copy, PartialEq, Eq)]
 pub enum Remark {
     /// This happened in its session.
     News(News),
@@ -97,7 +97,7 @@ pub enum Taken<W, L> {
 }
 
 /// How long an inlet may wait for something new.
-#[derive(Clone, Copy, Debug, PartialEq, Eq)]
+#[derive(Clone, Copy, PartialEq, Eq)]
 pub enum Patience {
     /// Not at all: a connection has more to do.
     Hurried,

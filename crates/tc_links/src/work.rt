@@ -31,7 +31,7 @@ const PARSED: u64 = 8;
 const LONGEST_LINE: usize = 65_538;
 
 /// What was done on a connection.
-#[derive(Clone, Copy, Debug)]
+#[derive(Clone, Copy)]
 pub(crate) struct Work {
     /// But for the bytes that were moved.
     units: u64,

@@ -11,7 +11,7 @@ use tc_plain::{Plain, act};
 use tc_stats::Outcome;
 
 /// A call that comes to another outcome when it is done again.
-#[derive(Debug, Drop)]
+#[derive(Drop)]
 pub struct Difference {
     /// Its place on the page, from 0. What the call was, and what was answered, stands there.
     pub place: usize,
@@ -23,7 +23,7 @@ pub struct Difference {
 
 /// What is found when the calls of a page are done again, in order and each at its moment, from what
 /// the page began with.
-#[derive(Debug, Drop)]
+#[derive(Drop)]
 pub struct Audit {
     /// How many calls were compared: all of the page, or those up to the first that differs, and it.
     pub compared: usize,

@@ -9,7 +9,7 @@ use tc_item::Moment;
 use tc_stats::Outcome;
 
 /// All of an entry but its command and its outcome.
-#[derive(Clone, Copy, Debug)]
+#[derive(Clone, Copy)]
 pub struct Numbers {
     pub seat: usize,
     pub tally: u64,
@@ -19,7 +19,7 @@ pub struct Numbers {
 }
 
 /// One call of a user's cache.
-#[derive(Debug, Drop)]
+#[derive(Drop)]
 pub struct CallEntry {
     /// The number of the seat that made it.
     pub seat: usize,
@@ -107,7 +107,7 @@ impl CallEntry {
 }
 
 /// What the caller is told of its entry.
-#[derive(Debug, Drop)]
+#[derive(Drop)]
 pub struct Slip {
     /// How many pages were turned before it was entered.
     pub page: u64,

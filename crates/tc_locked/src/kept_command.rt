@@ -7,7 +7,7 @@ use tc_grammar::Command;
 use tc_item::NoMemory;
 
 /// A command in a box of its own, so that a call of which no entry is kept moves no room for one about.
-#[derive(Debug, Drop)]
+#[derive(Drop)]
 pub struct KeptCommand {
     command: Box<Command>,
 }

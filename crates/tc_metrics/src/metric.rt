@@ -5,7 +5,7 @@ ghost use Rattle.tc_metrics.specs.MetricsText.{metric_name, is_gauge, metric_num
 use tc_stats::Counters;
 
 /// What is told of one user.
-#[derive(Debug, Drop)]
+#[derive(Drop)]
 pub struct UserFigures {
     /// Letters, digits, `_`, `-` and `.`, as users' names are.
     pub name: Vec<u8>,
@@ -20,7 +20,7 @@ pub struct UserFigures {
 }
 
 /// A metric that each user has: its connections, its calls, its journal, and each row of its `stats`.
-#[derive(Clone, Copy, Debug, PartialEq, Eq)]
+#[derive(Clone, Copy, PartialEq, Eq)]
 pub enum Metric {
     Connections,
     JournalCalls,

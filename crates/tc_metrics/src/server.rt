@@ -3,7 +3,7 @@ ghost use Rattle.std.specs.Prelude.{◌≡◌};
 ghost use Rattle.tc_metrics.specs.MetricsText.{own_name, own_is_gauge, own_number, own_metrics};
 
 /// What is told of the server.
-#[derive(Clone, Copy, Debug, PartialEq, Eq)]
+#[derive(Clone, Copy, PartialEq, Eq)]
 pub struct ServerFigures {
     /// Connections that have not logged in.
     pub unbound: u64,
@@ -18,7 +18,7 @@ pub struct ServerFigures {
 }
 
 /// A metric of the server's.
-#[derive(Clone, Copy, Debug, PartialEq, Eq)]
+#[derive(Clone, Copy, PartialEq, Eq)]
 pub enum OwnMetric {
     UnboundConnections,
     RefusedLogins,

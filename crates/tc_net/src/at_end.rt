@@ -5,7 +5,7 @@ ghost use Rattle.tc_net.specs.Ends.{journal_of, page_length};
 use tc_past::Journal;
 
 /// What a server does once so many connections were closed.
-#[derive(Clone, Copy, Debug, PartialEq, Eq)]
+#[derive(Clone, Copy, PartialEq, Eq)]
 pub enum AtEnd {
     /// It ends.
     Leaves,

@@ -3,7 +3,7 @@ use std::net::SocketAddr;
 use tc_users::UserNo;
 
 /// What became of a connection, in a line of its own.
-#[derive(Clone, Copy, Debug, PartialEq, Eq)]
+#[derive(Clone, Copy, PartialEq, Eq)]
 pub enum Notice {
     /// All places are taken, so a connection from there was closed at once.
     NoPlace {

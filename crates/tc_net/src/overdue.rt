@@ -5,7 +5,7 @@ ghost use Rattle.tc_net.specs.Deadlines.{is_past, is_stalled, is_silent, is_over
 use tc_users::{ConnectionLimits, UserLimits};
 
 /// What a connection's stay is judged by, in seconds of the server.
-#[derive(Clone, Copy, Debug, PartialEq, Eq)]
+#[derive(Clone, Copy, PartialEq, Eq)]
 pub(crate) struct Stay {
     /// When it came.
     pub(crate) came: u64,

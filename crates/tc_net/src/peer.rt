@@ -12,7 +12,7 @@ const PIECE: usize = 1_024;
 const PATIENCE: u64 = 10;
 
 /// How far one came.
-#[derive(Clone, Copy, Debug, PartialEq, Eq)]
+#[derive(Clone, Copy, PartialEq, Eq)]
 pub(crate) enum Stage {
     /// It is to be looked at again.
     Waits,

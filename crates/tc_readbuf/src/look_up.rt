@@ -3,7 +3,7 @@
 use tc_item::Slot;
 
 /// What a look-up found: it is noted, and counted for eviction later.
-#[derive(Clone, Copy, Debug, PartialEq, Eq)]
+#[derive(Clone, Copy, PartialEq, Eq)]
 pub enum LookUp {
     /// The item at this place, whose key has this hash (`tc_sketch::hash`).
     Hit(Slot, u64),

@@ -15,7 +15,7 @@ use tc_item::NoMemory;
 use tc_users::{SettingsFault, Text, UserNo, UserSpec, Users};
 
 /// What a script asks for: its users and what is done, in order.
-#[derive(Debug, Drop)]
+#[derive(Drop)]
 pub struct Script {
     users: Users,
     sized: Vec<u32>,

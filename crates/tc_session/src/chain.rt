@@ -9,7 +9,7 @@ use std::marker::Model;
 use tc_item::{Blob, NoMemory};
 
 /// Shared data, behind so many own bytes.
-#[derive(Debug, Drop)]
+#[derive(Drop)]
 pub(crate) struct Piece {
     /// How many own bytes stand between the data before and this.
     pub before: usize,
@@ -18,7 +18,7 @@ pub(crate) struct Piece {
 }
 
 /// Pieces, in the order in which they are sent.
-#[derive(Debug, Drop)]
+#[derive(Drop)]
 pub(crate) struct Chain {
     pieces: VecDeque<Piece>,
     /// How many own bytes stand before the last piece's data.

@@ -19,7 +19,7 @@ use tc_stats::{Counters, Hit};
 const KEPT_ROOM: usize = 65_536;
 
 /// Bytes that wait to be sent, and room for more: own bytes, and between them data that is shared.
-#[derive(Debug, Drop)]
+#[derive(Drop)]
 pub(crate) struct Output {
     own: Vec<u8>,
     /// How many own bytes were sent that no piece counts.

@@ -9,7 +9,7 @@ use tc_item::NoMemory;
 
 /// Bytes in slices, one after another: own bytes, and between them data that is shared. Where no data
 /// is shared, they are one slice.
-#[derive(Debug, Drop)]
+#[derive(Drop)]
 pub struct Parts<'a> {
     own: &'a [u8],
     chain: &'a Chain,

@@ -23,7 +23,7 @@ const SHARED_IN_LARGE: usize = 256;
 const LINE_ROOM: usize = LONGEST_KEY + BESIDE;
 
 /// What a reply takes.
-#[derive(Clone, Copy, Debug)]
+#[derive(Clone, Copy)]
 struct Plan {
     /// Data of at least so many bytes is shared.
     least: usize,

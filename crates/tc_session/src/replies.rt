@@ -22,7 +22,7 @@ use tc_item::NoMemory;
 use tc_stats::{Hits, Outcome};
 
 /// The reply to a look-up that is not written yet, and for how many bytes room is made for it.
-#[derive(Debug, Drop)]
+#[derive(Drop)]
 pub(crate) struct Owed {
     form: Form,
     room: usize,
@@ -30,7 +30,7 @@ pub(crate) struct Owed {
 }
 
 /// Bytes that wait to be sent, and behind them replies that are owed.
-#[derive(Debug, Drop)]
+#[derive(Drop)]
 pub(crate) struct Replies {
     written: Output,
     owed: Vec<Owed>,

@@ -42,7 +42,7 @@ const REPLY_ROOM: usize = 64;
 const NEEDED_ROOM: usize = 2 * REPLY_ROOM;
 
 /// Whose a connection is.
-#[derive(Clone, Copy, Debug, PartialEq, Eq)]
+#[derive(Clone, Copy, PartialEq, Eq)]
 enum Phase {
     Unbound,
     /// To this user.
@@ -51,7 +51,7 @@ enum Phase {
 }
 
 /// A connection: what came on it and is unread, whose it is, and what waits to be sent.
-#[derive(Debug, Drop)]
+#[derive(Drop)]
 pub struct Session {
     feed: Feed,
     phase: Phase,

@@ -4,7 +4,7 @@ use tc_grammar::Command;
 use tc_users::UserNo;
 
 /// What a connection's next request wants.
-#[derive(Debug, Drop)]
+#[derive(Drop)]
 pub enum Want {
     /// No whole request is there.
     Nothing,

@@ -17,7 +17,7 @@ use tc_item::{NoMemory, Slot};
 use tc_past::Journal;
 
 /// What each area weighs.
-#[derive(Clone, Copy, Debug, PartialEq, Eq)]
+#[derive(Clone, Copy, PartialEq, Eq)]
 pub struct Weights {
     pub window: u64,
     pub probation: u64,

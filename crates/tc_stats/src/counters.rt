@@ -63,7 +63,7 @@ pub struct Counters {
 }
 
 /// Counters in a box of their own, since an outcome that carries them is rare.
-#[derive(Debug, Drop)]
+#[derive(Drop)]
 pub struct Statistics {
     counters: Box<Counters>,
 }

@@ -5,7 +5,7 @@ use std::alloc::Global;
 use tc_item::{Blob, Few, Key, NoMemory, TryCopy};
 
 /// An item as a look-up shows it.
-#[derive(Debug, PartialEq, Eq, Drop)]
+#[derive(PartialEq, Eq, Drop)]
 pub struct Hit {
     /// The key asked.
     pub key: Key,

@@ -6,7 +6,7 @@ use std::alloc::Global;
 use tc_item::NoMemory;
 
 /// What a command comes to in a user's cache (doc/protocol.txt).
-#[derive(Debug, PartialEq, Eq, Drop)]
+#[derive(PartialEq, Eq, Drop)]
 pub enum Outcome {
     /// The data was stored.
     Stored,

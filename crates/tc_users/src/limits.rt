@@ -83,7 +83,7 @@ impl Limit {
 }
 
 /// The limits on all connections. `None` is no limit.
-#[derive(Clone, Copy, Debug, PartialEq, Eq)]
+#[derive(Clone, Copy, PartialEq, Eq)]
 pub struct ConnectionLimits {
     /// A connection that has not logged in after so many seconds is closed.
     pub login_seconds: Option<u32>,
@@ -94,7 +94,7 @@ pub struct ConnectionLimits {
 }
 
 /// The limits on one user's connections. `None` is no limit.
-#[derive(Clone, Copy, Debug, PartialEq, Eq)]
+#[derive(Clone, Copy, PartialEq, Eq)]
 pub struct UserLimits {
     /// So many connections of the user may be open.
     pub connections: Option<u32>,
@@ -103,7 +103,7 @@ pub struct UserLimits {
 }
 
 /// Each user's limits, in the order of the users' numbers.
-#[derive(Debug, Drop)]
+#[derive(Drop)]
 pub struct LimitsByUser {
     rows: Vec<UserLimits>,
 }

@@ -24,7 +24,7 @@ use toml::Value;
 
 /// An address and a port to listen on, as they are written in the settings. Any text is one here:
 /// what it means is found when it is listened on.
-#[derive(Debug, Drop)]
+#[derive(Drop)]
 pub struct Address {
     text: String,
 }
@@ -55,7 +55,7 @@ impl Address {
 }
 
 /// The settings of a server.
-#[derive(Debug, Drop)]
+#[derive(Drop)]
 pub struct Settings {
     /// Where the server listens.
     pub listen: Address,

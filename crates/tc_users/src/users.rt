@@ -32,7 +32,7 @@ pub struct UserSpec {
 }
 
 /// The users of a server, numbered from 1.
-#[derive(Debug, Drop)]
+#[derive(Drop)]
 pub struct Users {
     rows: Vec<UserSpec>,
 }

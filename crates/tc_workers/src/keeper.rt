@@ -13,7 +13,7 @@ use tc_users::UserNo;
 const LIMIT: u32 = 64;
 
 /// Goes round over the users. Contracts see who had the last turn, 0 before the first.
-#[derive(Debug, Drop)]
+#[derive(Drop)]
 pub struct Keeper {
     done: u32,
 }

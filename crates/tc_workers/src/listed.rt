@@ -1,7 +1,7 @@
 //! The list of connections that a turn goes over.
 
 /// Whether a listed connection was left out of turns.
-#[derive(Clone, Copy, Debug, PartialEq, Eq, PartialOrd, Ord)]
+#[derive(Clone, Copy, PartialEq, Eq, PartialOrd, Ord)]
 pub(crate) enum Waits {
     /// Of each since this one.
     Since(u64),
@@ -10,7 +10,7 @@ pub(crate) enum Waits {
 
 /// A connection that is to be served: its number, under which key it stands at its worker, whether it is
 /// admitted to the turn, and whether it was left out.
-#[derive(Clone, Copy, Debug)]
+#[derive(Clone, Copy)]
 pub(crate) struct Listed {
     conn: u32,
     is_admitted: bool,
@@ -63,7 +63,7 @@ impl Listed {
 }
 
 /// A connection that another worker is to serve: under which key it stands here, and that worker.
-#[derive(Clone, Copy, Debug)]
+#[derive(Clone, Copy)]
 pub(crate) struct Leaving {
     pub(crate) key: usize,
     pub(crate) to: usize,

@@ -16,7 +16,7 @@ use tc_item::{Moment, NoMemory};
 
 /// The entries of one user's cache: the window, and main, which is probation and protected. Each list
 /// has its most recent entry first.
-#[derive(Debug, Drop)]
+#[derive(Drop)]
 pub struct Areas {
     pub window: Vec<Entry>,
     pub probation: Vec<Entry>,
@@ -24,7 +24,7 @@ pub struct Areas {
 }
 
 /// Where an entry stood before it was taken out.
-#[derive(Clone, Copy, Debug, PartialEq, Eq)]
+#[derive(Clone, Copy, PartialEq, Eq)]
 pub(crate) enum Origin {
     Window,
     Main,

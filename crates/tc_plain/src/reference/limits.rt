@@ -6,7 +6,7 @@ ghost use Rattle.tc_plain.specs.EvictionState.{limits_of};
 use std::marker::Model;
 
 /// The most that the window, main and protected, which is a part of main, may weigh.
-#[derive(Clone, Copy, Debug, PartialEq, Eq)]
+#[derive(Clone, Copy, PartialEq, Eq)]
 pub struct Limits {
     pub window: u64,
     pub main: u64,

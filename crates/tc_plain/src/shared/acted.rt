@@ -10,7 +10,7 @@ use tc_stats::{Counters, Hits, Outcome, Statistics};
 
 /// What a command came to: the outcome to answer, and the same once more to keep, where the journal is
 /// on.
-#[derive(Debug, Drop)]
+#[derive(Drop)]
 pub struct Acted {
     pub answer: Outcome,
     pub kept: Option<Outcome>,

@@ -8,7 +8,7 @@ use tc_past::Journal;
 use tc_stats::Outcome;
 
 /// How a command ends that shows no item: an outcome that takes no memory.
-#[derive(Clone, Copy, Debug, PartialEq, Eq)]
+#[derive(Clone, Copy, PartialEq, Eq)]
 pub enum End {
     Stored,
     NotStored,

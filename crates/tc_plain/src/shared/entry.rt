@@ -9,7 +9,7 @@ use tc_item::{Due, Item, KeptDue, Key, NoMemory, RECORD_WEIGHT};
 use tc_stats::Hit;
 
 /// An item under its key.
-#[derive(Debug, Drop)]
+#[derive(Drop)]
 pub struct Entry {
     pub key: Key,
     pub item: Item,

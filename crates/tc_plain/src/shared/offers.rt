@@ -13,7 +13,7 @@ use tc_item::exptime::due;
 use tc_item::{Blob, Item, KeptDue, Key, Moment, NoMemory, RECORD_WEIGHT};
 
 /// An item that is to be stored and has no cas number yet.
-#[derive(Debug, Drop)]
+#[derive(Drop)]
 pub struct Draft {
     /// What the client stores beside the data and gets back with it.
     pub flags: u32,
@@ -46,7 +46,7 @@ impl Draft {
 
 /// What a storage line offers before it is weighed and numbered: it is refused for what its key holds,
 /// or there is an item to store.
-#[derive(Debug, Drop)]
+#[derive(Drop)]
 pub enum Bid {
     Refused(End),
     Offered(Draft),

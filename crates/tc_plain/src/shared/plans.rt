@@ -19,7 +19,7 @@ use tc_stats::Counters;
 
 /// What a command will do: end so at once, or use a draft under a key, with the next cas number, before it
 /// ends so.
-#[derive(Debug, Drop)]
+#[derive(Drop)]
 pub enum Plan {
     Ends(End),
     Changes(End, Key, Draft),

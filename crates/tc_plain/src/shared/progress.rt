@@ -1,7 +1,7 @@
 //! How far deferred work came.
 
 /// Whether deferred work that had a limit stopped at it.
-#[derive(Clone, Copy, Debug, PartialEq, Eq)]
+#[derive(Clone, Copy, PartialEq, Eq)]
 pub enum Progress {
     /// It stopped before, with nothing left to do.
     Done,

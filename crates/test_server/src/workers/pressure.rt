@@ -7,8 +7,8 @@ use super::talks::worker_of;
 use crate::stage::{Scene, play};
 use std::alloc::Global;
 use std::process::Abort;
-use std::sync::atomic::AtomicU64;
 use std::sync::atomic::Ordering::SeqCst;
+use std::sync::atomic::{AtomicBool, AtomicU64};
 use std::sync::{Arc, Wait};
 use std::test::*;
 use tc_links::{Got, Open, Parts, Put, Remark, Wire};
@@ -37,6 +37,8 @@ const ASKS: &[u8] = b"get k k k k k k k k k k k k k k k k k k k k k k k k\r\n";
 struct Seen {
     given: AtomicU64,
     taken: AtomicU64,
+    /// Whether its client is gone, so that a write fails.
+    gone: AtomicBool,
 }
 
 impl Seen {
@@ -44,6 +46,7 @@ impl Seen {
         Seen {
             given: AtomicU64::new(0),
             taken: AtomicU64::new(0),
+            gone: AtomicBool::new(false),
         }
     }
 }
@@ -94,6 +97,7 @@ impl Wire for Flood {
                 self.seen.taken.fetch_add(from.len() as u64, SeqCst);
                 Put::Wrote(from.len())
             }
+            Client::NeverReads if self.seen.gone.load(SeqCst) => Put::Failed,
             Client::NeverReads => Put::Later,
         }
     }
@@ -160,6 +164,19 @@ fn serve_both<C: Cache, N: Naming, R: Wait + Abort>(
     assert!(rt; worker.unread_len(0).is_some() && worker.unread_len(1).is_some());
 }
 
+/// Serves both once more, where the one that never reads is gone: it alone is dropped.
+fn serve_the_other<C: Cache, N: Naming, R: Wait + Abort>(
+    rt: &R,
+    hall: &Hall<C, N>,
+    users: &Users,
+    worker: &mut Worker<Flood, N>,
+    deaf: &Seen,
+) {
+    deaf.gone.store(true, SeqCst);
+    turn_often(rt, hall, users, worker, 1);
+    assert!(rt; worker.unread_len(0).is_none() && worker.unread_len(1).is_some());
+}
+
 /// One who never reads and one who does, of one worker.
 pub fn serve_flood<C: Cache, N: Naming, R: Wait + Abort>(
     rt: &R,
@@ -172,6 +189,7 @@ pub fn serve_flood<C: Cache, N: Naming, R: Wait + Abort>(
     let deaf = join(rt, alloc, &mut worker, Client::NeverReads)?;
     let other = join(rt, alloc, &mut worker, Client::Reads)?;
     serve_both(rt, hall, users, &mut worker, &deaf, &other);
+    serve_the_other(rt, hall, users, &mut worker, &deaf);
     Ok(())
 }
 
