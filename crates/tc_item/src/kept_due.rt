@@ -2,7 +2,6 @@
 ghost use Rattle.std.specs.Prelude.{◌≡◌};
 
 use crate::Due;
-use std::fmt;
 use std::marker::Model;
 use std::mem::size_of;
 
@@ -67,12 +66,5 @@ impl KeptDue {
             low: self.low,
             ends: self.ends,
         }
-    }
-}
-
-/// As the due.
-impl fmt::Debug for KeptDue {
-    fn fmt<W: fmt::Write>(&self, f: &mut fmt::Formatter<W>) -> fmt::Result {
-        write!(f, "{:?}", self.get())
     }
 }

@@ -7,7 +7,7 @@ use tc_plain::Cache;
 use tc_users::UserNo;
 
 /// What is found at a server's end.
-#[derive(Clone, Copy, Debug, PartialEq, Eq)]
+#[derive(Clone, Copy, PartialEq, Eq)]
 pub enum Found {
     /// No call comes to another outcome; or no audit was asked for, or made.
     Nothing,
