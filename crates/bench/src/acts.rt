@@ -85,7 +85,7 @@ pub(crate) fn time_span<C: Cache>(
 }
 
 /// Makes and sets an item.
-fn set<C: Cache>(alloc: Global, cache: &mut C, number: u32) -> Result<u32, Fault> {
+pub(crate) fn set<C: Cache>(alloc: Global, cache: &mut C, number: u32) -> Result<u32, Fault> {
     let set = item(alloc, number)?;
     act(alloc, cache, &set)
 }

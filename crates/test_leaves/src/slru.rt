@@ -70,6 +70,8 @@ enum Move {
     Remove(usize),
     /// All slots are taken out.
     Clear,
+    /// A page begins.
+    Turn,
     /// From here on the slot was seen so often.
     Seen(usize, u8),
     /// What the next settle step drops.
@@ -94,6 +96,10 @@ fn make(rt: &impl Abort, lists: &mut Lists, seen: &mut [u8], step: &Move, place:
         Move::Access(slot, weight) => access(rt, lists, *slot, *weight),
         Move::Remove(slot) => remove(rt, lists, *slot),
         Move::Clear => lists.clear(),
+        Move::Turn => {
+            lists.prepare();
+            lists.turn();
+        }
         Move::Seen(slot, times) => note(seen, *slot, *times),
         Move::Settle(gone) => {
             assert!(rt; dropped(lists, seen) == *gone, "move {place}");
@@ -360,11 +366,12 @@ fn a_removed_slot_is_free_and_weighs_nothing(rt: HostRuntime) -> Result<(), Fail
     play(&rt, rt.alloc(), 10, 100, 80, &REMOVAL)
 }
 
-/// A slot in the window and one in probation; then slot 0 anew.
-const CLEARED: [Move; 9] = [
+/// A slot in the window and one in probation, with which a page begins; then slot 0 anew.
+const CLEARED: [Move; 10] = [
     Move::Push(0, 20),
     Move::Push(1, 5),
     Move::Settle(None),
+    Move::Turn,
     Move::Clear,
     Move::Holds(0, false),
     Move::Holds(1, false),
