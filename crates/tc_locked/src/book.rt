@@ -25,16 +25,26 @@ use tc_item::{Moment, NoMemory};
 use tc_past::Journal;
 use tc_plain::{Acted, Cache, LeftOver, Plain, Progress};
 
+/// The calls of a book.
+#[derive(Drop)]
+struct Register {
+    /// Those since the page began.
+    page: Page,
+    /// How many pages were turned.
+    turns: u64,
+    /// How many calls there were, over all pages.
+    number: u64,
+    /// And how many of each seat.
+    counts: Vec<u64>,
+}
+
 /// A cache, which knows what it stood for when its page began, and the calls that it did since, seen as
 /// its state. It is always legal.
 #[derive(Drop)]
 pub struct Book<C: Cache> {
-    page: Page,
     cache: C,
     moment: Moment,
-    turns: u64,
-    number: u64,
-    counts: Vec<u64>,
+    register: Register,
 }
 
 impl<C: Cache> Model for Book<C> {
@@ -45,41 +55,25 @@ impl<C: Cache> Model for Book<C> {
 
     ghost view = { λ b. record {
       opening = C.opened b.cache;
-      entries = entries_on b.page;
+      entries = entries_on b.register.page;
       settled = C.settled b.cache;
       moment = b.moment;
-      turns = b.turns;
-      number = b.number;
-      counts = b.counts.items;
-      keeps = b.page.journal;
+      turns = b.register.turns;
+      number = b.register.number;
+      counts = b.register.counts.items;
+      keeps = b.register.page.journal;
     } };
 
     ghost invariant = { λ b. IsBook (record {
       opening = C.opened b.cache;
-      entries = entries_on b.page;
+      entries = entries_on b.register.page;
       settled = C.settled b.cache;
       moment = b.moment;
-      turns = b.turns;
-      number = b.number;
-      counts = b.counts.items;
-      keeps = b.page.journal;
-    }) × IsPage b.page };
-}
-
-/// Counts an entry of a seat: its number, and how many the seat has with it.
-fn count_entry(number: &mut u64, counts: &mut Vec<u64>, seat_no: usize) -> (u64, u64)
-    requires seat { seat_no < length counts.old.items }
-    requires number { number.old + 1 < 2 ^ 64 }
-    requires tally { slice_index counts.old.items seat_no + 1 < 2 ^ 64 }
-    ensures number { (number.new ≡ number.old + 1) × (result.0 ≡ number.old + 1) }
-    ensures counts { counts.new.items
-        ≡ slice_set counts.old.items seat_no (slice_index counts.old.items seat_no + 1) }
-    ensures tally { result.1 ≡ slice_index counts.old.items seat_no + 1 }
-{
-    let tally = counts[seat_no] + 1;
-    counts[seat_no] = tally;
-    *number += 1;
-    (*number, tally)
+      turns = b.register.turns;
+      number = b.register.number;
+      counts = b.register.counts.items;
+      keeps = b.register.page.journal;
+    }) × IsPage b.register.page };
 }
 
 /// Which seat calls, at which moment, and on which connection.
@@ -90,59 +84,77 @@ struct Caller {
     conn: u32,
 }
 
-/// Enters on a page what a command of a caller came to. What the caller is told, and the entry.
-fn enter(
-    page: &mut Page,
-    number: &mut u64,
-    counts: &mut Vec<u64>,
-    turns: u64,
-    by: Caller,
-    command: &Command,
-    copy: Option<KeptCommand>,
-    acted: Acted,
-) -> (Slip, Witness)
-    requires seat { by.seat_no < length counts.old.items }
-    requires number { number.old + 1 < 2 ^ 64 }
-    requires tally { slice_index counts.old.items by.seat_no + 1 < 2 ^ 64 }
-    requires page { IsPage page.old }
-    requires room { HasRoom page.old }
-    requires few { length (entries_on page.old) + 1 < 2 ^ 64 }
-    requires copy { copy ≡ kept_by page.old.journal command.now }
-    requires kept { acted.kept ≡ kept_by page.old.journal acted.answer }
-    ensures page { IsPage page.new }
-    ensures entries { entries_on page.new ≡ entries_on page.old
-        ++ entered counts.old.items number.old by command.now acted.answer ∷ [] }
-    ensures journal { page.new.journal ≡ page.old.journal }
-    ensures number { number.new ≡ number.old + 1 }
-    ensures counts { counts.new.items ≡ slice_set counts.old.items by.seat_no
-        (slice_index counts.old.items by.seat_no + 1) }
-    ensures slip { result.0 ≡ record {
-      page = turns;
-      number = number.old + 1;
-      tally = slice_index counts.old.items by.seat_no + 1;
-      moment = by.moment;
-      outcome = acted.answer;
-    } }
-    ensures entry { result.1
-        ≡ entered counts.old.items number.old by command.now acted.answer }
-{
-    let (number, tally) = count_entry(number, counts, by.seat_no);
-    let numbers = Numbers {
-        seat: by.seat_no,
-        tally,
-        number,
-        moment: by.moment,
-        conn: by.conn,
-    };
-    let (outcome, entry) = page.add(numbers, command, copy, acted);
-    let slip = Slip {
-        page: turns,
-        number,
-        tally,
-        moment: by.moment,
-        outcome,
-    };
-    (slip, entry)
+impl Register {
+    /// Counts an entry of a seat: its number, and how many the seat has with it.
+    fn count_entry(&mut self, seat_no: usize) -> (u64, u64)
+        requires seat { seat_no < length self.old.counts.items }
+        requires number { self.old.number + 1 < 2 ^ 64 }
+        requires tally { slice_index self.old.counts.items seat_no + 1 < 2 ^ 64 }
+        ensures number { (self.new.number ≡ self.old.number + 1) × (result.0 ≡ self.old.number + 1) }
+        ensures counts { self.new.counts.items ≡ slice_set self.old.counts.items seat_no
+            (slice_index self.old.counts.items seat_no + 1) }
+        ensures tally { result.1 ≡ slice_index self.old.counts.items seat_no + 1 }
+        ensures page { self.new.page ≡ self.old.page }
+        ensures turns { self.new.turns ≡ self.old.turns }
+    {
+        let tally = self.counts[seat_no] + 1;
+        self.counts[seat_no] = tally;
+        self.number += 1;
+        (self.number, tally)
+    }
+
+    /// Enters what a command of a caller came to. What the caller is told, and the entry.
+    fn enter(
+        &mut self,
+        by: Caller,
+        command: &Command,
+        copy: Option<KeptCommand>,
+        acted: Acted,
+    ) -> (Slip, Witness)
+        requires seat { by.seat_no < length self.old.counts.items }
+        requires number { self.old.number + 1 < 2 ^ 64 }
+        requires tally { slice_index self.old.counts.items by.seat_no + 1 < 2 ^ 64 }
+        requires page { IsPage self.old.page }
+        requires room { HasRoom self.old.page }
+        requires few { length (entries_on self.old.page) + 1 < 2 ^ 64 }
+        requires copy { copy ≡ kept_by self.old.page.journal command.now }
+        requires kept { acted.kept ≡ kept_by self.old.page.journal acted.answer }
+        ensures page { IsPage self.new.page }
+        ensures entries { entries_on self.new.page ≡ entries_on self.old.page
+            ++ entered self.old.counts.items self.old.number by command.now acted.answer ∷ [] }
+        ensures journal { self.new.page.journal ≡ self.old.page.journal }
+        ensures turns { self.new.turns ≡ self.old.turns }
+        ensures number { self.new.number ≡ self.old.number + 1 }
+        ensures counts { self.new.counts.items ≡ slice_set self.old.counts.items by.seat_no
+            (slice_index self.old.counts.items by.seat_no + 1) }
+        ensures slip { result.0 ≡ record {
+          page = self.old.turns;
+          number = self.old.number + 1;
+          tally = slice_index self.old.counts.items by.seat_no + 1;
+          moment = by.moment;
+          outcome = acted.answer;
+        } }
+        ensures entry { result.1
+            ≡ entered self.old.counts.items self.old.number by command.now acted.answer }
+    {
+        let (number, tally) = self.count_entry(by.seat_no);
+        let numbers = Numbers {
+            seat: by.seat_no,
+            tally,
+            number,
+            moment: by.moment,
+            conn: by.conn,
+        };
+        let (outcome, entry) = self.page.add(numbers, command, copy, acted);
+        let slip = Slip {
+            page: self.turns,
+            number,
+            tally,
+            moment: by.moment,
+            outcome,
+        };
+        (slip, entry)
+    }
 }
 
 /// What can fail before the cache is called: a number for the entry, and room for it.
@@ -209,12 +221,14 @@ impl<C: Cache> Book<C> {
         cache.prepare(alloc)?;
         drop(cache.turn());
         Ok(Book {
-            page: Page::new(alloc, journal),
             cache,
             moment: Moment::FIRST,
-            turns: 0,
-            number: 0,
-            counts,
+            register: Register {
+                page: Page::new(alloc, journal),
+                turns: 0,
+                number: 0,
+                counts,
+            },
         })
     }
 
@@ -241,23 +255,16 @@ impl<C: Cache> Book<C> {
         ensures unchanged_on_err { OnErr result (self.new ≡ self.old) }
     {
         let moment = self.moment.later(now);
-        make_ready(&mut self.page, self.number)?;
-        let acted = self.cache.act(alloc, moment, command, self.page.journal)?;
         let by = Caller {
             seat_no,
             moment,
             conn,
         };
-        let (slip, entry) = enter(
-            &mut self.page,
-            &mut self.number,
-            &mut self.counts,
-            self.turns,
-            by,
-            command,
-            copy,
-            acted,
-        );
+        make_ready(&mut self.register.page, self.register.number)?;
+        let acted = self
+            .cache
+            .act(alloc, moment, command, self.register.page.journal)?;
+        let (slip, entry) = self.register.enter(by, command, copy, acted);
         self.moment = moment;
         Ok(Called {
             slip,
@@ -299,34 +306,25 @@ impl<C: Cache> Book<C> {
         ensures unchanged_on_err { OnErr result (self.new ≡ self.old) }
     {
         let moment = self.moment.later(now);
-        let mut left = Vec::new(alloc);
-        let acted = act_on_next(
-            alloc,
-            &mut self.cache,
-            &mut left,
-            self.number,
-            moment,
-            command,
-            self.page.journal,
-        )?;
-        left.push_reserved(self.cache.turn());
-        self.turns += 1;
-        self.page.clear();
         let by = Caller {
             seat_no,
             moment,
             conn,
         };
-        let (slip, entry) = enter(
-            &mut self.page,
-            &mut self.number,
-            &mut self.counts,
-            self.turns,
-            by,
+        let mut left = Vec::new(alloc);
+        let acted = act_on_next(
+            alloc,
+            &mut self.cache,
+            &mut left,
+            self.register.number,
+            moment,
             command,
-            copy,
-            acted,
-        );
+            self.register.page.journal,
+        )?;
+        left.push_reserved(self.cache.turn());
+        self.register.turns += 1;
+        self.register.page.clear();
+        let (slip, entry) = self.register.enter(by, command, copy, acted);
         self.moment = moment;
         Ok(Called { slip, entry, left })
     }
@@ -355,7 +353,7 @@ impl<C: Cache> Book<C> {
         ensures fault { IfErr result (IsBookFault self.old.number) }
         ensures unchanged_on_err { OnErr result (self.new ≡ self.old) }
     {
-        if self.page.len() < journal {
+        if self.register.page.len() < journal {
             self.call(alloc, seat_no, now, conn, command, copy)
         } else {
             self.call_turning(alloc, seat_no, now, conn, command, copy)
@@ -372,7 +370,7 @@ impl<C: Cache> Book<C> {
         requires { seat_no < length self.now.counts }
         ensures { result ≡ slice_index self.now.counts seat_no }
     {
-        self.counts[seat_no]
+        self.register.counts[seat_no]
     }
 
     /// The entry of that number, if it stands on this page; an error only where none are kept.
@@ -383,8 +381,8 @@ impl<C: Cache> Book<C> {
             → IfSome found (λ x. x.now ≡ e) × IfNone found ⊥) }
         ensures off { IfErr result (λ fault. self.now.keeps ≡ IsOff) }
     {
-        let entries = self.page.entries()?;
-        let before = self.number - entries.len() as u64;
+        let entries = self.register.page.entries()?;
+        let before = self.register.number - entries.len() as u64;
         if number <= before || number - before > entries.len() as u64 {
             return Ok(None);
         }
@@ -394,7 +392,7 @@ impl<C: Cache> Book<C> {
     /// How many bytes the entries of the page keep, their data among them.
     pub fn journal_bytes(&self) -> u64 {
         let mut bytes: u64 = 0;
-        if let Ok(entries) = self.page.entries() {
+        if let Ok(entries) = self.register.page.entries() {
             for entry in entries {
                 bytes = bytes.saturating_add(entry.bytes());
             }
@@ -406,7 +404,7 @@ impl<C: Cache> Book<C> {
     pub fn turns(&self) -> u64
         ensures { result ≡ self.now.turns }
     {
-        self.turns
+        self.register.turns
     }
 
     /// What the page began with, as lists. From there the commands of its entries give their outcomes.
@@ -423,6 +421,6 @@ impl<C: Cache> Book<C> {
         ensures off { IfErr result (λ _. self.now.keeps ≡ IsOff) }
         ensures legal { HasLegalPage self.now }
     {
-        self.page.entries()
+        self.register.page.entries()
     }
 }

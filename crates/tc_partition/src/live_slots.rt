@@ -28,7 +28,7 @@ use tc_item::{Due, Key, Moment, NoMemory, Slot, alive};
 use tc_plain::{Areas, Change, End, Entry, EvictionState, Limits, is_flush_due};
 use tc_readbuf::LookUp;
 use tc_sketch::{PastSketch, hash};
-use tc_slots::{Aside, Slots, Tables, set_aside, shed, turn};
+use tc_slots::{Aside, Slots, Tables, have_read, set_aside, shed, turn};
 use tc_slru::Area;
 use tc_stats::Counters;
 
@@ -99,8 +99,25 @@ impl LiveSlots {
         Ok(())
     }
 
+    /// Reads what look-ups of keys of these hashes are going to read, and does nothing with it. To know where an
+    /// entry lies is to have read its hint, and where data lies its entry, so all hints are read first, then all
+    /// entries.
+    pub(crate) fn read_ahead(&self, hashes: &[u64]) {
+        let mut sum: u64 = 0;
+        for hash in hashes {
+            sum = sum.wrapping_add(self.read_hint(*hash));
+        }
+        for hash in hashes {
+            sum = sum.wrapping_add(self.read_entry(*hash));
+        }
+        for hash in hashes {
+            sum = sum.wrapping_add(self.read_hinted(*hash));
+        }
+        have_read(sum);
+    }
+
     /// Reads where a key of this hash may be. What that comes to says nothing; so in the two below.
-    pub(crate) fn read_hint(&self, hash: u64) -> u64 {
+    fn read_hint(&self, hash: u64) -> u64 {
         match self.hints.slot(hash) {
             Some(slot) => slot.0 as u64,
             None => 0,
@@ -108,7 +125,7 @@ impl LiveSlots {
     }
 
     /// Reads the entry of a key of this hash, where its hint is right.
-    pub(crate) fn read_entry(&self, hash: u64) -> u64 {
+    fn read_entry(&self, hash: u64) -> u64 {
         match self.hints.slot(hash) {
             Some(slot) => self.held.read_entry(slot),
             None => 0,
@@ -116,7 +133,7 @@ impl LiveSlots {
     }
 
     /// Reads the item of a key of this hash, where its hint is right.
-    pub(crate) fn read_hinted(&self, hash: u64) -> u64 {
+    fn read_hinted(&self, hash: u64) -> u64 {
         match self.hints.slot(hash) {
             Some(slot) => self.held.read(slot),
             None => 0,

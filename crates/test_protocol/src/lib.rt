@@ -1,4 +1,4 @@
-//! The tests of the protocol: of tc_grammar, tc_stats, tc_feed, tc_users and tc_session, over
+//! The tests of the protocol: of tc_grammar, tc_stats, tc_feed, tc_users, tc_session and tc_metrics, over
 //! their public calls alone. What no clause says is tested here: lines, streams, settings and texts
 //! made by hand, each kind of fault in its words, and each public call once with memory to spare.
 #![tactic(auto)]
@@ -9,6 +9,8 @@ mod feed;
 mod fixtures;
 #[cfg(test)]
 mod grammar;
+#[cfg(test)]
+mod metrics;
 #[cfg(test)]
 mod peeking;
 #[cfg(test)]
