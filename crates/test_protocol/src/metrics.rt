@@ -4,6 +4,7 @@
 use crate::fixtures::expect_bytes;
 use std::alloc::Global;
 use std::process::Abort;
+use std::str;
 use std::test::Fail;
 use tc_item::NoMemory;
 use tc_metrics::{
@@ -74,8 +75,10 @@ fn told(alloc: Global) -> Result<Vec<u8>, NoMemory> {
 
 /// Whether a part stands in a text.
 fn holds(text: &[u8], part: &str) -> bool {
-    text.windows(part.len())
-        .any(|window| window == part.as_bytes())
+    match str::from_utf8(text) {
+        Ok(text) => text.contains(part),
+        Err(_) => false,
+    }
 }
 
 #[test]
