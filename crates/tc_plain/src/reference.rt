@@ -5,10 +5,10 @@
 
 pub(crate) mod areas;
 pub(crate) mod eviction_state;
+pub(crate) mod finding;
 pub(crate) mod limits;
 pub(crate) mod lists;
 pub(crate) mod look_ups;
-pub(crate) mod lookup;
 pub(crate) mod paged_plain;
 pub(crate) mod plain;
 pub(crate) mod settling;

@@ -10,7 +10,7 @@ ghost use Rattle.tc_slru.specs.SlotLists.{fresh, reserved, cleared, pushed, remo
 use crate::area::Area;
 use crate::linked_areas::{LinkedAreas, Listed};
 use crate::opened_areas::OpenedAreas;
-use crate::settle::{Limits, drop_next, hold_protected};
+use crate::settle::{AreaLimits, drop_next, hold_protected};
 use std::alloc::Global;
 use std::marker::Model;
 use tc_item::{NoMemory, Slot};
@@ -27,7 +27,7 @@ pub struct Weights {
 /// The window, probation and protected of one partition, as lists of slots.
 #[derive(Drop)]
 pub struct Lists {
-    limits: Limits,
+    limits: AreaLimits,
     areas: LinkedAreas,
 }
 
@@ -59,7 +59,7 @@ impl Lists {
     {
         let areas = LinkedAreas::new(alloc, journal)?;
         Ok(Lists {
-            limits: Limits {
+            limits: AreaLimits {
                 window,
                 main,
                 protected,

@@ -9,8 +9,8 @@ ghost use Rattle.tc_plain.specs.Doing.{looked_up, flushed};
 ghost use Rattle.tc_plain.specs.AreaLists.{areas_of, live_of, HasRoom, is_from_window, put_back, change_of};
 
 use crate::reference::areas::Origin;
+use crate::reference::finding::find_alive;
 use crate::reference::lists::put_first;
-use crate::reference::lookup::find_alive;
 use crate::shared::flush::is_flush_due;
 use crate::{Areas, Entry, Limits};
 use std::alloc::Global;

@@ -1,6 +1,6 @@
 use Rattle.std.proofs.Common.{sym, ◌∙◌, ap, Some}
 use Rattle.tc_plain.proofs.Found.{find-found, find-missed}
-use Rattle.tc_plain.proofs.reference.lookup.find_alive.Goals as goal
+use Rattle.tc_plain.proofs.reference.finding.find_alive.Goals as goal
 
 pub returns-in_err-place : goal.returns-in_err-place
 returns-in_err-place c =

@@ -1,7 +1,7 @@
 use Rattle.std.proofs.Common.{sym, ◌∙◌, ap}
 use Rattle.tc_model.proofs.FirstPlace.{first_place-found, first_place-past}
 use Rattle.tc_plain.proofs.Found.{is_found}
-use Rattle.tc_plain.proofs.reference.lookup.find_place.Goals as goal
+use Rattle.tc_plain.proofs.reference.finding.find_place.Goals as goal
 
 pub returns-then-is_found-clause-place : goal.returns-then-is_found-clause-place
 returns-then-is_found-clause-place c =
