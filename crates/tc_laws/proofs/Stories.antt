@@ -21,7 +21,7 @@ use Rattle.tc_fresh.specs.Beginning.{fresh_cache}
 use Rattle.tc_locked.specs.declared.view.Note.{Note}
 use Rattle.tc_locked.specs.Views.{of_user}
 use Rattle.tc_locked.specs.Books.{event_of, events_of}
-use Rattle.tc_locked.specs.KeptBooks.{KeptState, entries_in}
+use Rattle.tc_locked.specs.HallBooks.{HallBookState, entries_in}
 use Rattle.tc_links.specs.Talks.{Move, Came, Asked, Did, Undone, Declined, Ended, happening_of, answer_to, NeedsNoCache, Moves}
 use Rattle.tc_links.specs.Talks.{AllMoves, notes_of, notes_in}
 use Rattle.tc_core.specs.ServerMachine.{server_machine}
@@ -192,7 +192,7 @@ part_of s = record {
 abbrev IsOn : ℕ → ℕ → Note → Type 0
 IsOn u conn n = (n.user ≡ u) × (n.entry.conn ≡ conn)
 
-module _ (rows : List UserSpec) (book : KeptState) (row : UserSpec) (at : user_at rows book.user ≡ Some row) where
+module _ (rows : List UserSpec) (book : HallBookState) (row : UserSpec) (at : user_at rows book.user ≡ Some row) where
   note-move : (conn : ℕ) (e next : Endpoint text_protocol) (m : Move) (ds : List (DeedOf server_machine)) (said : List ℕ)
       → IsAhead server_machine rows book.user row at e (deed_of m ∷ ds) → Moves rows conn e m next said
       → Each (IsOn book.user conn) (notes_of m)

@@ -9,7 +9,7 @@ use Rattle.tc_fresh.specs.Beginning.{fresh_cache}
 use Rattle.tc_locked.specs.declared.view.Note.{Note}
 use Rattle.tc_locked.specs.Views.{of_user}
 use Rattle.tc_locked.specs.Books.{events_of}
-use Rattle.tc_locked.specs.KeptBooks.{Terms, KeptState, IsKept, entries_in}
+use Rattle.tc_locked.specs.HallBooks.{Terms, HallBookState, IsHallBook, entries_in}
 use Rattle.tc_links.specs.Talks.{Move, Came, Asked, Did, Undone, Declined, Ended, LinkState, Goes, happening_of, notes_in}
 use Rattle.tc_workers.specs.Answering.{IsPart}
 use Rattle.tc_core.specs.ServerMachine.{server_machine}
@@ -50,21 +50,21 @@ of_conn conn log = filter (λ n. n.entry.conn == conn) log
 
 -- a connection of the book's user: its login is among its moves, it was refused no memory, its calls stand in the book, in order
 -- and each once, and the book has no more calls under its number
-pub record IsOfBook (rows : List UserSpec) (book : KeptState) (s : Story rows) : Type 0 where
+pub record IsOfBook (rows : List UserSpec) (book : HallBookState) (s : Story rows) : Type 0 where
   pub binds : binds text_protocol rows (own_steps s) book.user s.opened.conn ≡ true
   pub granted : AllByRecursion IsGranted s.moves
   pub part : IsPart (of_user book.user (notes_in s.moves)) book.log
   pub only : length (of_conn s.opened.conn book.log) ≤ length (notes_in s.moves)
 
 -- connections of the book's user, by whom all calls of the book were made
-pub record AreAllOfBook (rows : List UserSpec) (book : KeptState) (stories : List (Story rows)) : Type 0 where
+pub record AreAllOfBook (rows : List UserSpec) (book : HallBookState) (stories : List (Story rows)) : Type 0 where
   pub distinct : AreDistinct (numbers_of stories)
   pub each : AllByRecursion (IsOfBook rows book) stories
   pub all : AllByRecursion (λ n. IsAmong n.entry.conn (numbers_of stories)) book.log
 
 -- steps of these connections and of the clock, by which the machine of one user alone sends each connection what its wire took
 -- and what waits: the same bytes come on each, and the calls are those of the book, in their order
-pub record Retells (rows : List UserSpec) (row : UserSpec) (book : KeptState) (stories : List (Story rows)) : Type 0 where
+pub record Retells (rows : List UserSpec) (row : UserSpec) (book : HallBookState) (stories : List (Story rows)) : Type 0 where
   pub steps : List Step
   pub theirs : AreOf (numbers_of stories) steps
   pub own : AllByRecursion (λ s. filter (is_of s.opened.conn) steps ≡ own_steps s) stories
@@ -75,6 +75,6 @@ pub record Retells (rows : List UserSpec) (row : UserSpec) (book : KeptState) (s
 -- the connections of a user were told what the machine of that user alone sends them
 abbrev pub UserAlone : Type 0
 UserAlone =
-    (rows : List UserSpec) (terms : Terms) (book : KeptState) (row : UserSpec) (stories : List (Story rows))
-    → terms.begins ≡ map fresh_cache rows → IsKept terms book → user_at rows book.user ≡ Some row
+    (rows : List UserSpec) (terms : Terms) (book : HallBookState) (row : UserSpec) (stories : List (Story rows))
+    → terms.begins ≡ map fresh_cache rows → IsHallBook terms book → user_at rows book.user ≡ Some row
     → AreAllOfBook rows book stories → Retells rows row book stories

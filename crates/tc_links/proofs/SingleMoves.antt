@@ -19,7 +19,7 @@ use Rattle.tc_locked.specs.declared.call_entry.Slip.{Slip}
 use Rattle.tc_locked.specs.Views.{note}
 use Rattle.tc_locked.specs.declared.call_fault.CallFault.{CallFault}
 use Rattle.tc_locked.specs.Calls.{Wrote}
-use Rattle.tc_locked.specs.KeptBooks.{SeatState}
+use Rattle.tc_locked.specs.HallBooks.{SeatState}
 use Rattle.tc_locked.specs.Refusals.{Refusal, refusal}
 use Rattle.tc_links.specs.Talks.{Move, Came, Asked, Did, Undone, Declined, Ended, happening_of, Calls, NeedsNoCache, Says}
 use Rattle.tc_links.specs.Talks.{notes_of, piece_of}

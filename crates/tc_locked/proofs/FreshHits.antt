@@ -8,10 +8,10 @@ use Rattle.tc_plain.specs.UserCache.{UserCache, fresh}
 use Rattle.tc_plain.specs.Laws.{user_caching}
 use Rattle.tc_plain.proofs.Cells.{is_fresh}
 use Rattle.tc_locked.specs.Books.{event_of, events_of}
-use Rattle.tc_locked.specs.KeptBooks.{Terms, KeptState, IsKept, entries_in}
-use Rattle.tc_locked.specs.Closing.{AllKept, ShowsFresh, AllFresh}
+use Rattle.tc_locked.specs.HallBooks.{Terms, HallBookState, IsHallBook, entries_in}
+use Rattle.tc_locked.specs.Closing.{AreHallBooks, ShowsFresh, AllFresh}
 
-shows_fresh : (terms : Terms) (k : KeptState) → IsKept terms k → ShowsFresh k
+shows_fresh : (terms : Terms) (k : HallBookState) → IsHallBook terms k → ShowsFresh k
 shows_fresh terms k h before after e is =
     let events : events_of (entries_in k.log) ≡ events_of before ++ event_of e ∷ events_of after =
     ap events_of is ∙ map-append event_of before (e ∷ after) in
@@ -20,6 +20,6 @@ shows_fresh terms k h before after e is =
     (λ i. (h.empty.2 i, events i)) h.whole.replays in
     is_fresh h.empty.0 h.empty.1 (events_of before) (events_of after) (event_of e) all
 
-pub all_fresh : (terms : Terms) (ks : List KeptState) → AllKept terms ks → AllFresh ks
+pub all_fresh : (terms : Terms) (ks : List HallBookState) → AreHallBooks terms ks → AllFresh ks
 all_fresh terms [] h = tt
 all_fresh terms (k ∷ ks) h = (shows_fresh terms k h.0, all_fresh terms ks h.1)

@@ -1,6 +1,6 @@
 pub mod Books
 pub mod TableSteps
-pub mod KeptBooks
+pub mod HallBooks
 pub mod ClosedHalls
 pub mod NotePlaces
 pub mod EmptyCaches

@@ -8,10 +8,10 @@ use Rattle.tc_locked.specs.declared.call_entry.CallEntry.{CallEntry}
 use Rattle.tc_locked.specs.declared.view.Note.{Note}
 use Rattle.tc_locked.specs.Views.{note, by_seat, of_user}
 use Rattle.tc_locked.specs.Books.{AreNumbered}
-use Rattle.tc_locked.specs.Closing.{ShutState, AllKept, AllTied, TiedTo, IsBookOf, HasNote}
-use Rattle.tc_locked.proofs.KeptBooks.{AllBefore, pages_before}
+use Rattle.tc_locked.specs.Closing.{ShutState, AreHallBooks, AllTied, TiedTo, IsBookOf, HasNote}
+use Rattle.tc_locked.proofs.HallBooks.{AllBefore, pages_before}
 use Rattle.tc_locked.proofs.ClosedHalls.{tied_at, kept_at}
-use Rattle.tc_locked.specs.KeptBooks.{Terms, KeptState, SeatState, IsKept, entries_in, on_page}
+use Rattle.tc_locked.specs.HallBooks.{Terms, HallBookState, SeatState, IsHallBook, entries_in, on_page}
 
 pub numbers : (number : ℕ) (counts : List ℕ) (es : List CallEntry) (p : ℕ) (e : CallEntry) → AreNumbered number counts es
     → slice_get es p ≡ Some e → e.number ≡ number + p + 1
@@ -47,7 +47,7 @@ parts_at u t (x ∷ older) es (suc p) n at =
     ⊎_elim (λ h. inl h) (λ h. let e = h.1 in inr (h.0, omega arith, h.2, h.3)) (parts_at u t older es p n at)
 
 -- a note of the book stands on an earlier page, or its entry stands on the page at the place that its number names
-pub where_is : (terms : Terms) (k : KeptState) (p : ℕ) (n : Note) → IsKept terms k → slice_get k.log p ≡ Some n
+pub where_is : (terms : Terms) (k : HallBookState) (p : ℕ) (n : Note) → IsHallBook terms k → slice_get k.log p ≡ Some n
     → (n.page < k.book.turns)
     ⊎ ((j : ℕ) × (n.page ≡ k.book.turns) × (slice_get k.book.entries j ≡ Some n.entry)
     × (n.entry.number + length k.book.entries ≡ k.book.number + j + 1))
@@ -91,26 +91,26 @@ filter_into t (y ∷ xs) zero x at is = let same : x ≡ y = cc in let is' : t y
 filter_into t (y ∷ xs) (suc p) x at is = into_more t y xs x (filter_into t xs p x at is) (t y) refl
 
 -- a seat's note of a user stands in the user's book
-pub in_book : (k : KeptState) (s : SeatState) (i : ℕ) (n : Note) → by_seat s.number k.log ≡ of_user k.user s.notes
+pub in_book : (k : HallBookState) (s : SeatState) (i : ℕ) (n : Note) → by_seat s.number k.log ≡ of_user k.user s.notes
     → slice_get s.notes i ≡ Some n → n.user ≡ k.user → (p : ℕ) × (slice_get k.log p ≡ Some n)
 in_book k s i n tied at is =
     let kept = filter_into (λ (x : Note). x.user == k.user) s.notes i n at (eq-eqb n.user k.user is) in
     filter_from (λ (x : Note). x.entry.seat == s.number) k.log kept.0 n (ap (λ l. slice_get l kept.0) tied ∙ kept.1)
 
 -- ---- the entry of a receipt
-pub record Placed (user : ℕ) (books : List KeptState) (x : ShutState) (n : Note) : Type 0 where
+pub record Placed (user : ℕ) (books : List HallBookState) (x : ShutState) (n : Note) : Type 0 where
   pub is : (n.page < x.book.turns)
       ⊎ ((j : ℕ) × (n.page ≡ x.book.turns) × (slice_get x.book.entries j ≡ Some n.entry)
       × (n.entry.number + length x.book.entries ≡ x.book.number + j + 1))
 
-note_tied : (k : KeptState) (ss : List SeatState) (n : Note) → TiedTo k ss → HasNote ss n → n.user ≡ k.user
+note_tied : (k : HallBookState) (ss : List SeatState) (n : Note) → TiedTo k ss → HasNote ss n → n.user ≡ k.user
     → (p : ℕ) × (slice_get k.log p ≡ Some n)
 note_tied k [] n t h is = absurd h
 note_tied k (s ∷ ss) n t h is =
     ⊎_elim (λ (o : (i : ℕ) × (slice_get s.notes i ≡ Some n)). in_book k s o.0 n t.0 o.1 is)
     (λ (r : HasNote ss n). note_tied k ss n t.1 r is) h
 
-pub placed : (terms : Terms) (user : ℕ) (ks : List KeptState) (ss : List SeatState) (x : ShutState) (n : Note) → AllKept terms ks
+pub placed : (terms : Terms) (user : ℕ) (ks : List HallBookState) (ss : List SeatState) (x : ShutState) (n : Note) → AreHallBooks terms ks
     → AllTied ks ss → IsBookOf user ks x → HasNote ss n → n.user ≡ user → Placed user ks x n
 placed terms user ks ss x n kept tied b has is =
     let k = b.kept in

@@ -14,7 +14,7 @@ use Rattle.tc_locked.specs.declared.view.Face.{Face}
 use Rattle.tc_locked.specs.declared.view.View.{View}
 use Rattle.tc_locked.specs.Views.{note, of_user, by_seat, blank, first_view, joined_view, both_of, seats_of, books_of, with_book}
 use Rattle.tc_locked.specs.Views.{new_book, with_seat, new_seat}
-use Rattle.tc_locked.specs.Rule.{Each, Apart, One, Truth, FitsMint, FitsBooks, FitsSeats, Fits, Bounded, Kept, Holds, Adds, Tied}
+use Rattle.tc_locked.specs.Rule.{Each, Apart, One, Truth, FitsMint, FitsBooks, FitsSeats, Fits, Bounded, AllFit, Holds, Adds, Tied}
 use Rattle.tc_locked.specs.Rule.{Ties}
 
 off : false ≡ true → ⊥
@@ -111,9 +111,9 @@ still_bounded t n b s h = (
   (λ u le. by_other_seat u t.log n (λ same. omega arith) ∙ h.1 u le),
 )
 
-pub adds : (views : List View) (id u s : ℕ) (xs ys : List Note) (p : ℕ) (e : CallEntry) → e.seat ≡ s → Kept views
+pub adds : (views : List View) (id u s : ℕ) (xs ys : List Note) (p : ℕ) (e : CallEntry) → e.seat ≡ s → AllFit views
     → get_elem? views id ≡ some (joined_view u xs s ys)
-    → Kept (set views id (joined_view u (xs ++ note u p e ∷ []) s (ys ++ note u p e ∷ [])))
+    → AllFit (set views id (joined_view u (xs ++ note u p e ∷ []) s (ys ++ note u p e ∷ [])))
 adds views id u s xs ys p e by h at =
     let t = h.0 in
     let n = note u p e in
@@ -335,7 +335,7 @@ adds_seat id v is s h at =
     )
 
 -- ---- what is tied
-pub tied : (views : List View) (id : ℕ) (v : View) → Kept views → get_elem? views id ≡ some v → Tied v
+pub tied : (views : List View) (id : ℕ) (v : View) → AllFit views → get_elem? views id ≡ some v → Tied v
 tied views id v h at =
     let t = h.0 in
     let mine = h.2 id v at in
@@ -362,7 +362,7 @@ ties_allows n id me i st h len at fits =
       me.0,
       keeps,
       tt,
-      subst Kept (sym (set_again st.views id me.0 at)) h,
+      subst AllFit (sym (set_again st.views id me.0 at)) h,
       (
         refl,
         tied st.views id me.0 h at,

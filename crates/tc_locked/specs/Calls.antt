@@ -4,7 +4,7 @@ use Rattle.tc_grammar.specs.declared.command.Command.{Command}
 use Rattle.tc_locked.specs.declared.call_entry.CallEntry.{CallEntry}
 use Rattle.tc_locked.specs.declared.call_entry.Slip.{Slip}
 use Rattle.tc_locked.specs.Views.{note, of_user}
-use Rattle.tc_locked.specs.KeptBooks.{SeatState}
+use Rattle.tc_locked.specs.HallBooks.{SeatState}
 use Rattle.tc_locked.specs.Outcomes.{IsOutcomeOf}
 
 -- users are numbered from 1

@@ -12,10 +12,10 @@ use Rattle.tc_locked.specs.declared.call_entry.CallEntry.{CallEntry}
 use Rattle.tc_locked.specs.declared.call_entry.Slip.{Slip}
 use Rattle.tc_locked.specs.Books.{BookState, events_of}
 use Rattle.tc_locked.specs.Calls.{IsUser}
-use Rattle.tc_locked.specs.KeptBooks.{Terms, KeptState, SeatState, IsKept, entries_in}
+use Rattle.tc_locked.specs.HallBooks.{Terms, HallBookState, SeatState, IsHallBook, entries_in}
 
 -- what a view has of a book
-abbrev pub book_face : KeptState → Face
+abbrev pub book_face : HallBookState → Face
 book_face k = face k.user k.log
 
 -- what a view has of a seat
@@ -52,44 +52,44 @@ pub record ShutState : Type 0 where
   pub book : BookState
 
 -- what is left of what lay under a lock
-abbrev pub shut_of : KeptState → ShutState
+abbrev pub shut_of : HallBookState → ShutState
 shut_of k = record { user = k.user; book = k.book }
 
 -- what lay under the lock, from what is left of it and what the view took in
-abbrev pub with_log : ShutState → Face → KeptState
+abbrev pub with_log : ShutState → Face → HallBookState
 with_log s f = record { user = s.user; book = s.book; log = f.notes }
 
 -- the same of all
-abbrev pub with_logs : List ShutState → List Face → List KeptState
+abbrev pub with_logs : List ShutState → List Face → List HallBookState
 with_logs [] fs = []
 with_logs (s ∷ ss) [] = []
 with_logs (s ∷ ss) (f ∷ fs) = with_log s f ∷ with_logs ss fs
 
 -- a closed hall: its books with their notes, and its seats
 pub record ClosedState : Type 0 where
-  pub books : List KeptState
+  pub books : List HallBookState
   pub seats : List SeatState
 
 -- each book is legal, over all pages
-abbrev pub AllKept : Terms → List KeptState → Type 0
-AllKept terms [] = Unit {0}
-AllKept terms (k ∷ ks) = IsKept terms k × AllKept terms ks
+abbrev pub AreHallBooks : Terms → List HallBookState → Type 0
+AreHallBooks terms [] = Unit {0}
+AreHallBooks terms (k ∷ ks) = IsHallBook terms k × AreHallBooks terms ks
 
 -- the notes of the seat in the book are the seat's notes of the book
-abbrev pub TiedTo : KeptState → List SeatState → Type 0
+abbrev pub TiedTo : HallBookState → List SeatState → Type 0
 TiedTo k [] = Unit {0}
 TiedTo k (s ∷ ss) = (by_seat s.number k.log ≡ of_user k.user s.notes) × TiedTo k ss
 
 -- the same of each book and each seat
-abbrev pub AllTied : List KeptState → List SeatState → Type 0
+abbrev pub AllTied : List HallBookState → List SeatState → Type 0
 AllTied [] ss = Unit {0}
 AllTied (k ∷ ks) ss = TiedTo k ss × AllTied ks ss
 
 -- the books that a view has taken in, with what is left of them
 pub record TookBooks (terms : Terms) (before : View) (shut : List ShutState) (after : View) : Type 0 where
-  pub books : List KeptState
+  pub books : List HallBookState
   pub left : shut ≡ map shut_of books
-  pub kept : AllKept terms books
+  pub kept : AreHallBooks terms books
   pub view : after ≡ add_books before (map book_face books)
 
 -- each seat has this
@@ -102,24 +102,24 @@ abbrev pub IsCountOf : ℕ → ℕ → List SeatState → ℕ → Type 0
 IsCountOf seat_no user seats count = EachSeat (λ seat. seat.number ≡ seat_no → count ≡ length (of_user user seat.notes)) seats
 
 -- some book is this user's
-abbrev pub HasUser : ℕ → List KeptState → Type 0
+abbrev pub HasUser : ℕ → List HallBookState → Type 0
 HasUser u [] = ⊥
 HasUser u (k ∷ ks) = (k.user ≡ u) ⊎ HasUser u ks
 
 -- a book of the hall, by what is left of it
-pub record IsBookOf (user : ℕ) (books : List KeptState) (shut : ShutState) : Type 0 where
+pub record IsBookOf (user : ℕ) (books : List HallBookState) (shut : ShutState) : Type 0 where
   pub at : ℕ
-  pub kept : KeptState
+  pub kept : HallBookState
   pub there : slice_get books at ≡ Some kept
   pub is : kept.user ≡ user
   pub left : shut ≡ shut_of kept
 
 -- the user has a book, whose page is this one
-abbrev pub OnPage : ℕ → List KeptState → ℕ → Type 0
+abbrev pub OnPage : ℕ → List HallBookState → ℕ → Type 0
 OnPage user books page = (shut : ShutState) × IsBookOf user books shut × (page ≡ shut.book.turns)
 
 -- the user has a book, in which this page was turned
-abbrev pub TurnedPage : ℕ → List KeptState → ℕ → Type 0
+abbrev pub TurnedPage : ℕ → List HallBookState → ℕ → Type 0
 TurnedPage user books page = (shut : ShutState) × IsBookOf user books shut × (page < shut.book.turns)
 
 -- the note is one of a seat's
@@ -132,11 +132,11 @@ abbrev pub IsNoteOf : ℕ → Slip → Note → Type 0
 IsNoteOf user slip n = (n.user ≡ user) × (n.page ≡ slip.page) × (n.entry.number ≡ slip.number)
 
 -- each user of the hall has a book
-abbrev pub AllThere : Terms → List KeptState → Type 0
+abbrev pub AllThere : Terms → List HallBookState → Type 0
 AllThere terms books = (u : ℕ) → IsUser (length terms.begins) u → HasUser u books
 
 -- the book of a user
-abbrev pub book_of : ℕ → List KeptState → Option BookState
+abbrev pub book_of : ℕ → List HallBookState → Option BookState
 book_of user [] = None
 book_of user (k ∷ ks) = cond (k.user == user) (Some k.book) (book_of user ks)
 
@@ -150,12 +150,12 @@ HasLegalPage b = Replays user_caching 0 b.opening (events_of b.entries)
 
 -- each hit of the user is what the entries before it last left under its key, at
 -- its moment: never an item expired, deleted or flushed
-abbrev pub ShowsFresh : KeptState → Type 0
+abbrev pub ShowsFresh : HallBookState → Type 0
 ShowsFresh k =
     (before after : List CallEntry) (e : CallEntry) → entries_in k.log ≡ before ++ e ∷ after
     → All (IsCell (events_of before) e.moment) (hits_in e.outcome)
 
 -- the same of all books
-abbrev pub AllFresh : List KeptState → Type 0
+abbrev pub AllFresh : List HallBookState → Type 0
 AllFresh [] = Unit {0}
 AllFresh (k ∷ ks) = ShowsFresh k × AllFresh ks

@@ -1,7 +1,7 @@
 pub mod Books
 pub mod Views
 pub mod Rule
-pub mod KeptBooks
+pub mod HallBooks
 pub mod Calls
 pub mod Closing
 pub mod Moments

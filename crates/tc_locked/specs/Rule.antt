@@ -52,12 +52,12 @@ abbrev pub Bounded : Truth → Type 0
 Bounded t = ((u : ℕ) → t.books ≤ u → of_user u t.log ≡ []) × ((s : ℕ) → t.seats ≤ s → by_seat s t.log ≡ [])
 
 -- there is a history that all views fit
-abbrev pub Kept : List View → Type 0
-Kept views = (t : Truth) × Bounded t × ((by : ℕ) (v : View) → get_elem? views by ≡ some v → Fits t by v)
+abbrev pub AllFit : List View → Type 0
+AllFit views = (t : Truth) × Bounded t × ((by : ℕ) (v : View) → get_elem? views by ≡ some v → Fits t by v)
 
 -- the rule: it asks nothing of the word
 abbrev pub Holds : State CallEntry View → Type 0
-Holds s = Kept s.views
+Holds s = AllFit s.views
 
 -- of each book and each seat that one view has, the book's notes of the seat are the seat's notes of the book
 abbrev pub Tied : View → Type 0

@@ -3,7 +3,7 @@ ghost use Rattle.std.specs.Prelude.{◌≡◌, ◌<◌, length, IfOk, IfErr, IfS
 ghost use Rattle.tc_past.specs.declared.journal.Journal.TheVariants.{Off as IsOff};
 ghost use Rattle.tc_locked.specs.declared.unread.Unread.TheVariants.{Off};
 ghost use Rattle.tc_locked.specs.Calls.{IsUser};
-ghost use Rattle.tc_locked.specs.Closing.{IsBookOf, AllKept, AllTied, IsCountOf, HasNote, IsNoteOf, OnPage, TurnedPage, book_of};
+ghost use Rattle.tc_locked.specs.Closing.{IsBookOf, AreHallBooks, AllTied, IsCountOf, HasNote, IsNoteOf, OnPage, TurnedPage, book_of};
 ghost use Rattle.tc_locked.specs.Closing.{HasLegalPage, all_agree};
 ghost use Rattle.tc_locked.specs.declared.view.Note.{Note};
 
@@ -38,7 +38,7 @@ pub struct Closed<C: Cache, N: Naming> {
 
 impl<C: Cache, N: Naming> Model for Closed<C, N> {
     ghost use Rattle.std.specs.Prelude.{◌≡◌, length, map};
-    ghost use Rattle.tc_locked.specs.Closing.{ClosedState, with_logs, seat_of, AllKept, AllTied, AllThere};
+    ghost use Rattle.tc_locked.specs.Closing.{ClosedState, with_logs, seat_of, AreHallBooks, AllTied, AllThere};
 
     ghost Value = { ClosedState };
 
@@ -47,7 +47,7 @@ impl<C: Cache, N: Naming> Model for Closed<C, N> {
       seats = map seat_of c.all.me.0.seats;
     } };
 
-    ghost invariant = { λ c. AllKept N.terms (with_logs c.books.items c.all.me.0.books)
+    ghost invariant = { λ c. AreHallBooks N.terms (with_logs c.books.items c.all.me.0.books)
         × AllTied (with_logs c.books.items c.all.me.0.books) (map seat_of c.all.me.0.seats)
         × (length (with_logs c.books.items c.all.me.0.books) ≡ length c.books.items)
         × AllThere N.terms (with_logs c.books.items c.all.me.0.books) };
@@ -62,7 +62,7 @@ impl<C: Cache, N: Naming> Closed<C, N> {
         ensures keeps { IfSome result (λ shut. shut.now.book.keeps ≡ N.terms.keeps) }
         ensures first { option_map (λ shut. shut.book) (option_copied result)
             ≡ book_of user self.now.books }
-        ensures kept { AllKept N.terms self.now.books }
+        ensures kept { AreHallBooks N.terms self.now.books }
         ensures tied { AllTied self.now.books self.now.seats }
     {
         let number = user.number();

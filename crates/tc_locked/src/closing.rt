@@ -5,7 +5,7 @@ ghost use Rattle.tc_locked.specs.Views.{both_of, seat_view, book_view};
 ghost use Rattle.tc_locked.specs.Rule.{Tied, Apart};
 ghost use Rattle.tc_past.specs.declared.journal.Journal.TheVariants.{Off as IsOff};
 ghost use Rattle.tc_locked.specs.declared.unread.Unread.TheVariants.{Off};
-ghost use Rattle.tc_locked.specs.KeptBooks.{IsKept};
+ghost use Rattle.tc_locked.specs.HallBooks.{IsHallBook};
 ghost use Rattle.tc_locked.specs.declared.call_entry.CallEntry.{CallEntry};
 ghost use Rattle.tc_locked.specs.Books.{IsNumberAt};
 ghost use Rattle.tc_locked.specs.Closing.{seat_face, add_seats, shut_of, TookBooks, HasLegalPage, all_agree};
@@ -13,7 +13,7 @@ ghost use Rattle.tc_locked.specs.Closing.{seat_face, add_seats, shut_of, TookBoo
 use crate::audit::{Audit, audit_page};
 use crate::book::Book;
 use crate::call_entry::CallEntry;
-use crate::kept::Kept;
+use crate::hall_book::HallBook;
 use crate::naming::{Naming, Shared, TableSeat};
 use crate::seat::Seat;
 use crate::unread::Unread;
@@ -147,20 +147,24 @@ fn take_seat<N: Naming>(table: &Shared, all: &mut TableSeat, seat: Seat<N>)
 }
 
 /// Takes a book's seat in.
-fn take_book<C: Cache, N: Naming>(table: &Shared, all: &mut TableSeat, kept: Kept<C, N>) -> Shut<C>
+fn take_book<C: Cache, N: Naming>(
+    table: &Shared,
+    all: &mut TableSeat,
+    hall_book: HallBook<C, N>,
+) -> Shut<C>
     requires table { (table.now.table_id ≡ N.table) × (0 < table.now.table_id.words) }
     requires all { all.old.table_id ≡ N.table }
-    ensures shut { result ≡ shut_of kept }
-    ensures kept { IsKept N.terms kept }
+    ensures shut { result ≡ shut_of hall_book }
+    ensures kept { IsHallBook N.terms hall_book }
     ensures all { (all.new.table_id ≡ N.table)
-        × (all.new.me ≡ (both_of all.old.me.0 (book_view kept.user kept.log), all.old.me.1)) }
+        × (all.new.me ≡ (both_of all.old.me.0 (book_view hall_book.user hall_book.log), all.old.me.1)) }
 {
-    let Kept {
+    let HallBook {
         user,
         book,
         badge,
         of: _,
-    } = kept;
+    } = hall_book;
     table.join_seat::<Together>(all, badge.into_seat());
     Shut { user, book }
 }
@@ -181,7 +185,7 @@ pub fn take_seats<N: Naming>(table: &Shared, all: &mut TableSeat, seats: Vec<Sea
 pub fn take_books<C: Cache, N: Naming>(
     table: &Shared,
     all: &mut TableSeat,
-    mut locks: Vec<Mutex<Kept<C, N>>>,
+    mut locks: Vec<Mutex<HallBook<C, N>>>,
     out: &mut Vec<Shut<C>>,
 )
     requires table { (table.now.table_id ≡ N.table) × (0 < table.now.table_id.words) }

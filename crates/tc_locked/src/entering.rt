@@ -1,7 +1,7 @@
 //! The steps of a hall's table that note an entry with both of its seats.
 ghost use Rattle.std.specs.Prelude.{◌≡◌, ◌<◌, ◌≤◌, ◌++◌, ◌∷◌, []};
 ghost use Rattle.tc_locked.specs.Views.{table_words, note, book_view, seat_view, by_seat, of_user};
-ghost use Rattle.tc_locked.specs.KeptBooks.{notes_of, log_of};
+ghost use Rattle.tc_locked.specs.HallBooks.{notes_of, log_of};
 
 use crate::naming::{LINES, Shared, TableSeat, WORDS_A_LINE};
 use crate::view::{Apart, Noted, Together, View};

@@ -1,6 +1,6 @@
 //! A hall: each user's book under a lock of its own.
 ghost use Rattle.std.specs.Prelude.{◌≡◌, ◌↔◌, ◌<◌, ◌≤◌, ◌++◌, ◌∷◌, [], length, IfOk, OnOk, IfErr, OnErr, vec_len};
-ghost use Rattle.tc_locked.specs.Closing.{AllKept, AllTied, AllThere, AllFresh};
+ghost use Rattle.tc_locked.specs.Closing.{AreHallBooks, AllTied, AllThere, AllFresh};
 ghost use Rattle.tc_locked.specs.Calls.{IsUser, IsAnswered};
 ghost use Rattle.tc_locked.specs.Refusals.{refusal};
 ghost use Rattle.tc_locked.specs.declared.call_fault.CallFault.TheVariants.{NoUser, NoMemory as OutOfMemory};
@@ -10,7 +10,7 @@ use crate::call_fault::CallFault;
 use crate::called::Called;
 use crate::closed::{Closed, Missing};
 use crate::closing::{Room, compare, take_books, take_seats};
-use crate::kept::Kept;
+use crate::hall_book::HallBook;
 use crate::kept_command::KeptCommand;
 use crate::lease::Lease;
 use crate::locking::lock_soon;
@@ -31,7 +31,7 @@ use tc_users::UserNo;
 #[derive(Drop)]
 pub struct Hall<C: Cache, N: Naming> {
     pub(crate) table: HallTable,
-    pub(crate) books: Vec<Mutex<Kept<C, N>>>,
+    pub(crate) books: Vec<Mutex<HallBook<C, N>>>,
     pub(crate) journal: usize,
     pub(crate) keeps: Journal,
     pub(crate) seats: usize,
@@ -150,8 +150,8 @@ impl<C: Cache, N: Naming> Hall<C, N> {
         let at = (number - 1) as usize;
         let mut guard = lease.lock(rt, number, &self.books[at]);
         held();
-        let kept = &mut *guard;
-        if kept.user() != number {
+        let book = &mut *guard;
+        if book.user() != number {
             // A lock doesn't know which place it has. No hall is made so.
             drop(copy);
             return Err(CallFault::OtherBook);
@@ -160,7 +160,7 @@ impl<C: Cache, N: Naming> Hall<C, N> {
             slip,
             entry: _,
             left,
-        } = kept.call(
+        } = book.call(
             alloc,
             &self.table.shared,
             seat,
@@ -245,7 +245,7 @@ impl<C: Cache, N: Naming> Hall<C, N> {
     pub fn close(self, mut seats: Vec<Seat<N>>) -> Result<Closed<C, N>, Missing<C, N>>
         ensures seats { IfOk result (λ closed. closed.seats ≡ seats.items) }
         ensures books { IfOk result (λ closed. length closed.books ≡ self) }
-        ensures kept { IfOk result (λ closed. AllKept N.terms closed.books) }
+        ensures kept { IfOk result (λ closed. AreHallBooks N.terms closed.books) }
         ensures tied { IfOk result (λ closed. AllTied closed.books closed.seats) }
         ensures fresh { IfOk result (λ closed. AllFresh closed.books) }
         ensures there { IfOk result (λ closed. AllThere N.terms closed.books) }

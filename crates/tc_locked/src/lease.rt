@@ -1,5 +1,5 @@
 //! A user's lock that a thread keeps from one call to the next.
-use crate::kept::Kept;
+use crate::hall_book::HallBook;
 use crate::locking::lock_soon;
 use crate::naming::Naming;
 use std::alloc::Global;
@@ -25,7 +25,7 @@ fn cost_of(command: &Command) -> usize {
 /// call. What lies under the lock is known by its type alone, as by any lock.
 #[derive(Drop)]
 pub struct Lease<'a, C: Cache, N: Naming> {
-    guard: Option<MutexGuard<'a, Kept<C, N>>>,
+    guard: Option<MutexGuard<'a, HallBook<C, N>>>,
     /// Whose lock it is.
     user: u32,
     /// What was done since the lock was got.
@@ -57,8 +57,8 @@ impl<'a, C: Cache, N: Naming> Lease<'a, C, N> {
         &mut self,
         rt: &R,
         user: u32,
-        lock: &'a Mutex<Kept<C, N>>,
-    ) -> MutexGuard<'a, Kept<C, N>> {
+        lock: &'a Mutex<HallBook<C, N>>,
+    ) -> MutexGuard<'a, HallBook<C, N>> {
         match self.guard.take() {
             Some(guard) if self.user == user => guard,
             other => {
@@ -70,7 +70,7 @@ impl<'a, C: Cache, N: Naming> Lease<'a, C, N> {
     }
 
     /// Keeps the lock of this user, under which nothing was done.
-    pub(crate) fn hold(&mut self, user: u32, guard: MutexGuard<'a, Kept<C, N>>) {
+    pub(crate) fn hold(&mut self, user: u32, guard: MutexGuard<'a, HallBook<C, N>>) {
         self.user = user;
         self.guard = Some(guard);
     }
@@ -81,7 +81,7 @@ impl<'a, C: Cache, N: Naming> Lease<'a, C, N> {
         &mut self,
         alloc: Global,
         user: u32,
-        guard: MutexGuard<'a, Kept<C, N>>,
+        guard: MutexGuard<'a, HallBook<C, N>>,
         command: &Command,
         left: Vec<LeftOver>,
     ) {

@@ -6,9 +6,9 @@
 //!   and its outcome, with its number in the book and in its seat.
 //! - A **page** is the entries since it began, and its **opening** what the cache stood for then. A full
 //!   page is turned before the next call: a new one begins with what the cache stands for.
-//! - A **book** is one user's cache with its page and the counts of its entries. A `Kept` is a book as it
+//! - A **book** is one user's cache with its page and the counts of its entries. A `HallBook` is a book as it
 //!   lies under its user's lock, with the notes of all its pages.
-//! - A **hall** has a `Kept` for each user. It has a name, which is a type (`Naming`): its table, the
+//! - A **hall** has a `HallBook` for each user. It has a name, which is a type (`Naming`): its table, the
 //!   caches that its users begin with, how many seats there are and how long a page is.
 //! - A **seat** is by what a thread calls. It shows the entries that it wrote, of whatever book. One of
 //!   another hall doesn't fit.
@@ -21,13 +21,13 @@
 //!
 //! 1. A book is legal: from its opening, its entries give their outcomes, and what they leave, brought to
 //!    the book's moment, is what the cache stands for (`IsBook` in `specs/Books.antt`).
-//! 2. A `Kept` is legal over all its pages, from the user's empty cache on; each turned page had the
-//!    hall's number of entries (`IsKept` in `specs/KeptBooks.antt`).
+//! 2. A `HallBook` is legal over all its pages, from the user's empty cache on; each turned page had the
+//!    hall's number of entries (`IsHallBook` in `specs/HallBooks.antt`).
 //! 3. An entry stands in the notes of its seat and of its book, or in neither: a call joins the caller's
 //!    seat and the book's, notes its entry in both at once, and parts them again, all while it holds the
 //!    lock. Both lists are parts of one history in the rule of the hall's table (`specs/Rule.antt`,
 //!    `specs/Views.antt`).
-//! 4. A call that is refused leaves the book and the seat as they were (`Kept::call`
+//! 4. A call that is refused leaves the book and the seat as they were (`HallBook::call`
 //!    `unchanged_on_err`). All memory is taken before the cache is touched.
 //!
 //! `Hall::close` gives the books and the seats, and says that each seat's entries in a book are what the
@@ -51,7 +51,7 @@ mod closed;
 mod closing;
 mod entering;
 mod hall;
-mod kept;
+mod hall_book;
 mod kept_command;
 mod lease;
 mod locking;
@@ -74,7 +74,7 @@ pub use called::Called;
 pub use clock::Clock;
 pub use closed::{Closed, Missing};
 pub use hall::Hall;
-pub use kept::Kept;
+pub use hall_book::HallBook;
 pub use kept_command::KeptCommand;
 pub use lease::Lease;
 pub use naming::Naming;

@@ -7,7 +7,7 @@ use std::marker::Brand;
 /// Which hall it is: its table, and what all its books share.
 pub trait Naming {
     ghost use Rattle.atomic_table.specs.Seated.{TableId};
-    ghost use Rattle.tc_locked.specs.KeptBooks.{Terms};
+    ghost use Rattle.tc_locked.specs.HallBooks.{Terms};
 
     ghost table: { TableId };
 
@@ -15,7 +15,7 @@ pub trait Naming {
 }
 
 impl Naming for Brand {
-    ghost use Rattle.tc_locked.specs.KeptBooks.{no_table, no_terms};
+    ghost use Rattle.tc_locked.specs.HallBooks.{no_table, no_terms};
 
     ghost table = { no_table };
 

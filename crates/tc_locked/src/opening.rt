@@ -9,7 +9,7 @@ ghost use Rattle.tc_locked.specs.Books.{fresh_book};
 use crate::book::Book;
 use crate::closing::Room;
 use crate::hall::Hall;
-use crate::kept::Kept;
+use crate::hall_book::HallBook;
 use crate::naming::{HallTable, Naming, Shared, TableSeat, WORDS};
 use crate::seat::Seat;
 use crate::view::{NewBook, NewSeat};
@@ -92,7 +92,7 @@ fn make_book<C: Cache, N: Naming>(
     first: &mut TableSeat,
     user: UserNo,
     book: Book<C>,
-) -> Kept<C, N>
+) -> HallBook<C, N>
     requires table { (table.now.table_id ≡ N.table) × (0 < table.now.table_id.words) }
     requires first { (first.old.table_id ≡ N.table)
         × (first.old.me ≡ (first_view user N.terms.seats, [])) }
@@ -104,7 +104,7 @@ fn make_book<C: Cache, N: Naming>(
     ensures kept { result ≡ record { user = user; book = book; log = [] } }
 {
     let own = table.split_seat::<NewBook>(first);
-    Kept {
+    HallBook {
         user,
         book,
         badge: own.into_badge(),
@@ -120,7 +120,7 @@ fn make_books<C: Cache, N: Naming>(
     caches: Vec<C>,
     seats: usize,
     keeps: Journal,
-    out: &mut Vec<Mutex<Kept<C, N>>>,
+    out: &mut Vec<Mutex<HallBook<C, N>>>,
 ) -> Result<(), NoMemory>
     requires table { (table.now.table_id ≡ N.table) × (0 < table.now.table_id.words) }
     requires first { (first.old.table_id ≡ N.table)

@@ -16,7 +16,7 @@ pub struct Seat<N: Naming> {
 impl<N: Naming> Model for Seat<N> {
     ghost use Rattle.std.specs.Prelude.{◌≡◌, ◌<◌, []};
     ghost use Rattle.tc_locked.specs.Views.{seat_view};
-    ghost use Rattle.tc_locked.specs.KeptBooks.{SeatState, notes_of};
+    ghost use Rattle.tc_locked.specs.HallBooks.{SeatState, notes_of};
 
     ghost Value = { SeatState };
 

@@ -8,7 +8,7 @@ use Rattle.tc_model.specs.Areas.{Areas, accessed}
 use Rattle.tc_sketch.specs.Sketch.{Sketch, recorded, hash}
 use Rattle.tc_plain.specs.declared.shared.entry.Entry.{Entry}
 use Rattle.tc_plain.specs.Entries.{weight, lives, has_key}
-use Rattle.tc_plain.specs.EvictionState.{EvictionState, held, kept, entries_of}
+use Rattle.tc_plain.specs.EvictionState.{EvictionState, held, filtered, entries_of}
 use Rattle.tc_plain.specs.Placing.{at_front, without_key, placed, used}
 use Rattle.tc_plain.specs.Doing.{looked_up}
 use Rattle.tc_plain.specs.Soundness.{count_under}
@@ -58,20 +58,20 @@ find_missing p q (x ∷ xs) f = go (p x) refl (q x) f (λ g. find_missing p q xs
     go false t true g later = ap (λ b. cond b (Some x) (find p (filter q xs))) t ∙ later g
     go false t false g later = later g
 
-entries_kept : (q : Entry → Bool) (a : Areas Entry) → entries_of (kept q a) ≡ filter q (entries_of a)
+entries_kept : (q : Entry → Bool) (a : Areas Entry) → entries_of (filtered q a) ≡ filter q (entries_of a)
 entries_kept q a =
     sym (filter-append q a.window (a.probation ++ a.protected)
     ∙ ap (λ t. filter q a.window ++ t) (filter-append q a.probation a.protected))
 
 pub held_kept : (key : List ℕ) (q : Entry → Bool) (a : Areas Entry) (e : Entry) → count_under key a ≤ 1 → held key a ≡ Some e
-    → held key (kept q a) ≡ cond (q e) (Some e) None
+    → held key (filtered q a) ≡ cond (q e) (Some e) None
 held_kept key q a e h f =
     let f1 : Entry → ℕ = λ e. cond (has_key key e) 1 0 in
     let all : sum_by f1 (entries_of a) ≤ 1 =
     omega (arith, h, sum_by-append f1 a.window (a.probation ++ a.protected), sum_by-append f1 a.probation a.protected) in
     ap (find (has_key key)) (entries_kept q a) ∙ find_kept (has_key key) q (entries_of a) e all f
 
-pub held_kept_none : (key : List ℕ) (q : Entry → Bool) (a : Areas Entry) → held key a ≡ None → held key (kept q a) ≡ None
+pub held_kept_none : (key : List ℕ) (q : Entry → Bool) (a : Areas Entry) → held key a ≡ None → held key (filtered q a) ≡ None
 held_kept_none key q a f = ap (find (has_key key)) (entries_kept q a) ∙ find_missing (has_key key) q (entries_of a) f
 
 -- what is placed, by whether it is alive and what its key held

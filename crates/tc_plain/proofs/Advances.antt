@@ -8,7 +8,7 @@ use Rattle.tc_item.specs.declared.moment.Due.TheVariants.{Never, At}
 use Rattle.tc_item.specs.Expiry.{is_before}
 use Rattle.tc_plain.specs.declared.shared.entry.Entry.{Entry}
 use Rattle.tc_plain.specs.Entries.{lives}
-use Rattle.tc_plain.specs.EvictionState.{EvictionState, no_entries, kept, is_flush_due, at_moment, advanced}
+use Rattle.tc_plain.specs.EvictionState.{EvictionState, no_entries, filtered, is_flush_due, at_moment, advanced}
 use Rattle.tc_plain.specs.Doing.{done, with_note}
 use Rattle.tc_plain.specs.Laws.{AdvancesOnce, ActsAdvanced, user_caching}
 use Rattle.std.proofs.lemmas.Bool.{leb-true, le-leb, ltb-true, lt-ltb}
@@ -36,7 +36,7 @@ pub is_flush_due-later : (m n : ℕ) (f : Option ℕ) → m ≤ n → is_flush_d
 is_flush_due-later m n None le h = h
 is_flush_due-later m n (Some d) le h = le-leb d n (omega (arith, leb-true d m h))
 
-kept-kept : (m n : ℕ) (a : Areas Entry) → m ≤ n → kept (lives n) (kept (lives m) a) ≡ kept (lives n) a
+kept-kept : (m n : ℕ) (a : Areas Entry) → m ≤ n → filtered (lives n) (filtered (lives m) a) ≡ filtered (lives n) a
 kept-kept m n a le =
     let f : (xs : List Entry) → filter (lives n) (filter (lives m) xs) ≡ filter (lives n) xs =
     filter-filter (lives m) (lives n) (λ e. is_before-earlier m n e.item.due le) in
@@ -47,7 +47,7 @@ moment-at_moment m l = go (is_flush_due l.flush m)
   where
     go : (b : Bool)
         → (cond b (record l { areas = no_entries; flush = None; moment = m })
-        (record l { areas = kept (lives m) l.areas; moment = m })).moment
+        (record l { areas = filtered (lives m) l.areas; moment = m })).moment
         ≡ m
     go true = refl
     go false = refl
@@ -57,7 +57,7 @@ limits-at_moment m l = go (is_flush_due l.flush m)
   where
     go : (b : Bool)
         → (cond b (record l { areas = no_entries; flush = None; moment = m })
-        (record l { areas = kept (lives m) l.areas; moment = m })).limits
+        (record l { areas = filtered (lives m) l.areas; moment = m })).limits
         ≡ l.limits
     go true = refl
     go false = refl
@@ -67,9 +67,9 @@ at_moment-at_moment m n l le = go (is_flush_due l.flush m) (is_flush_due l.flush
   where
     go : (a b : Bool) → is_flush_due l.flush n ≡ b → (a ≡ true → b ≡ true)
         → at_moment n (cond a (record l { areas = no_entries; flush = None; moment = m })
-        (record l { areas = kept (lives m) l.areas; moment = m }))
+        (record l { areas = filtered (lives m) l.areas; moment = m }))
         ≡ cond b (record l { areas = no_entries; flush = None; moment = n })
-        (record l { areas = kept (lives n) l.areas; moment = n })
+        (record l { areas = filtered (lives n) l.areas; moment = n })
     go true true e f = refl
     go true false e f = absurd (grind (arith, f refl))
     go false true e f = rw e refl

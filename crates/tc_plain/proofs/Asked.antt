@@ -17,7 +17,7 @@ use Rattle.tc_item.specs.Expiry.{is_before}
 use Rattle.tc_stats.specs.declared.hits.Hit.{Hit}
 use Rattle.tc_plain.specs.declared.shared.entry.Entry.{Entry}
 use Rattle.tc_plain.specs.Entries.{weight, lives, has_key, hit_of, with_item}
-use Rattle.tc_plain.specs.EvictionState.{EvictionState, held, entries_of, kept, no_entries, is_flush_due, at_moment}
+use Rattle.tc_plain.specs.EvictionState.{EvictionState, held, entries_of, filtered, no_entries, is_flush_due, at_moment}
 use Rattle.tc_plain.specs.Placing.{seen, at_front, put_in, without_key, placed, used}
 use Rattle.tc_plain.specs.Doing.{looked_up, all_looked_up}
 use Rattle.tc_plain.specs.AreaLists.{change_of, is_due, found_in}
@@ -242,12 +242,12 @@ lasting_at due m l = go (is_flush_due l.flush m)
     go : (b : Bool)
         → Lasting (is_due due m) (change_of due)
         (cond b (record l { areas = no_entries; flush = None; moment = m })
-        (record l { areas = kept (lives m) l.areas; moment = m }))
+        (record l { areas = filtered (lives m) l.areas; moment = m }))
     go true =
         lasting_by due m (record l { areas = no_entries; flush = None; moment = m }) refl
         (record { window = tt; probation = tt; protected = tt })
     go false =
-        lasting_by due m (record l { areas = kept (lives m) l.areas; moment = m }) refl
+        lasting_by due m (record l { areas = filtered (lives m) l.areas; moment = m }) refl
         (record { window = left l.areas.window; probation = left l.areas.probation; protected = left l.areas.protected })
 
 -- a loop over keys that has come to one key more

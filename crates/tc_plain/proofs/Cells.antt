@@ -11,7 +11,7 @@ use Rattle.tc_grammar.specs.declared.command.Command.{Command}
 use Rattle.tc_stats.specs.declared.outcome.Outcome.{Outcome}
 use Rattle.tc_plain.specs.declared.shared.entry.Entry.{Entry}
 use Rattle.tc_plain.specs.Entries.{lives}
-use Rattle.tc_plain.specs.EvictionState.{EvictionState, kept, no_entries, is_flush_due, at_moment}
+use Rattle.tc_plain.specs.EvictionState.{EvictionState, filtered, no_entries, is_flush_due, at_moment}
 use Rattle.tc_plain.specs.UserCache.{UserCache, fresh, advance}
 use Rattle.tc_plain.specs.Doing.{act, done, with_note}
 use Rattle.tc_plain.specs.Cell.{Cell, empty_cell, living, cell_at, item_after, changes_after, after_command, cell_from, cell}
@@ -53,7 +53,7 @@ come past m l items flush = go (is_flush_due l.flush m) refl
   where
     go : (b : Bool) → is_flush_due l.flush m ≡ b
         → Advanced past m (cond b (record l { areas = no_entries; flush = None; moment = m })
-        (record l { areas = kept (lives m) l.areas; moment = m }))
+        (record l { areas = filtered (lives m) l.areas; moment = m }))
     go true d =
         let due : (key : List ℕ) → is_flush_due (cell past key).flush m ≡ true =
         λ key. ap (λ f. is_flush_due f m) (flush key) ∙ d in

@@ -19,7 +19,7 @@ use Rattle.tc_stats.specs.declared.outcome.Outcome.{Outcome}
 use Rattle.tc_stats.specs.declared.outcome.Outcome.TheVariants.{Stored, TooLarge, CasWorn}
 use Rattle.tc_plain.specs.declared.shared.entry.Entry.{Entry}
 use Rattle.tc_plain.specs.Entries.{weight, lives, has_key, with_item, with_due}
-use Rattle.tc_plain.specs.EvictionState.{EvictionState, no_entries, held, kept, is_flush_due, at_moment, advanced}
+use Rattle.tc_plain.specs.EvictionState.{EvictionState, no_entries, held, filtered, is_flush_due, at_moment, advanced}
 use Rattle.tc_plain.specs.Placing.{frequency, at_front, placed, used}
 use Rattle.tc_plain.specs.UserCache.{UserCache, fresh, advance}
 use Rattle.tc_plain.specs.Storing.{Offer, Refused, Offered, is_too_large, is_worn, changed, accepted}
@@ -39,7 +39,7 @@ filter-passing p [] h = refl
 filter-passing p (x ∷ xs) h =
     ap (λ (b : Bool). cond b (x ∷ filter p xs) (filter p xs)) h.0 ∙ ap (λ ys. x ∷ ys) (filter-passing p xs h.1)
 
-kept-passing : (p : Entry → Bool) (a : Areas Entry) → EveryIn (λ e. p e ≡ true) a → kept p a ≡ a
+kept-passing : (p : Entry → Bool) (a : Areas Entry) → EveryIn (λ e. p e ≡ true) a → filtered p a ≡ a
 kept-passing p a h =
     λ i. record {
       window = filter-passing p a.window h.window i;
@@ -50,7 +50,7 @@ kept-passing p a h =
 at_moment-same : (m : ℕ) (l : EvictionState) → IsAt m l → at_moment m l ≡ l
 at_moment-same m l h =
     ap (λ (b : Bool). cond b (let n : EvictionState = record l { areas = no_entries; flush = None; moment = m } in n)
-    (record l { areas = kept (lives m) l.areas; moment = m })) h.flush
+    (record l { areas = filtered (lives m) l.areas; moment = m })) h.flush
     ∙ (λ i. record l { areas = kept-passing (lives m) l.areas h.alive i; moment = sym h.moment_is i })
 
 advanced-same : (m n : ℕ) (l : EvictionState) → IsAt m l → n ≤ m → advanced l n ≡ l
@@ -72,7 +72,7 @@ at-at_moment m l = go (is_flush_due l.flush m) refl
   where
     go : (b : Bool) → is_flush_due l.flush m ≡ b
         → IsAt m (cond b (record l { areas = no_entries; flush = None; moment = m })
-        (record l { areas = kept (lives m) l.areas; moment = m }))
+        (record l { areas = filtered (lives m) l.areas; moment = m }))
     go true is = record { moment_is = refl; flush = refl; alive = record { window = tt; probation = tt; protected = tt } }
     go false is = record {
       moment_is = refl;
@@ -85,7 +85,7 @@ at-at_moment m l = go (is_flush_due l.flush m) refl
     }
 
 -- ---- what commands do there
-alive_without : (P : Entry → Type 0) (p : Entry → Bool) (a : Areas Entry) → EveryIn P a → EveryIn P (kept p a)
+alive_without : (P : Entry → Type 0) (p : Entry → Bool) (a : Areas Entry) → EveryIn P a → EveryIn P (filtered p a)
 alive_without P p a h = record {
   window = left a.window h.window;
   probation = left a.probation h.probation;
@@ -103,7 +103,7 @@ at_placed m l x h = go (lives l.moment x) (is_some (held x.key l.areas)) refl
 
     go : (a b : Bool) → lives l.moment x ≡ a
         → EveryIn P (cond a (cond b (accessed weight l.limits (has_key x.key) x l.areas) (at_front x l.areas))
-        (kept (λ e. not (has_key x.key e)) l.areas))
+        (filtered (λ e. not (has_key x.key e)) l.areas))
     go true true is =
         EveryIn-accessed P P weight l.limits (has_key x.key) x l.areas (λ y t p. p)
         (ap (λ t. lives t x) (sym h.moment_is) ∙ is) h.alive

@@ -12,7 +12,7 @@ use Rattle.tc_model.proofs.Accessed.{accessed_within}
 use Rattle.tc_model.proofs.Totals.{sum-filter-le, total-settle, total-accessed}
 use Rattle.tc_plain.specs.declared.shared.entry.Entry.{Entry}
 use Rattle.tc_plain.specs.Entries.{weight, lives, has_key, with_item}
-use Rattle.tc_plain.specs.EvictionState.{EvictionState, kept, held, entries_of, no_entries, is_flush_due, at_moment}
+use Rattle.tc_plain.specs.EvictionState.{EvictionState, filtered, held, entries_of, no_entries, is_flush_due, at_moment}
 use Rattle.tc_plain.specs.Placing.{frequency, at_front, put_in, without_key, placed, used}
 use Rattle.tc_plain.specs.Soundness.{count_under, AreSound, HitDropsNothing}
 use Rattle.tc_plain.proofs.Held.{found, missed, all_of, in_areas, not_false}
@@ -44,7 +44,7 @@ none_under key (x ∷ xs) h =
     omega (arith, sum_by-cons f x xs, here, none_under key xs h.1)
 
 within_kept : (limits : Limits) (a : Areas Entry) (p : Entry → Bool) → IsWithin weight limits a
-    → IsWithin weight limits (kept p a)
+    → IsWithin weight limits (filtered p a)
 within_kept limits a p h =
     let main = h.main in
     record {
@@ -54,21 +54,21 @@ within_kept limits a p h =
     }
 
 light_kept : (limits : Limits) (a : Areas Entry) (p : Entry → Bool) → EveryIn (IsLight limits) a
-    → EveryIn (IsLight limits) (kept p a)
+    → EveryIn (IsLight limits) (filtered p a)
 light_kept limits a p l =
     let same : (xs : List Entry) → Every (IsLight limits) xs → Every (IsLight limits) (filter p xs) =
     λ xs g. Every-filter (IsLight limits) (IsLight limits) p (λ x t w. w) xs g in
     record { window = same a.window l.window; probation = same a.probation l.probation; protected = same a.protected l.protected }
 
-once_kept : (a : Areas Entry) (p : Entry → Bool) (key : List ℕ) → count_under key a ≤ 1 → count_under key (kept p a) ≤ 1
+once_kept : (a : Areas Entry) (p : Entry → Bool) (key : List ℕ) → count_under key a ≤ 1 → count_under key (filtered p a) ≤ 1
 once_kept a p key h =
     let f : Entry → ℕ = λ e. cond (has_key key e) 1 0 in
     omega (arith, sum-filter-le f p a.window, sum-filter-le f p a.probation, sum-filter-le f p a.protected, h)
 
-pub sound_kept : (limits : Limits) (a : Areas Entry) (p : Entry → Bool) → AreSound limits a → AreSound limits (kept p a)
+pub sound_kept : (limits : Limits) (a : Areas Entry) (p : Entry → Bool) → AreSound limits a → AreSound limits (filtered p a)
 sound_kept limits a p h = record {
   within = within_kept limits a p h.within;
-  light = all_light limits (kept p a) (light_kept limits a p (light_in limits a h));
+  light = all_light limits (filtered p a) (light_kept limits a p (light_in limits a h));
   once = λ key. once_kept a p key (h.once key);
 }
 
@@ -88,9 +88,9 @@ sound_at_moment m l h = go (is_flush_due l.flush m)
 
     go : (b : Bool)
         → AreSound l.limits (cond b (record l { areas = no_entries; flush = None; moment = m })
-        (record l { areas = kept (lives m) l.areas; moment = m })).areas
+        (record l { areas = filtered (lives m) l.areas; moment = m })).areas
         × ((cond b (record l { areas = no_entries; flush = None; moment = m })
-        (record l { areas = kept (lives m) l.areas; moment = m })).limits
+        (record l { areas = filtered (lives m) l.areas; moment = m })).limits
         ≡ l.limits)
     go true = (sound_none l.limits, refl)
     go false = (sound_kept l.limits l.areas (lives m) h, refl)

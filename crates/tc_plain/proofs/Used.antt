@@ -11,7 +11,7 @@ use Rattle.tc_item.specs.declared.moment.Due.{Due}
 use Rattle.tc_item.specs.declared.item.Item.{Item}
 use Rattle.tc_plain.specs.declared.shared.entry.Entry.{Entry}
 use Rattle.tc_plain.specs.Entries.{weight, lives, has_key, with_item}
-use Rattle.tc_plain.specs.EvictionState.{EvictionState, held, entries_of, kept, no_entries, is_flush_due, at_moment}
+use Rattle.tc_plain.specs.EvictionState.{EvictionState, held, entries_of, filtered, no_entries, is_flush_due, at_moment}
 use Rattle.tc_plain.specs.Placing.{seen, at_front, put_in, without_key, placed, used}
 use Rattle.tc_plain.specs.Doing.{looked_up}
 use Rattle.tc_plain.specs.AreaLists.{put_back, change_of}
@@ -163,8 +163,8 @@ placed_le l e = go (lives l.moment e)
 
 -- what a key will hold, where no flush is due
 pub held_later : (key : List ℕ) (m : ℕ) (l : EvictionState) (o : Option Entry) → is_flush_due l.flush m ≡ false
-    → held key (kept (lives m) l.areas) ≡ o → held key (at_moment m l).areas ≡ o
+    → held key (filtered (lives m) l.areas) ≡ o → held key (at_moment m l).areas ≡ o
 held_later key m l o none h =
     ap (λ b. held key (cond b (let n : EvictionState = record l { areas = no_entries; flush = None; moment = m } in n)
-    (record l { areas = kept (lives m) l.areas; moment = m })).areas) none
+    (record l { areas = filtered (lives m) l.areas; moment = m })).areas) none
     ∙ h

@@ -6,7 +6,7 @@ use Rattle.tc_sketch.specs.Sketch.{Sketch, empty_sketch, hash, aged, recorded, h
 use Rattle.tc_item.specs.declared.item.Item.{Item}
 use Rattle.tc_plain.specs.declared.shared.entry.Entry.{Entry}
 use Rattle.tc_plain.specs.Entries.{lives}
-use Rattle.tc_plain.specs.EvictionState.{EvictionState, held, kept, no_entries, is_flush_due, at_moment}
+use Rattle.tc_plain.specs.EvictionState.{EvictionState, held, filtered, no_entries, is_flush_due, at_moment}
 use Rattle.tc_plain.specs.Doing.{looked_up, all_looked_up}
 
 pub empty_width : (n : ℕ) → (empty_sketch n).width ≡ n
@@ -44,7 +44,7 @@ width-at_moment m l = go (is_flush_due l.flush m)
   where
     go : (b : Bool)
         → (cond b (let n : EvictionState = record l { areas = no_entries; flush = None; moment = m } in n)
-        (record l { areas = kept (lives m) l.areas; moment = m })).sketch.width ≡ l.sketch.width
+        (record l { areas = filtered (lives m) l.areas; moment = m })).sketch.width ≡ l.sketch.width
     go true = refl
     go false = refl
 

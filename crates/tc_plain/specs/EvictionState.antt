@@ -36,8 +36,8 @@ abbrev pub held : List ℕ → Areas Entry → Option Entry
 held key a = find (has_key key) (entries_of a)
 
 -- the areas with the entries that pass alone
-abbrev pub kept : (Entry → Bool) → Areas Entry → Areas Entry
-kept passes a = record {
+abbrev pub filtered : (Entry → Bool) → Areas Entry → Areas Entry
+filtered passes a = record {
   window = filter passes a.window;
   probation = filter passes a.probation;
   protected = filter passes a.protected;
@@ -52,7 +52,7 @@ is_flush_due (Some second) moment = nat_le second moment
 abbrev pub at_moment : ℕ → EvictionState → EvictionState
 at_moment moment l = cond (is_flush_due l.flush moment)
     (record l { areas = no_entries; flush = None; moment = moment })
-    (record l { areas = kept (lives moment) l.areas; moment = moment })
+    (record l { areas = filtered (lives moment) l.areas; moment = moment })
 
 -- advanced to a moment; it never goes back
 abbrev pub advanced : EvictionState → ℕ → EvictionState

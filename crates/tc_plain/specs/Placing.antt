@@ -4,7 +4,7 @@ use Rattle.tc_model.specs.Areas.{Areas, Limits, accessed}
 use Rattle.tc_sketch.specs.Sketch.{recorded, freq, hash}
 use Rattle.tc_plain.specs.declared.shared.entry.Entry.{Entry}
 use Rattle.tc_plain.specs.Entries.{weight, lives, has_key}
-use Rattle.tc_plain.specs.EvictionState.{EvictionState, held, kept}
+use Rattle.tc_plain.specs.EvictionState.{EvictionState, held, filtered}
 
 -- a key is seen once more: one record in the sketch
 abbrev pub seen : List ℕ → EvictionState → EvictionState
@@ -16,7 +16,7 @@ frequency l e = freq l.sketch (hash e.key)
 
 -- what a key held is gone
 abbrev pub without_key : List ℕ → Areas Entry → Areas Entry
-without_key key a = kept (λ e. not (has_key key e)) a
+without_key key a = filtered (λ e. not (has_key key e)) a
 
 -- an entry at the front of the window
 abbrev pub at_front : Entry → Areas Entry → Areas Entry

@@ -13,7 +13,7 @@ use Rattle.tc_item.specs.Expiry.{is_before}
 use Rattle.tc_model.specs.Areas.{Areas, without}
 use Rattle.tc_plain.specs.declared.shared.entry.Entry.{Entry}
 use Rattle.tc_plain.specs.Entries.{lives}
-use Rattle.tc_plain.specs.EvictionState.{kept}
+use Rattle.tc_plain.specs.EvictionState.{filtered}
 use Rattle.tc_slru.specs.Slots.{Placed, is_slot, without_slot}
 use Rattle.tc_wheel.specs.Dues.{is_due}
 use Rattle.tc_slots.specs.Agreement.{set_at, due_by, wheel_due, Agree}
@@ -66,7 +66,7 @@ module _ (I : List ℕ → Option Slot) (S : ℕ → Option Entry) (D : ℕ → 
         (all_alive p (omega (arith, k, split)))
         ∙ ap (λ t. entry_at S p ∷ t) (keeps_all ps (omega (arith, k, split)))
 
-    pub kept_all : kept (lives m) (areas_by S a) ≡ areas_by S a
+    pub kept_all : filtered (lives m) (areas_by S a) ≡ areas_by S a
     kept_all =
         let k = h.weighed in
         three_same _ _ _ _ _ _ (keeps_all a.window (omega (arith, k))) (keeps_all a.probation (omega (arith, k)))
@@ -100,5 +100,5 @@ module _ (I : List ℕ → Option Slot) (S : ℕ → Option Entry) (D : ℕ → 
             (entry_or (cond c None (S p.slot)) ∷ map (entry_at (set_at v None S)) (without (is_slot v) ps))) t
             ∙ ap (λ r. cond (lives m (entry_at S p)) (entry_at S p ∷ r) r) rest
 
-    pub kept_others : kept (lives m) (areas_by (set_at v None S) (without_slot v a)) ≡ kept (lives m) (areas_by S a)
+    pub kept_others : filtered (lives m) (areas_by (set_at v None S) (without_slot v a)) ≡ filtered (lives m) (areas_by S a)
     kept_others = three_same _ _ _ _ _ _ (keeps_others a.window) (keeps_others a.probation) (keeps_others a.protected)

@@ -9,7 +9,7 @@ use Rattle.tc_item.specs.declared.slot.Slot.{Slot}
 use Rattle.tc_model.specs.Areas.{accessed, total}
 use Rattle.tc_plain.specs.declared.shared.entry.Entry.{Entry}
 use Rattle.tc_plain.specs.Entries.{weight, has_key, lives}
-use Rattle.tc_plain.specs.EvictionState.{kept}
+use Rattle.tc_plain.specs.EvictionState.{filtered}
 use Rattle.tc_slru.specs.Slots.{weigh, without_slot, placed}
 use Rattle.tc_slru.specs.SlotLists.{SlotLists, removed, accessed_at}
 use Rattle.tc_wheel.specs.Dues.{Dues, due_at, is_due, removed as untimed_at, advanced}
@@ -77,7 +77,7 @@ module _ (i : List (Option ℕ)) (s : Slab Entry) (l : SlotLists) (w : Dues)
     due_one v g = given_one (slot_of s.slots) (slab_get s) (due_at w.dues) l.areas h moment early v g
 
     pub none_due : ((n : ℕ) → is_due moment (due_at w.dues n) ≡ false)
-        → kept (lives moment) (areas_by (slab_get s) l.areas) ≡ areas_by (slab_get s) l.areas
+        → filtered (lives moment) (areas_by (slab_get s) l.areas) ≡ areas_by (slab_get s) l.areas
     none_due none = kept_all (slot_of s.slots) (slab_get s) (due_at w.dues) l.areas h moment early none
 
     module _ (e : Entry) (v : Slot) (at : slab_get s v.0 ≡ Some e) (dead : lives moment e ≡ false) (j : List (Option ℕ))
@@ -92,11 +92,11 @@ module _ (i : List (Option ℕ)) (s : Slab Entry) (l : SlotLists) (w : Dues)
           agree_same refl refl (ap due_at same) (ap (λ (z : SlotLists). z.areas) (sym em))
           (slots_less i s l w h e v j t at gone (without_slot v.0 l.areas) y less refl)
 
-      pub slots_expired_areas : kept (lives moment) (areas_by (slab_get t) m.areas)
-          ≡ kept (lives moment) (areas_by (slab_get s) l.areas)
+      pub slots_expired_areas : filtered (lives moment) (areas_by (slab_get t) m.areas)
+          ≡ filtered (lives moment) (areas_by (slab_get s) l.areas)
       slots_expired_areas =
-          ap (λ S. kept (lives moment) (areas_by S m.areas)) (fun_same _ _ gone.entries)
-          ∙ ap (λ (z : SlotLists). kept (lives moment) (areas_by (set_at v.0 None (slab_get s)) z.areas)) em
+          ap (λ S. filtered (lives moment) (areas_by S m.areas)) (fun_same _ _ gone.entries)
+          ∙ ap (λ (z : SlotLists). filtered (lives moment) (areas_by (set_at v.0 None (slab_get s)) z.areas)) em
           ∙ kept_others (slot_of s.slots) (slab_get s) (due_at w.dues) l.areas h moment early v.0 e at dead
 
 -- nothing yet
@@ -116,7 +116,7 @@ fresh_filled {I} {S} {D} i s d =
 -- what is alive is what was, while others leave
 pub record IsExpiring (moment : ℕ) (first now : Held) : Type 0 where
   pub limits : now.limits ≡ first.limits
-  pub alive : kept (lives moment) now.areas ≡ kept (lives moment) first.areas
+  pub alive : filtered (lives moment) now.areas ≡ filtered (lives moment) first.areas
   pub slots : (n : ℕ) (e : Entry) → slice_index_or first.slots n None ≡ Some e → lives moment e ≡ true
       → slice_index_or now.slots n None ≡ Some e
   pub room : first.has_room ≡ true → now.has_room ≡ true

@@ -7,8 +7,8 @@ use Rattle.std.proofs.lemmas.List.Elements.{All-from_recursion, recursion_from_A
 use Rattle.tc_users.specs.declared.users.UserSpec.{UserSpec}
 use Rattle.tc_locked.specs.declared.view.Note.{Note}
 use Rattle.tc_locked.specs.Views.{of_user, by_seat}
-use Rattle.tc_locked.specs.KeptBooks.{Terms, KeptState, SeatState, IsKept}
-use Rattle.tc_locked.specs.Closing.{ClosedState, AllKept, AllTied, TiedTo}
+use Rattle.tc_locked.specs.HallBooks.{Terms, HallBookState, SeatState, IsHallBook}
+use Rattle.tc_locked.specs.Closing.{ClosedState, AreHallBooks, AllTied, TiedTo}
 use Rattle.tc_links.specs.Talks.{LinkState, last_after, notes_in}
 use Rattle.tc_links.specs.Lives.{IsTalk, TalkState}
 use Rattle.tc_links.specs.Turns.{WorkerState}
@@ -19,7 +19,7 @@ use Rattle.tc_workers.proofs.Rising.{numbered-entries, numbered-part}
 use Rattle.tc_workers.proofs.Crewing.{Since, Noted, since-crew}
 
 -- the notes of one of these seats in a book are the seat's notes of the book
-tied-at : (k : KeptState) (seats : List SeatState) (at : ℕ) (s : SeatState) → TiedTo k seats → at < length seats
+tied-at : (k : HallBookState) (seats : List SeatState) (at : ℕ) (s : SeatState) → TiedTo k seats → at < length seats
     → slice_index_or seats at s ≡ s → by_seat s.number k.log ≡ of_user k.user s.notes
 tied-at k [] at s tied lt is = absurd (omega arith)
 tied-at k (x ∷ xs) zero s tied lt is =
@@ -27,7 +27,7 @@ tied-at k (x ∷ xs) zero s tied lt is =
 tied-at k (x ∷ xs) (suc at) s tied lt is = tied-at k xs at s tied.1 (omega arith) is
 
 -- what a worker's seat noted of a user stands in the user's book
-in-book : (k : KeptState) (seats : List SeatState) (ws : List WorkerState) (n : Note) → TiedTo k seats
+in-book : (k : HallBookState) (seats : List SeatState) (ws : List WorkerState) (n : Note) → TiedTo k seats
     → Each (Contains seats) (map (λ worker. worker.desk.seat) ws) → (n.user == k.user) ≡ true → Noted ws n → In n k.log
 in-book k seats [] n tied among is i = absurd i
 in-book k seats (w ∷ ws) n tied among is (inl i) =
@@ -43,7 +43,7 @@ talk-above rows opened now x =
     rose-above 0 (notes_in x.moves)
     (subst (λ (o : Option ℕ). IsSome o) (x.goes.last ∙ ap (λ (o : Option ℕ). last_after o (notes_in x.moves)) x.last) x.rose)
 
-book-part : (terms : Terms) (k : KeptState) (seats : List SeatState) (ws : List WorkerState) (ns : List Note) → IsKept terms k
+book-part : (terms : Terms) (k : HallBookState) (seats : List SeatState) (ws : List WorkerState) (ns : List Note) → IsHallBook terms k
     → TiedTo k seats → Each (Contains seats) (map (λ worker. worker.desk.seat) ws) → Above 0 ns → Each (Noted ws) ns
     → IsPart (of_user k.user ns) k.log
 book-part terms k seats ws ns kept tied among above noted =
@@ -52,8 +52,8 @@ book-part terms k seats ws ns kept tied among above noted =
     (numbered-entries 0 (replicate terms.seats 0) k.log kept.whole.numbered) (above-filter test 0 ns above)
     (each-filter test (Noted ws) (λ n. In n k.log) ns (λ n. in-book k seats ws n tied among) noted)
 
-books-part : (terms : Terms) (ks : List KeptState) (seats : List SeatState) (ws : List WorkerState) (ns : List Note)
-    → AllKept terms ks → AllTied ks seats → Each (Contains seats) (map (λ worker. worker.desk.seat) ws) → Above 0 ns
+books-part : (terms : Terms) (ks : List HallBookState) (seats : List SeatState) (ws : List WorkerState) (ns : List Note)
+    → AreHallBooks terms ks → AllTied ks seats → Each (Contains seats) (map (λ worker. worker.desk.seat) ws) → Above 0 ns
     → Each (Noted ws) ns → Each (λ k. IsPart (of_user k.user ns) k.log) ks
 books-part terms [] seats ws ns kept tied among above noted = tt
 books-part terms (k ∷ ks) seats ws ns kept tied among above noted = (

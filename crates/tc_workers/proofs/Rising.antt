@@ -6,7 +6,7 @@ use Rattle.std.specs.List.{filter, AllByRecursion as Each}
 use Rattle.std.proofs.lemmas.Bool.Decides.{nat_tests}
 use Rattle.tc_locked.specs.declared.view.Note.{Note}
 use Rattle.tc_locked.specs.Books.{AreNumbered}
-use Rattle.tc_locked.specs.KeptBooks.{entries_in}
+use Rattle.tc_locked.specs.HallBooks.{entries_in}
 use Rattle.tc_links.specs.Talks.{last_after}
 use Rattle.tc_workers.specs.Answering.{IsPart}
 use Rattle.tc_links.proofs.Latest.{fell}

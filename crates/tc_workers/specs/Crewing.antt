@@ -3,7 +3,7 @@
 use Rattle.std.specs.Prelude.{◌≡◌, ◌⊎◌, ℕ, List, [], ◌∷◌, map, Option, Some, None, All, Contains, slice_get, slice_index_or}
 use Rattle.std.specs.Prelude.{slice_set}
 use Rattle.tc_users.specs.declared.users.UserSpec.{UserSpec}
-use Rattle.tc_locked.specs.KeptBooks.{SeatState}
+use Rattle.tc_locked.specs.HallBooks.{SeatState}
 use Rattle.tc_links.specs.Lives.{TalkState}
 use Rattle.tc_links.specs.Turns.{WorkerState, Serves}
 use Rattle.tc_workers.specs.Between.{Opens, TakesIn, MayDrop, Changes}

@@ -1,7 +1,7 @@
 -- Why a crew doesn't go, by number, and the seats of its workers, by theirs. Source: this project's own.
 use Rattle.std.specs.Prelude.{ℕ, List, map}
 use Rattle.std.specs.declared.thread.PromisedHandle.{PromisedHandle}
-use Rattle.tc_locked.specs.KeptBooks.{SeatState}
+use Rattle.tc_locked.specs.HallBooks.{SeatState}
 use Rattle.tc_workers.specs.declared.crew.Why.{Why}
 use Rattle.tc_workers.specs.declared.crew.Why.TheVariants.{NoMemory, NoThread}
 use Rattle.tc_workers.specs.declared.seat_of.SeatOf.{SeatOf}

@@ -3,7 +3,7 @@ ghost use Rattle.std.specs.Prelude.{◌≡◌, ℕ, ◌<◌, ◌≤◌, ◌+◌,
 ghost use Rattle.std.specs.Prelude.{sum_by};
 ghost use Rattle.tc_model.specs.Areas.{Limits, total, is_in, demoted};
 ghost use Rattle.tc_plain.specs.Entries.{weight, lives, has_key};
-ghost use Rattle.tc_plain.specs.EvictionState.{no_entries, entries_of, kept, held};
+ghost use Rattle.tc_plain.specs.EvictionState.{no_entries, entries_of, filtered, held};
 ghost use Rattle.tc_plain.specs.Placing.{without_key};
 ghost use Rattle.tc_plain.specs.AreaLists.{areas_of, HasRoom, is_from_window, put_back};
 
@@ -94,7 +94,7 @@ impl Areas {
 
     /// Takes out what isn't alive at the moment.
     pub(crate) fn expire(&mut self, moment: Moment)
-        ensures areas { areas_of self.new ≡ kept (lives moment) (areas_of self.old) }
+        ensures areas { areas_of self.new ≡ filtered (lives moment) (areas_of self.old) }
         ensures room { (spare : ℕ) → HasRoom spare self.old → HasRoom spare self.new }
     {
         expire(&mut self.window, moment);

@@ -5,7 +5,7 @@ ghost use Rattle.tc_stats.specs.UserCounters.{more};
 ghost use Rattle.tc_plain.specs.AreaLists.{frequency_in};
 ghost use Rattle.tc_plain.specs.Soundness.{AreSound};
 ghost use Rattle.tc_plain.specs.Entries.{weight, lives};
-ghost use Rattle.tc_plain.specs.EvictionState.{held, kept, no_entries};
+ghost use Rattle.tc_plain.specs.EvictionState.{held, filtered, no_entries};
 ghost use Rattle.tc_plain.specs.Placing.{without_key};
 ghost use Rattle.tc_plain.specs.declared.shared.entry.Entry.{Entry};
 ghost use Rattle.tc_slots.specs.Held.{filled, DropsEntry};
@@ -156,8 +156,8 @@ impl Slots {
     /// Takes out one entry that is not alive at the moment, and says whether there was one.
     pub fn expire_next(&mut self, moment: Moment) -> bool
         ensures limits { self.new.limits ≡ self.old.limits }
-        ensures kept { kept (lives moment) self.new.areas ≡ kept (lives moment) self.old.areas }
-        ensures none { result ≡ false → kept (lives moment) self.new.areas ≡ self.new.areas }
+        ensures kept { filtered (lives moment) self.new.areas ≡ filtered (lives moment) self.old.areas }
+        ensures none { result ≡ false → filtered (lives moment) self.new.areas ≡ self.new.areas }
         ensures alive { (n : ℕ) (e : Entry) → slice_index_or self.old.slots n None ≡ Some e
             → lives moment e ≡ true → slice_index_or self.new.slots n None ≡ Some e }
         ensures fewer { result ≡ true → filled self.new.slots + 1 ≡ filled self.old.slots }
@@ -181,7 +181,7 @@ impl Slots {
     /// Takes out what is not alive at the moment.
     pub fn expire(&mut self, moment: Moment)
         ensures limits { self.new.limits ≡ self.old.limits }
-        ensures areas { self.new.areas ≡ kept (lives moment) self.old.areas }
+        ensures areas { self.new.areas ≡ filtered (lives moment) self.old.areas }
         ensures alive { (n : ℕ) (e : Entry) → slice_index_or self.old.slots n None ≡ Some e
             → lives moment e ≡ true → slice_index_or self.new.slots n None ≡ Some e }
         ensures room { self.old.has_room ≡ true → self.new.has_room ≡ true }

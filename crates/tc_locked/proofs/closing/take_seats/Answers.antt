@@ -3,7 +3,7 @@ use Rattle.std.proofs.Common.{rules, ◌≡◌, List, sym, ap, ◌∙◌, map}
 use Rattle.std.proofs.lemmas.Iterator.Adapters.{YieldsList-from_vec}
 use Rattle.std.proofs.lemmas.Iterator.Consumers.{YieldsList-end}
 use Rattle.tc_locked.specs.Closing.{add_seats, seat_face}
-use Rattle.tc_locked.specs.KeptBooks.{SeatState}
+use Rattle.tc_locked.specs.HallBooks.{SeatState}
 use Rattle.tc_locked.proofs.closing.take_seats.Goals as goal
 
 pub returns : goal.returns

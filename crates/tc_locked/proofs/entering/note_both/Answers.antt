@@ -4,7 +4,7 @@ use Rattle.atomic_table.specs.Table.{Me}
 use Rattle.tc_locked.specs.declared.call_entry.CallEntry.{CallEntry}
 use Rattle.tc_locked.specs.declared.view.View.{View}
 use Rattle.tc_locked.specs.Views.{table_words, book_view, seat_view, joined_view, both_of}
-use Rattle.tc_locked.specs.KeptBooks.{log_of, notes_of}
+use Rattle.tc_locked.specs.HallBooks.{log_of, notes_of}
 use Rattle.tc_locked.proofs.TableSteps.{joins, adds_allows_at, parts}
 use Rattle.tc_locked.proofs.entering.note_both.Goals as goal
 

@@ -1,7 +1,7 @@
 use Rattle.std.specs.Prelude.{IfSome}
 use Rattle.std.proofs.Common.{◌≡◌, List, [], ◌++◌, sym, ap, subst, ◌∙◌, vec_len}
 use Rattle.std.proofs.lemmas.List.{append-nil, nil_from_length}
-use Rattle.tc_locked.specs.KeptBooks.{SeatState}
+use Rattle.tc_locked.specs.HallBooks.{SeatState}
 use Rattle.tc_workers.specs.Crews.{numbers_in, numbers_of}
 use Rattle.tc_workers.proofs.crew.run_crew.Goals as goal
 

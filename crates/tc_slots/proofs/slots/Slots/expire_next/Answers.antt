@@ -7,7 +7,7 @@ use Rattle.std.proofs.Common.{None, ◌<◌, length, sym, ◌∙◌, ap, subst, 
 use Rattle.slab.specs.Slab.{get as slab_get}
 use Rattle.tc_item.specs.Bounds.{moment_limit}
 use Rattle.tc_plain.specs.Entries.{lives}
-use Rattle.tc_plain.specs.EvictionState.{kept}
+use Rattle.tc_plain.specs.EvictionState.{filtered}
 use Rattle.tc_wheel.specs.Dues.{advanced}
 use Rattle.tc_plain.specs.Placing.{without_key}
 use Rattle.tc_plain.specs.Soundness.{AreSound}
@@ -74,7 +74,7 @@ returns-in-Some-clause-kept c =
     c.in-Some.due one.1
     one.2 c.vacate.new.index c.vacate.new.entries (c.vacate.ensures.gone one.0 one.1) c.remove.new.self.live
     (ap (λ (t : Told SlotLists). t.live) c.remove.ensures)
-    ∙ ap (λ (z : Held). kept (lives c.args.moment) z.areas) c.self.view_is
+    ∙ ap (λ (z : Held). filtered (lives c.args.moment) z.areas) c.self.view_is
 
 pub returns-in-None-clause-none : goal.returns-in-None-clause-none
 returns-in-None-clause-none c = λ _.

@@ -1,7 +1,7 @@
 use Rattle.std.specs.Prelude.{filter, find}
 use Rattle.std.proofs.Common.{sym, ◌∙◌, ap}
 use Rattle.tc_plain.specs.Entries.{lives, has_key}
-use Rattle.tc_plain.specs.EvictionState.{kept}
+use Rattle.tc_plain.specs.EvictionState.{filtered}
 use Rattle.tc_plain.specs.AreaLists.{areas_of, live_of}
 use Rattle.tc_plain.proofs.TakenOut.{held_in_window, held_in_probation, held_in_protected, held_nowhere}
 use Rattle.tc_plain.proofs.Used.{held_later}
@@ -9,7 +9,7 @@ use Rattle.tc_plain.proofs.reference.eviction_state.EvictionState.peek.Goals as 
 
 pub returns-in-Some : goal.returns-in-Some
 returns-in-Some c =
-    let a = kept (lives c.args.moment) (areas_of c.args.self.now.areas) in
+    let a = filtered (lives c.args.moment) (areas_of c.args.self.now.areas) in
     let at = ap (λ xs. find (has_key c.args.key.now) (filter (lives c.args.moment) xs)) (sym c.deref.ensures.value)
     ∙ c.in-Some.ensures in
     held_later c.args.key.now c.args.moment (live_of c.args.self.now) _ (sym c.if-is_flush_due.ensures)
@@ -17,7 +17,7 @@ returns-in-Some c =
 
 pub returns-in-Some-find_alive : goal.returns-in-Some-find_alive
 returns-in-Some-find_alive c =
-    let a = kept (lives c.args.moment) (areas_of c.args.self.now.areas) in
+    let a = filtered (lives c.args.moment) (areas_of c.args.self.now.areas) in
     let off = ap (λ xs. find (has_key c.args.key.now) (filter (lives c.args.moment) xs)) (sym c.deref.ensures.value)
     ∙ c.in_default.ensures in
     let at = ap (λ xs. find (has_key c.args.key.now) (filter (lives c.args.moment) xs)) (sym c.deref-2.ensures.value)
@@ -27,7 +27,7 @@ returns-in-Some-find_alive c =
 
 pub returns-in-Some-find_alive-2 : goal.returns-in-Some-find_alive-2
 returns-in-Some-find_alive-2 c =
-    let a = kept (lives c.args.moment) (areas_of c.args.self.now.areas) in
+    let a = filtered (lives c.args.moment) (areas_of c.args.self.now.areas) in
     let off = ap (λ xs. find (has_key c.args.key.now) (filter (lives c.args.moment) xs)) (sym c.deref.ensures.value)
     ∙ c.in_default.ensures in
     let out = ap (λ xs. find (has_key c.args.key.now) (filter (lives c.args.moment) xs)) (sym c.deref-2.ensures.value)
@@ -39,7 +39,7 @@ returns-in-Some-find_alive-2 c =
 
 pub returns : goal.returns
 returns c =
-    let a = kept (lives c.args.moment) (areas_of c.args.self.now.areas) in
+    let a = filtered (lives c.args.moment) (areas_of c.args.self.now.areas) in
     let off = ap (λ xs. find (has_key c.args.key.now) (filter (lives c.args.moment) xs)) (sym c.deref.ensures.value)
     ∙ c.in_default.ensures in
     let out = ap (λ xs. find (has_key c.args.key.now) (filter (lives c.args.moment) xs)) (sym c.deref-2.ensures.value)

@@ -12,7 +12,7 @@ use Rattle.tc_locked.specs.declared.view.Note.{Note}
 use Rattle.tc_locked.specs.Views.{note, by_seat, of_user}
 use Rattle.tc_locked.specs.Books.{first_start, Stands, AreNumbered, counts_after, entry_of, after_call, after_maintain}
 use Rattle.tc_locked.specs.Books.{page_turned}
-use Rattle.tc_locked.specs.KeptBooks.{Terms, KeptState, IsKept, ArePages, entries_in, on_page, kept_after}
+use Rattle.tc_locked.specs.HallBooks.{Terms, HallBookState, IsHallBook, ArePages, entries_in, on_page, hall_book_after}
 use Rattle.tc_locked.proofs.TableSteps.{by_same_seat}
 use Rattle.tc_locked.proofs.Books.{index-replicate, stands_call, stands_maintain}
 
@@ -40,16 +40,16 @@ pages_before u journal (suc p) ns h =
     subst (AllBefore (suc p)) (sym h.2)
     (all_append (suc p) h.0 (on_page u p h.1) (all_later p h.0 (pages_before u journal p h.0 h.4)) (all_on u p h.1))
 
-abbrev pushed : KeptState → ℕ → ℕ → ℕ → Command → KeptState
+abbrev pushed : HallBookState → ℕ → ℕ → ℕ → Command → HallBookState
 pushed k seat now conn c =
     let e = entry_of k.book seat now conn c in
     record { user = k.user; book = after_call k.book e; log = k.log ++ note k.user k.book.turns e ∷ [] }
 
-abbrev turned : KeptState → KeptState
+abbrev turned : HallBookState → HallBookState
 turned k = record { user = k.user; book = page_turned k.book; log = k.log }
 
-kept_push : (terms : Terms) (k : KeptState) (seat now conn : ℕ) (c : Command) → seat < terms.seats
-    → length k.book.entries < terms.journal → IsKept terms k → IsKept terms (pushed k seat now conn c)
+kept_push : (terms : Terms) (k : HallBookState) (seat now conn : ℕ) (c : Command) → seat < terms.seats
+    → length k.book.entries < terms.journal → IsHallBook terms k → IsHallBook terms (pushed k seat now conn c)
 kept_push terms k seat now conn c lt few h =
     let e = entry_of k.book seat now conn c in
     let n = note k.user k.book.turns e in
@@ -71,7 +71,7 @@ kept_push terms k seat now conn c lt few h =
       room = omega (arith, length-append k.book.entries (e ∷ []));
     }
 
-kept_turn : (terms : Terms) (k : KeptState) → terms.journal ≤ length k.book.entries → IsKept terms k → IsKept terms (turned k)
+kept_turn : (terms : Terms) (k : HallBookState) → terms.journal ≤ length k.book.entries → IsHallBook terms k → IsHallBook terms (turned k)
 kept_turn terms k many h =
     let s = h.whole in
     let room = h.room in
@@ -97,22 +97,22 @@ kept_turn terms k many h =
       room = omega arith;
     }
 
-call_by : (terms : Terms) (k : KeptState) (seat now conn : ℕ) (c : Command) → 0 < terms.journal → seat < terms.seats
-    → IsKept terms k → (b : Bool) → leb terms.journal (length k.book.entries) ≡ b
-    → IsKept terms (let e = entry_of k.book seat now conn c in
+call_by : (terms : Terms) (k : HallBookState) (seat now conn : ℕ) (c : Command) → 0 < terms.journal → seat < terms.seats
+    → IsHallBook terms k → (b : Bool) → leb terms.journal (length k.book.entries) ≡ b
+    → IsHallBook terms (let e = entry_of k.book seat now conn c in
     let s = cond b (page_turned k.book) k.book in
     record { user = k.user; book = after_call s e; log = k.log ++ note k.user s.turns e ∷ [] })
 call_by terms k seat now conn c some lt h true is =
     kept_push terms (turned k) seat now conn c lt some (kept_turn terms k (grind (arith, nat_tests)) h)
 call_by terms k seat now conn c some lt h false is = kept_push terms k seat now conn c lt (grind (arith, nat_tests)) h
 
-pub kept_call : (terms : Terms) (k : KeptState) (seat now conn : ℕ) (c : Command) → 0 < terms.journal → seat < terms.seats
-    → IsKept terms k → IsKept terms (kept_after terms.journal k seat now conn c)
+pub kept_call : (terms : Terms) (k : HallBookState) (seat now conn : ℕ) (c : Command) → 0 < terms.journal → seat < terms.seats
+    → IsHallBook terms k → IsHallBook terms (hall_book_after terms.journal k seat now conn c)
 kept_call terms k seat now conn c some lt h =
     call_by terms k seat now conn c some lt h (leb terms.journal (length k.book.entries)) refl
 
-pub kept_maintain : (terms : Terms) (k : KeptState) (now : ℕ) → IsKept terms k
-    → IsKept terms (record { user = k.user; book = after_maintain k.book now; log = k.log })
+pub kept_maintain : (terms : Terms) (k : HallBookState) (now : ℕ) → IsHallBook terms k
+    → IsHallBook terms (record { user = k.user; book = after_maintain k.book now; log = k.log })
 kept_maintain terms k now h = record {
   begins = h.begins;
   begins_at = h.begins_at;
@@ -167,7 +167,7 @@ entries_by s (n ∷ log) = both (n.entry.seat == s) refl (entries_by s log)
     both true is h = simp is (ap suc h)
     both false is h = simp is h
 
-pub kept_count : (terms : Terms) (k : KeptState) (s : ℕ) → s < terms.seats → IsKept terms k
+pub kept_count : (terms : Terms) (k : HallBookState) (s : ℕ) → s < terms.seats → IsHallBook terms k
     → slice_index k.book.counts s ≡ length (by_seat s k.log)
 kept_count terms k s lt h =
     let w = h.whole in
@@ -177,8 +177,8 @@ kept_count terms k s lt h =
     ∙ ap (λ n. n + length (of_seat s (entries_in k.log))) (index-replicate terms.seats s) ∙ omega arith ∙ entries_by s k.log
 
 -- a call's tally is the seat's count
-pub tally_is : (terms : Terms) (k : KeptState) (s now conn : ℕ) (c : Command) (p : ℕ) (ys : List Note) → s < terms.seats
-    → IsKept terms k
+pub tally_is : (terms : Terms) (k : HallBookState) (s now conn : ℕ) (c : Command) (p : ℕ) (ys : List Note) → s < terms.seats
+    → IsHallBook terms k
     → let n = note k.user p (entry_of k.book s now conn c) in
     by_seat s (k.log ++ n ∷ []) ≡ of_user k.user (ys ++ n ∷ [])
     → (entry_of k.book s now conn c).tally ≡ length (of_user k.user (ys ++ n ∷ []))

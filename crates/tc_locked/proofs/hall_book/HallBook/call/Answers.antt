@@ -3,13 +3,13 @@ use Rattle.tc_locked.specs.declared.call_entry.Slip.{Slip}
 use Rattle.tc_locked.specs.declared.view.Note.{Note}
 use Rattle.tc_locked.specs.Books.{entry_of, paged}
 use Rattle.tc_locked.specs.Views.{note, book_view, seat_view, of_user}
-use Rattle.tc_locked.specs.KeptBooks.{KeptState, SeatState, IsKept, log_of, notes_of, kept_after, seat_after}
-use Rattle.tc_locked.proofs.KeptBooks.{kept_call, tally_is}
-use Rattle.tc_locked.proofs.kept.Kept.call.Given.{Over}
-use Rattle.tc_locked.proofs.kept.Kept.call.Goals as goal
+use Rattle.tc_locked.specs.HallBooks.{HallBookState, SeatState, IsHallBook, log_of, notes_of, hall_book_after, seat_after}
+use Rattle.tc_locked.proofs.HallBooks.{kept_call, tally_is}
+use Rattle.tc_locked.proofs.hall_book.HallBook.call.Given.{Over}
+use Rattle.tc_locked.proofs.hall_book.HallBook.call.Goals as goal
 
 -- what lay under the lock, and what the seat showed
-abbrev kept_before : (g : Over) (c : goal.After-drop-self-inside g) → KeptState
+abbrev kept_before : (g : Over) (c : goal.After-drop-self-inside g) → HallBookState
 kept_before g c = record { user = c.self.inside.user; book = c.self.inside.book; log = log_of c.self.inside.badge.views }
 
 abbrev seat_before : (g : Over) (c : goal.After-drop-self-inside g) → SeatState
@@ -26,7 +26,7 @@ note_is : (g : Over) (c : goal.After-drop-self-inside g)
 note_is g c = λ i. note c.self.inside.user (c.in_ok-called.ensures.slip i).page (c.in_ok-called.ensures.entry i)
 
 kept_is : (g : Over) (c : goal.After-drop-self-inside g)
-    → kept_after c.args.journal (kept_before g c) c.seat.inside.number c.args.now c.args.conn c.args.command.now
+    → hall_book_after c.args.journal (kept_before g c) c.seat.inside.number c.args.now c.args.conn c.args.command.now
     ≡ record { user = c.self.inside.user; book = c.call_paged.new.self; log = log_of c.note_both.result.views }
 kept_is g c =
     let log : log_of c.note_both.result.views ≡ log_of c.self.inside.badge.views ++ noted g c ∷ [] =
@@ -51,10 +51,10 @@ invariant_of-self-2 g c =
     let b = c.note_both.ensures.badge in (
       b.0 ∙ c.requires.table.0,
       b.1 ∙ ap (λ (l : List Note). book_view c.self.inside.user l ∷ []) (sym (ap log_of b.1)),
-      subst (IsKept g.N.Naming.terms) (kept_is g c)
+      subst (IsHallBook g.N.Naming.terms) (kept_is g c)
           (subst
-          (λ (n : ℕ). IsKept g.N.Naming.terms
-          (kept_after n (kept_before g c) c.seat.inside.number c.args.now c.args.conn c.args.command.now))
+          (λ (n : ℕ). IsHallBook g.N.Naming.terms
+          (hall_book_after n (kept_before g c) c.seat.inside.number c.args.now c.args.conn c.args.command.now))
           (sym c.requires.journal.0)
           (kept_call g.N.Naming.terms (kept_before g c) c.seat.inside.number c.args.now c.args.conn c.args.command.now
           (subst (λ (n : ℕ). 0 < n) c.requires.journal.0 c.requires.journal.1) c.seat.invariant.1 c.self.invariant.2)),
@@ -63,7 +63,7 @@ invariant_of-self-2 g c =
 pub returns-clause-kept : goal.returns-clause-kept
 returns-clause-kept g c =
     sym (kept_is g c)
-    ∙ (λ i. kept_after c.args.journal (c.self.view_is i) (c.seat.view_is i).number c.args.now c.args.conn c.args.command.now)
+    ∙ (λ i. hall_book_after c.args.journal (c.self.view_is i) (c.seat.view_is i).number c.args.now c.args.conn c.args.command.now)
 
 pub returns-clause-seat : goal.returns-clause-seat
 returns-clause-seat g c =

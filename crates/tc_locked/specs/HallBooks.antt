@@ -36,7 +36,7 @@ pub record SeatState : Type 0 where
   pub notes : List Note
 
 -- a user's book, with the notes of all its pages
-pub record KeptState : Type 0 where
+pub record HallBookState : Type 0 where
   pub user : ℕ
   pub book : BookState
   pub log : List Note
@@ -70,7 +70,7 @@ ArePages user journal (suc page) notes =
     × ArePages user journal page before
 
 -- the book is legal over all pages, from the user's empty cache, and its page is the end of the list
-pub record IsKept (terms : Terms) (k : KeptState) : Type 0 where
+pub record IsHallBook (terms : Terms) (k : HallBookState) : Type 0 where
   pub begins : UserCache
   pub begins_at : user_at terms.begins k.user ≡ Some begins
   pub empty : IsEmptyCache begins
@@ -84,14 +84,14 @@ pub record IsKept (terms : Terms) (k : KeptState) : Type 0 where
   pub room : length k.book.entries ≤ terms.journal
 
 -- what lies under the lock after a call
-abbrev pub kept_after : ℕ → KeptState → ℕ → ℕ → ℕ → Command → KeptState
-kept_after journal k seat now conn command =
+abbrev pub hall_book_after : ℕ → HallBookState → ℕ → ℕ → ℕ → Command → HallBookState
+hall_book_after journal k seat now conn command =
     let e = entry_of k.book seat now conn command in
     let b = paged journal k.book in
     record { user = k.user; book = after_call b e; log = k.log ++ note k.user b.turns e ∷ [] }
 
 -- the caller's seat after it
-abbrev pub seat_after : ℕ → KeptState → SeatState → ℕ → ℕ → Command → SeatState
+abbrev pub seat_after : ℕ → HallBookState → SeatState → ℕ → ℕ → Command → SeatState
 seat_after journal k s now conn command =
     record {
       number = s.number;

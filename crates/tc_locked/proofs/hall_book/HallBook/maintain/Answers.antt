@@ -1,5 +1,5 @@
-use Rattle.tc_locked.proofs.KeptBooks.{kept_maintain}
-use Rattle.tc_locked.proofs.kept.Kept.maintain.Goals as goal
+use Rattle.tc_locked.proofs.HallBooks.{kept_maintain}
+use Rattle.tc_locked.proofs.hall_book.HallBook.maintain.Goals as goal
 
 pub invariant_of-self : goal.invariant_of-self
 invariant_of-self g c =

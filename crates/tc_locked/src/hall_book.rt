@@ -3,7 +3,7 @@ ghost use Rattle.std.specs.Prelude.{◌≡◌, ◌<◌, ◌≤◌, IfOk, OnOk, I
 ghost use Rattle.tc_plain.specs.Keeping.{kept_by};
 ghost use Rattle.tc_locked.specs.Views.{table_words, of_user};
 ghost use Rattle.tc_locked.specs.Books.{entry_of, slip_of, paged, after_maintain, IsBookFault};
-ghost use Rattle.tc_locked.specs.KeptBooks.{kept_after, seat_after};
+ghost use Rattle.tc_locked.specs.HallBooks.{hall_book_after, seat_after};
 
 use crate::book::Book;
 use crate::call_fault::CallFault;
@@ -24,28 +24,28 @@ use tc_users::UserNo;
 
 /// A book of the hall N, seen as its user, its state and the notes of all its pages.
 #[derive(Drop)]
-pub struct Kept<C: Cache, N: Naming> {
+pub struct HallBook<C: Cache, N: Naming> {
     pub(crate) user: UserNo,
     pub(crate) book: Book<C>,
     pub(crate) badge: Badge<View>,
     pub(crate) of: PhantomData<N>,
 }
 
-impl<C: Cache, N: Naming> Model for Kept<C, N> {
+impl<C: Cache, N: Naming> Model for HallBook<C, N> {
     ghost use Rattle.std.specs.Prelude.{◌≡◌, ◌∷◌, []};
     ghost use Rattle.tc_locked.specs.Views.{book_view};
-    ghost use Rattle.tc_locked.specs.KeptBooks.{KeptState, log_of, IsKept};
+    ghost use Rattle.tc_locked.specs.HallBooks.{HallBookState, log_of, IsHallBook};
 
-    ghost Value = { KeptState };
+    ghost Value = { HallBookState };
 
     ghost view = { λ k. record { user = k.user; book = k.book; log = log_of k.badge.views } };
 
     ghost invariant = { λ k. (k.badge.table_id ≡ N.table)
         × (k.badge.views ≡ book_view k.user (log_of k.badge.views) ∷ [])
-        × IsKept N.terms (record { user = k.user; book = k.book; log = log_of k.badge.views }) };
+        × IsHallBook N.terms (record { user = k.user; book = k.book; log = log_of k.badge.views }) };
 }
 
-impl<C: Cache, N: Naming> Kept<C, N> {
+impl<C: Cache, N: Naming> HallBook<C, N> {
     /// One call of a seat: the book's paged call, and the notes of both seats. It waits for nobody, and
     /// a refusal changes nothing.
     pub fn call(
@@ -66,7 +66,7 @@ impl<C: Cache, N: Naming> Kept<C, N> {
         ensures slip { IfOk result (λ called. called.slip ≡ slip_of (paged journal self.old.book)
             (entry_of self.old.book seat.old.number now conn command.now)) }
         ensures kept { OnOk result (self.new
-            ≡ kept_after journal self.old seat.old.number now conn command.now) }
+            ≡ hall_book_after journal self.old seat.old.number now conn command.now) }
         ensures seat { OnOk result (seat.new
             ≡ seat_after journal self.old seat.old now conn command.now) }
         ensures tally { IfOk result (λ called. called.slip.tally
