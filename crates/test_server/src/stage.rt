@@ -136,6 +136,41 @@ fn begin<C: Kind>(
     })
 }
 
+/// A scene in a hall that stays open.
+fn perform_within<
+    C: Cache + Send + Sync,
+    N: Naming + Send + Sync,
+    R: Threads + Wait + Abort + Time + Copy + Send + Sync + Drop,
+>(
+    rt: &R,
+    alloc: Global,
+    hall: &Hall<C, N>,
+    users: &Users,
+    seats: &mut Vec<Seat<N>>,
+    scene: &Scene,
+) -> Result<(), Fail> {
+    match scene {
+        Scene::ReadsBack => scenes::read_back(rt, alloc, hall, first(rt, seats)),
+        Scene::CallsLate => scenes::call_late(rt, alloc, hall, first(rt, seats)),
+        Scene::CallsNobody => scenes::call_nobody(rt, alloc, hall, first(rt, seats)),
+        Scene::Talks(one, other) => talks::talk(rt, alloc, hall, users, seats, one, other),
+        Scene::Rests => talks::rest(rt, alloc, hall, users, seats),
+        Scene::Beside(one, other) => {
+            talks::talk_beside(rt, alloc, hall, users, seats, one, other)
+        }
+        Scene::Floods => pressure::serve_flood(rt, alloc, hall, users, seats),
+        Scene::HoldsBack => backlogs::hold(rt, alloc, hall, users, seats),
+        Scene::Deals(guests) => deals::deal(rt, alloc, hall, users, seats, *guests),
+        Scene::FallsDue => dues::fall_due(rt, alloc, hall, users, seats),
+        Scene::Guesses => guesses::guess(rt, alloc, hall, users, seats),
+        Scene::Comes => moves::come(rt, alloc, hall, users, seats),
+        Scene::Sips => sips::serve_sips(rt, alloc, hall, users, seats),
+        Scene::Tapes => tapes::serve_tape(rt, alloc, hall, users, seats),
+        Scene::Holds(hold) => crews::hold_alice(rt, alloc, hall, users, seats, *hold),
+        _ => Err("the hall is to be closed")?,
+    }
+}
+
 /// A scene in a hall of `all` seats.
 fn perform<
     C: Cache + Send + Sync,
@@ -153,30 +188,14 @@ fn perform<
     requires { all ≡ N.terms.seats }
 {
     match scene {
-        Scene::ReadsBack => scenes::read_back(rt, alloc, &hall, first(rt, &mut seats)),
-        Scene::CallsLate => scenes::call_late(rt, alloc, &hall, first(rt, &mut seats)),
-        Scene::CallsNobody => scenes::call_nobody(rt, alloc, &hall, first(rt, &mut seats)),
         Scene::ClosesTwice => scenes::close_twice(rt, alloc, hall, seats, all),
         Scene::FillsPage => refusals::call_on_a_full_page(rt, alloc, hall, seats, all),
         Scene::TurnsPages => pages::turn_two_pages(rt, alloc, hall, seats, all),
         Scene::KeepsNothing => pages::keep_nothing(rt, alloc, hall, seats, all),
         Scene::ChangesAll => busy::change_all(rt, alloc, hall, seats),
         Scene::EightThreads => crowd::eight_threads(rt, alloc, hall, seats),
-        Scene::Talks(one, other) => talks::talk(rt, alloc, &hall, users, &mut seats, one, other),
-        Scene::Rests => talks::rest(rt, alloc, &hall, users, &mut seats),
-        Scene::Beside(one, other) => talks::talk_beside(
-            rt, alloc, &hall, users, &mut seats, one, other,
-        ),
-        Scene::Floods => pressure::serve_flood(rt, alloc, &hall, users, &mut seats),
-        Scene::HoldsBack => backlogs::hold(rt, alloc, &hall, users, &mut seats),
-        Scene::Deals(guests) => deals::deal(rt, alloc, &hall, users, &mut seats, *guests),
-        Scene::FallsDue => dues::fall_due(rt, alloc, &hall, users, &mut seats),
-        Scene::Guesses => guesses::guess(rt, alloc, &hall, users, &mut seats),
-        Scene::Comes => moves::come(rt, alloc, &hall, users, &mut seats),
-        Scene::Sips => sips::serve_sips(rt, alloc, &hall, users, &mut seats),
-        Scene::Tapes => tapes::serve_tape(rt, alloc, &hall, users, &mut seats),
-        Scene::Holds(hold) => crews::hold_alice(rt, alloc, &hall, users, &mut seats, *hold),
         Scene::Counts => crews::count(rt, alloc, hall, users, seats, all),
+        _ => perform_within(rt, alloc, &hall, users, &mut seats, scene),
     }
 }
 
