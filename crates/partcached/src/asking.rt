@@ -176,7 +176,7 @@ fn check_command<'a>(alloc: Global) -> Result<Command<'a>, AllocError> {
 /// What the command line may be.
 fn command<'a>(alloc: Global) -> Result<Command<'a>, AllocError> {
     let program = Command::new(alloc, "partcached")
-        .version("1.13.1")
+        .version("1.14.0")
         .about("A memcached server in which each user has a partition of its own")
         .subcommand_required(true);
     let program = program.subcommand(run_command(alloc)?)?;

@@ -1,60 +1,116 @@
 //! Where keys were found last, by their hashes.
 //!
+//! Terms: a hint is the slot in which a key was found, below a tag, which is eight bits of the key's hash. Four
+//! hints are a set, and lie side by side in memory. Each hash has one set.
+//!
 //! A hint may be wrong, or lacking: who follows it looks at the key of what the slot holds, and asks
 //! the index where that is another. So nothing is promised of hints. A right one spares the index,
-//! which is two or three places in memory and a keyed hash of all the key's bytes.
+//! which is two or three places in memory, each known by the one before, and a keyed hash of all the key's bytes.
 use std::alloc::Global;
 use tc_item::Slot;
 
-/// Places for each slot that room is made for. With more places fewer keys share one.
-const PLACES_A_SLOT: usize = 2;
+/// Hints in a set.
+const WAYS: usize = 4;
 
-/// A slot for each of 2^n places, one of which each hash has; or no place, while there is no room.
+/// A set has room for twice as many hints as there are slots for it. With more room fewer hints are lost.
+const SLOTS_A_SET: usize = WAYS / 2;
+
+/// Hints name the slots below this. What is above it in a hint is the tag.
+const SLOTS: u32 = 1 << 24;
+
+/// The hint that stands where none was noted.
+const BLANK: u32 = 0;
+
+/// 2^n sets; or none, while there is no room.
 #[derive(Drop)]
 pub struct Hints {
-    slots: Vec<u32>,
+    sets: Vec<[u32; WAYS]>,
+    /// How many hints took the place of another key's. They take places in turns over all sets, so as good as at
+    /// random in each: in turns of its own, more keys than places that are asked for in turns would all miss.
+    replaced: usize,
+}
+
+/// The tag of a hash: its highest bits, where a hint has them.
+fn tag(hash: u64) -> u32 {
+    (hash >> 32) as u32 & !(SLOTS - 1)
+}
+
+/// The least slot that a set has under a tag. Where it has none, that is no slot below `SLOTS`. There is
+/// nothing to be guessed here by a processor, since a wrong guess costs more than all four.
+fn slot_under(set: &[u32; WAYS], tag: u32) -> u32 {
+    let [first, second, third, fourth] = *set;
+    let least = (first ^ tag).min(second ^ tag);
+    least.min((third ^ tag).min(fourth ^ tag))
+}
+
+/// The place in a set of a hint with the tag of this one, or that is blank.
+fn place_for(set: &[u32; WAYS], hint: u32) -> Option<usize> {
+    for (place, other) in set.iter().enumerate() {
+        if *other == BLANK || (*other ^ hint) < SLOTS {
+            return Some(place);
+        }
+    }
+    None
+}
+
+/// Puts a hint into a place. One that stands there stays unwritten: other processors may have a copy of its line.
+fn put(set: &mut [u32; WAYS], place: usize, hint: u32) {
+    if let Some(there) = set.get_mut(place)
+        && *there != hint
+    {
+        *there = hint;
+    }
 }
 
 impl Hints {
     /// No hints.
     pub fn new(alloc: Global) -> Hints {
         Hints {
-            slots: Vec::new(alloc),
+            sets: Vec::new(alloc),
+            replaced: 0,
         }
     }
 
-    /// The place of a hash. The upper half of a hash is as good as the lower, so both count.
+    /// The place of a hash's set. The upper half of a hash is as good as the lower, so both count.
     fn place(&self, hash: u64) -> usize {
-        (hash ^ (hash >> 32)) as usize & self.slots.len().wrapping_sub(1)
+        (hash ^ (hash >> 32)) as usize & self.sets.len().wrapping_sub(1)
     }
 
-    /// Where a key of this hash was found last, if no other key has its place since; slot 0 where none
-    /// was noted, and `None` while there is no place.
-    pub fn slot(&self, hash: u64) -> Option<Slot> {
-        let slot = self.slots.get(self.place(hash))?;
-        Some(Slot(*slot as usize))
-    }
-
-    /// Notes where a key of this hash is. A hint that says so stays unwritten: other processors may have a
-    /// copy of its line.
-    pub fn note(&mut self, hash: u64, slot: Slot) {
-        let place = self.place(hash);
-        if let (Some(hint), Ok(slot)) = (self.slots.get_mut(place), u32::try_from(slot.0))
-            && *hint != slot
-        {
-            *hint = slot;
+    /// Where a key of this hash was found last. Where no hint says it is any slot, or one that there isn't.
+    pub fn slot(&self, hash: u64) -> Slot {
+        match self.sets.get(self.place(hash)) {
+            Some(set) => Slot(slot_under(set, tag(hash)) as usize),
+            None => Slot(0),
         }
     }
 
-    /// Makes places for so many slots. About half of what was noted is lost where there are to be twice
-    /// as many; where memory is refused, all stays as it was.
+    /// Notes where a key of this hash is, if its slot is one that a hint can name.
+    pub fn note(&mut self, hash: u64, slot: Slot) {
+        let at = self.place(hash);
+        if let (Some(set), Ok(slot)) = (self.sets.get_mut(at), u32::try_from(slot.0))
+            && slot < SLOTS
+        {
+            let hint = tag(hash) | slot;
+            let place = match place_for(set, hint) {
+                Some(place) => place,
+                None => {
+                    self.replaced = self.replaced.wrapping_add(1);
+                    self.replaced % WAYS
+                }
+            };
+            put(set, place, hint);
+        }
+    }
+
+    /// Makes room for so many slots. About half of what was noted is lost where there is to be twice
+    /// as much; where memory is refused, all stays as it was.
     pub fn fit(&mut self, slots: usize) {
-        let wanted = slots.saturating_mul(PLACES_A_SLOT);
-        if wanted <= self.slots.len() {
+        let wanted = slots.div_ceil(SLOTS_A_SET);
+        if wanted <= self.sets.len() {
             return;
         }
-        if let Some(places) = wanted.checked_next_power_of_two() {
-            let _ = self.slots.resize(places, 0);
+        if let Some(sets) = wanted.checked_next_power_of_two() {
+            let _ = self.sets.resize(sets, [BLANK; WAYS]);
         }
     }
 }

@@ -32,6 +32,9 @@ use tc_slots::{Aside, Slots, Tables, have_read, set_aside, shed, turn};
 use tc_slru::Area;
 use tc_stats::Counters;
 
+/// So many keys at most are read ahead together.
+const TOGETHER: usize = 64;
+
 /// What look-ups touch: the entries, how often each key was seen, and when the entries go.
 #[derive(Drop)]
 pub struct LiveSlots {
@@ -99,57 +102,42 @@ impl LiveSlots {
         Ok(())
     }
 
-    /// Reads what look-ups of keys of these hashes are going to read, and does nothing with it. To know where an
-    /// entry lies is to have read its hint, and where data lies its entry, so all hints are read first, then all
-    /// entries.
+    /// Reads what look-ups of keys of these hashes are going to read, and does nothing with it.
     pub(crate) fn read_ahead(&self, hashes: &[u64]) {
+        for some in hashes.chunks(TOGETHER) {
+            self.read_together(some);
+        }
+    }
+
+    /// The same of a few. To know where an entry lies is to have read its hint, and where data lies its entry, so all
+    /// hints are read first, then all entries with their nodes in the lists, which deferred work will ask for.
+    /// The less is done between two reads the more wait at once, so slots are kept.
+    fn read_together(&self, hashes: &[u64]) {
+        let mut slots = [Slot(0); TOGETHER];
+        for (slot, hash) in slots.iter_mut().zip(hashes) {
+            *slot = self.hints.slot(*hash);
+        }
         let mut sum: u64 = 0;
-        for hash in hashes {
-            sum = sum.wrapping_add(self.read_hint(*hash));
+        for (slot, _) in slots.iter().zip(hashes) {
+            sum = sum.wrapping_add(self.held.read_node(*slot));
+            sum = sum.wrapping_add(self.held.read_entry(*slot));
         }
-        for hash in hashes {
-            sum = sum.wrapping_add(self.read_entry(*hash));
-        }
-        for hash in hashes {
-            sum = sum.wrapping_add(self.read_hinted(*hash));
+        for (slot, _) in slots.iter().zip(hashes) {
+            sum = sum.wrapping_add(self.held.read_data(*slot));
         }
         have_read(sum);
     }
 
-    /// Reads where a key of this hash may be. What that comes to says nothing; so in the two below.
-    fn read_hint(&self, hash: u64) -> u64 {
-        match self.hints.slot(hash) {
-            Some(slot) => slot.0 as u64,
-            None => 0,
-        }
-    }
-
-    /// Reads the entry of a key of this hash, where its hint is right.
-    fn read_entry(&self, hash: u64) -> u64 {
-        match self.hints.slot(hash) {
-            Some(slot) => self.held.read_entry(slot),
-            None => 0,
-        }
-    }
-
-    /// Reads the item of a key of this hash, where its hint is right.
-    fn read_hinted(&self, hash: u64) -> u64 {
-        match self.hints.slot(hash) {
-            Some(slot) => self.held.read(slot),
-            None => 0,
-        }
-    }
-
-    /// Where what a key will hold at the moment is, which may be this place: where it is there, the index
+    /// Where what a key will hold at the moment is, which may be this slot: where it is there, the index
     /// is not asked.
-    pub(crate) fn seek_from(&self, place: Option<Slot>, key: &Key, moment: Moment) -> Option<Slot>
+    pub(crate) fn seek_from(&self, slot: Slot, key: &Key, moment: Moment) -> Option<Slot>
         requires { AreSound self.now.held.limits self.now.held.areas }
         ensures { SeeksSlot result moment key.now self.now }
     {
         if is_flush_due(self.flush, moment) {
             return None;
         }
-        let slot = self.held.find_from(place, key)?;
+        let slot = self.held.find_from(slot, key)?;
         match self.held.entry(slot) {
             Some(entry) => {
                 if alive(&entry.item, moment) {
@@ -169,7 +157,7 @@ impl LiveSlots {
         ensures { SeeksSlot result moment key.now self.now }
     {
         let slot = place?;
-        self.seek_from(Some(slot), key, moment)
+        self.seek_from(slot, key, moment)
     }
 
     /// What is held at the place that was found for a key.

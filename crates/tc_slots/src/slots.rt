@@ -229,14 +229,14 @@ impl Slots {
         is_of(&self.entries, slot, key)
     }
 
-    /// The slot of what a key holds; the index is asked only where that isn't this place.
-    pub fn find_from(&self, place: Option<Slot>, key: &Key) -> Option<Slot>
+    /// The slot of what a key holds; the index is asked only where that isn't this one.
+    pub fn find_from(&self, slot: Slot, key: &Key) -> Option<Slot>
         ensures { FindsSlot result key.now self.now }
     {
-        match place {
-            Some(slot) if self.is_of(slot, key) => Some(slot),
-            Some(_) | None => self.find(key),
+        if self.is_of(slot, key) {
+            return Some(slot);
         }
+        self.find(key)
     }
 
     /// The slot of what a key holds, which was found at this place or holds nothing; the index is
@@ -247,7 +247,7 @@ impl Slots {
     {
         let _ = &self.index;
         match place {
-            Some(slot) => self.find_from(Some(slot), key),
+            Some(slot) => self.find_from(slot, key),
             None => None,
         }
     }
@@ -259,28 +259,32 @@ impl Slots {
         self.entries.get(slot.0)
     }
 
-    /// Reads the entry of a slot alone. What that comes to says nothing.
+    /// Reads the entry of a slot, which lies on two lines of memory: whether there is one on the first, and its
+    /// cas number on the second. What that comes to says nothing; so in the three below.
     pub fn read_entry(&self, slot: Slot) -> u64 {
         match self.entries.get(slot.0) {
-            Some(entry) => u64::from(entry.item.flags),
+            Some(entry) => entry.item.cas,
             None => 0,
         }
     }
 
-    /// Reads what a look-up of what a slot holds waits for: the entry, both ends of its data, and its
-    /// node in the lists. What that comes to says nothing.
-    pub fn read(&self, slot: Slot) -> u64 {
-        let node = u64::from(self.lists.holds(slot));
+    /// Reads the front of the data of what a slot holds, beside which its holders are counted.
+    pub fn read_data(&self, slot: Slot) -> u64 {
         let Some(entry) = self.entries.get(slot.0) else {
-            return node;
+            return 0;
         };
         match entry.item.blob.as_slice() {
-            [first, .., last] => node + u64::from(*first) + u64::from(*last),
-            _ => node,
+            [first, ..] => u64::from(*first),
+            [] => 0,
         }
     }
 
-    /// Reads what an access of what a slot holds changes of the lists. What that comes to says nothing.
+    /// Reads a slot's node in the lists.
+    pub fn read_node(&self, slot: Slot) -> u64 {
+        u64::from(self.lists.holds(slot))
+    }
+
+    /// Reads what an access of what a slot holds changes of the lists beside its node: the nodes next to it.
     pub fn read_links(&self, slot: Slot) -> u64
         requires { IsSome (slice_index_or self.now.slots slot.0 None) }
     {
