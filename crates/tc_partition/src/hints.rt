@@ -25,8 +25,9 @@ const BLANK: u32 = 0;
 #[derive(Drop)]
 pub struct Hints {
     sets: Vec<[u32; WAYS]>,
-    /// How many hints took the place of another key's. They take places in turns over all sets, so as good as at
-    /// random in each: in turns of its own, more keys than places that are asked for in turns would all miss.
+    /// How many hints took the place of another key's. By this number the next one chooses its place, whichever its
+    /// set, so the choice is as good as at random. If each set went through its own places, five of its keys that
+    /// are asked for one after another, again and again, would never be found by a hint.
     replaced: usize,
 }
 

@@ -128,6 +128,25 @@ fn a_head_that_never_ends_is_refused(rt: HostRuntime) -> Result<(), Fail> {
     Ok(())
 }
 
+/// A request of so many header lines.
+fn with_headers(alloc: Global, count: usize) -> Result<Vec<u8>, NoMemory> {
+    let mut came = Vec::from_slice(alloc, b"GET /metrics HTTP/1.1\r\n")?;
+    for _ in 0..count {
+        came.extend_from_slice(b"A: b\r\n")?;
+    }
+    came.extend_from_slice(b"\r\n")?;
+    Ok(came)
+}
+
+#[test]
+fn a_head_of_more_than_64_lines_is_refused(rt: HostRuntime) -> Result<(), Fail> {
+    let most = with_headers(rt.alloc(), 64)?;
+    expect_answer(&rt, &most, Some(Answer::Told));
+    let more = with_headers(rt.alloc(), 65)?;
+    expect_answer(&rt, &more, Some(Answer::TooLong));
+    Ok(())
+}
+
 #[test]
 fn a_reply_says_how_long_its_text_is(rt: HostRuntime) -> Result<(), Fail> {
     let mut out = Vec::new(rt.alloc());

@@ -3,6 +3,7 @@ ghost use Rattle.std.specs.Prelude.{None};
 
 use super::deals::{ALICE, BOB};
 use super::talks::worker_of;
+use super::words::Words;
 use crate::hall::commands::set_of;
 use crate::stage::{Scene, call, first, play_fast};
 use std::alloc::Global;
@@ -63,31 +64,8 @@ struct Sight {
     /// How many writes were not the next expected bytes.
     odd: AtomicU64,
     /// By connections: what was sent, and what waited after the last write.
-    sent: Vec<AtomicU64>,
-    waits: Vec<AtomicU64>,
-}
-
-/// So many words.
-fn words(alloc: Global, count: usize) -> Result<Vec<AtomicU64>, Fail> {
-    let mut words = Vec::with_capacity(alloc, count)?;
-    for _ in 0..count {
-        words.push(AtomicU64::new(0))?;
-    }
-    Ok(words)
-}
-
-/// A word, 0 where there is none.
-fn load(words: &[AtomicU64], at: usize) -> u64 {
-    match words.get(at) {
-        Some(word) => word.load(SeqCst),
-        None => 0,
-    }
-}
-
-fn store(words: &[AtomicU64], at: usize, value: usize) {
-    if let Some(word) = words.get(at) {
-        word.store(value as u64, SeqCst);
-    }
+    sent: Words,
+    waits: Words,
 }
 
 impl Sight {
@@ -95,29 +73,19 @@ impl Sight {
         Ok(Sight {
             is_open: AtomicU64::new(0),
             odd: AtomicU64::new(0),
-            sent: words(alloc, HERS + 1)?,
-            waits: words(alloc, HERS + 1)?,
+            sent: Words::new(alloc, HERS + 1)?,
+            waits: Words::new(alloc, HERS + 1)?,
         })
     }
 
     /// How much waits for alice.
     fn backlog(&self) -> u64 {
-        let mut sum = 0u64;
-        for at in 0..HERS {
-            sum = sum.saturating_add(load(&self.waits, at));
-        }
-        sum
+        self.waits.sum(HERS)
     }
 
     /// How many of alice's connections were sent all.
     fn served(&self) -> usize {
-        let mut count = 0usize;
-        for at in 0..HERS {
-            if load(&self.sent, at) == ALL {
-                count = count.saturating_add(1);
-            }
-        }
-        count
+        self.sent.count(HERS, ALL)
     }
 }
 
@@ -170,7 +138,7 @@ impl Asker {
             }
             self.taken = self.taken.saturating_add(1);
         }
-        store(&self.sight.sent, self.at, self.taken);
+        self.sight.sent.store(self.at, self.taken);
     }
 
     /// Whether it takes bytes.
@@ -199,13 +167,13 @@ impl Wire for Asker {
 
     fn write(&mut self, from: &Parts<'_>) -> Put {
         if !self.is_open() {
-            store(&self.sight.waits, self.at, from.len());
+            self.sight.waits.store(self.at, from.len());
             return Put::Later;
         }
         let (part, _) = from.split_first();
         self.hear(part);
         let left = from.len().saturating_sub(part.len());
-        store(&self.sight.waits, self.at, left);
+        self.sight.waits.store(self.at, left);
         Put::Wrote(part.len())
     }
 
@@ -281,10 +249,10 @@ fn turn_often<C: Cache, N: Naming, R: Wait + Abort>(
 ) {
     let clock = Clock::new();
     for _ in 0..turns {
-        let before = load(&sight.sent, HERS);
+        let before = sight.sent.load(HERS);
         worker.turn(rt, hall, users, &clock, &Open);
         assert!(rt; sight.backlog() <= BOUND);
-        assert!(rt; load(&sight.sent, HERS) > before);
+        assert!(rt; sight.sent.load(HERS) > before);
     }
 }
 

@@ -2,6 +2,7 @@
 ghost use Rattle.std.specs.Prelude.{None};
 
 use super::talks::worker_of;
+use super::words::Words;
 use crate::stage::{Scene, play};
 use std::alloc::Global;
 use std::process::Abort;
@@ -47,18 +48,14 @@ pub enum Guests {
 /// How many bytes each connection was sent; bob's is the last. And whether all wires fail.
 #[derive(Drop)]
 pub(super) struct Ledger {
-    sent: Vec<AtomicU64>,
+    sent: Words,
     over: AtomicU64,
 }
 
 impl Ledger {
     pub(super) fn new(alloc: Global) -> Result<Ledger, Fail> {
-        let mut sent = Vec::with_capacity(alloc, MANY + 1)?;
-        for _ in 0..MANY + 1 {
-            sent.push(AtomicU64::new(0))?;
-        }
         Ok(Ledger {
-            sent,
+            sent: Words::new(alloc, MANY + 1)?,
             over: AtomicU64::new(0),
         })
     }
@@ -72,28 +69,13 @@ impl Ledger {
         self.over.load(SeqCst) == 1
     }
 
-    fn add(&self, at: usize, bytes: usize) {
-        if let Some(word) = self.sent.get(at) {
-            word.fetch_add(bytes as u64, SeqCst);
-        }
-    }
-
     pub(super) fn sent(&self, at: usize) -> u64 {
-        match self.sent.get(at) {
-            Some(word) => word.load(SeqCst),
-            None => 0,
-        }
+        self.sent.load(at)
     }
 
     /// How many of alice's connections were sent as much as a login and ten flushes are.
     fn flushed(&self) -> usize {
-        let mut count = 0usize;
-        for at in 0..MANY {
-            if self.sent(at) == FLUSHED {
-                count = count.saturating_add(1);
-            }
-        }
-        count
+        self.sent.count(MANY, FLUSHED)
     }
 }
 
@@ -124,7 +106,7 @@ impl Wire for Asking {
     }
 
     fn write(&mut self, from: &Parts<'_>) -> Put {
-        self.ledger.add(self.at, from.len());
+        self.ledger.sent.add(self.at, from.len());
         Put::Wrote(from.len())
     }
 
