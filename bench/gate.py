@@ -1,11 +1,16 @@
 #!/usr/bin/env python3
-"""What the gate costs, by part and by crate. Run it at the top of a clean clone with nothing else
-running: it runs `rt ci` and then `scripts/served`, as `.ci/run` does, whose text goes to standard error.
-It looks at the checks twice a second, and prints processor seconds by crate, and the wall and processor
-time of both steps.
+"""What the gate costs, by part and by crate.
+
+usage: bench/gate.py [--anew] [--of FOLDER]
+
+Run it with nothing else running, in a clean clone, or name one by --of, of whichever version: it runs
+`rt ci` there and then `scripts/served`, if there is one, as `.ci/run` does, whose text goes to standard
+error. It looks at the checks twice a second, and prints processor seconds by crate, and the wall and
+processor time of both steps. What runs before have kept is not proved again, unless by --anew.
 
 A check has what it had used when it was last seen, so its last half second is in `other`, with
 what is no check: linking, and the programs and tests themselves."""
+import argparse
 import os
 import resource
 import subprocess
@@ -13,7 +18,6 @@ import sys
 import time
 from pathlib import Path
 
-ROOT = Path(__file__).resolve().parent.parent
 TICKS = os.sysconf("SC_CLK_TCK")
 PARTS = ("contracts", "tests", "edits")
 
@@ -53,10 +57,10 @@ def used():
     return children.ru_utime + children.ru_stime
 
 
-def step(*words):
+def step(folder, *words):
     """A step of the gate: its status, its checks' seconds, and its wall and processor time in seconds."""
     begun, before = time.time(), used()
-    run = subprocess.Popen(words, cwd=ROOT, stdout=sys.stderr)
+    run = subprocess.Popen(words, cwd=folder, stdout=sys.stderr)
     spent = watched(run)
     return run.returncode, spent, time.time() - begun, used() - before
 
@@ -66,18 +70,22 @@ def row(name, seconds):
 
 
 def main():
-    status, spent, wall, processor = step("rt", "ci")
+    words = argparse.ArgumentParser(description=__doc__, formatter_class=argparse.RawDescriptionHelpFormatter)
+    words.add_argument("--anew", action="store_true", help="prove all, whatever runs before have kept")
+    words.add_argument("--of", type=Path, metavar="FOLDER", default=Path(__file__).resolve().parent.parent, help="a clean clone")
+    asked = words.parse_args()
+    status, spent, wall, processor = step(asked.of, "rt", "ci", *(["--anew"] if asked.anew else []))
     print("| Crate | " + " | ".join(PARTS) + " |\n|---" + "|---" * len(PARTS) + "|")
     crates = sorted({crate for _, crate in spent})
     for crate in crates:
         row(f"`{crate}`", [spent.get((part, crate), 0) for part in PARTS])
     row("all", [sum(it for (part, _), it in spent.items() if part == wanted) for wanted in PARTS])
-    edits = len(list(ROOT.glob("crates/*/must-fail/*.edit")))
+    edits = len(list(asked.of.glob("crates/*/must-fail/*.edit")))
     other = processor - sum(spent.values())
     print(f"\n{len(crates)} crates, {edits} edits, other {other:,.0f} s; "
           f"`rt ci`: {wall / 60:.1f} minutes, {processor / 60:.1f} of a processor", end="")
-    if status == 0:
-        status, _, wall, processor = step("scripts/served")
+    if status == 0 and (asked.of / "scripts/served").exists():
+        status, _, wall, processor = step(asked.of, "scripts/served")
         print(f"; `scripts/served`: {wall / 60:.1f} minutes, {processor / 60:.1f} of a processor", end="")
     print()
     sys.exit(status)

@@ -2,7 +2,7 @@
 """What one user notices of another: how long the requests of a quiet user take alone, and beside a
 busy one with a million items.
 
-usage: bench/neighbours.py PROGRAM [--beside COMMAND] [--rounds N] [--seconds S]
+usage: bench/neighbours.py PROGRAM [--beside COMMAND] [--workers N] [--rounds N] [--seconds S]
 
 It starts `PROGRAM serve` on the settings of examples/partcached.toml, but for the port and two users,
 once as it is and once with --spread, and COMMAND, as bench/serve.py does. The quiet user has 8 connections, one request at a time, over 10,000
@@ -29,11 +29,11 @@ LOADS = {"quiet": "-c 8 -g 90 -v 100 -k 10000", "busy": "-c 25 -P 16 -g 90 -v 10
 MEASURES = {"p50": "p50_us", "p99": "p99_us", "p99.9": "p999_us", "longest": "max_us", "requests/s": "rps"}
 
 
-def start(command, folder):
+def start(command, folder, workers):
     """A server that runs, and its port."""
     port = free_port()
     config, authfile = Path(folder, f"{port}.toml"), Path(folder, f"{port}.auth")
-    config.write_text(settings(port, [f"{user} one" for user in USERS]))
+    config.write_text(settings(port, [f"{user} one" for user in USERS], workers=workers))
     authfile.write_text("".join(f"{user}:one\n" for user in USERS))
     words = [word.format(port=port, config=config, authfile=authfile) for word in shlex.split(command)]
     process = subprocess.Popen(words, stdout=subprocess.DEVNULL)
@@ -68,6 +68,7 @@ def main():
     words = argparse.ArgumentParser(description=__doc__, formatter_class=argparse.RawDescriptionHelpFormatter)
     words.add_argument("program", help="crates/partcached/out/partcached, as `rt run` leaves it")
     words.add_argument("--beside", help="another server's command, with {port} and {authfile}")
+    words.add_argument("--workers", type=int, help="default: the example's")
     words.add_argument("--rounds", type=int, default=3)
     words.add_argument("--seconds", type=float, default=2.5)
     asked = words.parse_args()
@@ -80,7 +81,7 @@ def main():
         subprocess.run(["cc", "-O2", "-pthread", "-o", load.program, str(BENCH / "load.c"), "-lm"], check=True)
         print("| Server | The busy user | " + " | ".join(MEASURES) + " | its requests/s |\n|---" + "|---" * 7 + "|")
         for name, command in commands.items():
-            servers = [start(command, folder) for _ in range(2)]
+            servers = [start(command, folder, asked.workers) for _ in range(2)]
             (_, port), (_, apart) = servers
             busy = {"waits": None, "asks on": port, "asks another server": apart}
             runs = {what: [] for what in busy}
