@@ -135,23 +135,31 @@ fn until_arg<'a>(alloc: Global) -> Arg<'a> {
         .help("End once N connections were closed")
 }
 
+/// The same command with one more argument, if there was memory for that.
+fn with_arg<'a>(
+    command: Command<'a>,
+    arg: Result<Arg<'a>, AllocError>,
+) -> Result<Command<'a>, AllocError> {
+    command.arg(arg?)
+}
+
 /// The same with what is asked of a demo.
 fn with_demo<'a>(alloc: Global, serve: Command<'a>) -> Result<Command<'a>, AllocError> {
     let help = "Serve two users of the program's own, on a loopback address, without a file";
     let serve = serve.arg(flag(alloc, "demo", help))?;
-    serve.arg(listen_arg(alloc)?)
+    with_arg(serve, listen_arg(alloc))
 }
 
 /// The same with what is asked of the server's end.
 fn with_end<'a>(alloc: Global, serve: Command<'a>) -> Result<Command<'a>, AllocError> {
     let serve = serve.arg(until_arg(alloc))?;
-    serve.arg(audit_arg(alloc)?)
+    with_arg(serve, audit_arg(alloc))
 }
 
 /// `serve` and its arguments.
 fn serve_command<'a>(alloc: Global) -> Result<Command<'a>, AllocError> {
     let serve = Command::new(alloc, "serve").about("Listen, and serve memcached's clients");
-    let serve = with_demo(alloc, serve.arg(settings_arg(alloc)?)?)?;
+    let serve = with_demo(alloc, with_arg(serve, settings_arg(alloc))?)?;
     let help = "Leave each connection to the worker that it came to";
     let serve = with_end(alloc, serve.arg(flag(alloc, "spread", help))?)?;
     let help = "Print no line for what becomes of a connection";
@@ -173,15 +181,27 @@ fn check_command<'a>(alloc: Global) -> Result<Command<'a>, AllocError> {
         .arg(config_arg(alloc).required(true))
 }
 
+/// The program's name, version and purpose.
+fn root_command<'a>(alloc: Global) -> Command<'a> {
+    Command::new(alloc, "partcached")
+        .version("1.14.1")
+        .about("A memcached server in which each user has a partition of its own")
+        .subcommand_required(true)
+}
+
+/// The same with one more subcommand, if there was memory for that.
+fn with_subcommand<'a>(
+    program: Command<'a>,
+    subcommand: Result<Command<'a>, AllocError>,
+) -> Result<Command<'a>, AllocError> {
+    program.subcommand(subcommand?)
+}
+
 /// What the command line may be.
 fn command<'a>(alloc: Global) -> Result<Command<'a>, AllocError> {
-    let program = Command::new(alloc, "partcached")
-        .version("1.14.0")
-        .about("A memcached server in which each user has a partition of its own")
-        .subcommand_required(true);
-    let program = program.subcommand(run_command(alloc)?)?;
-    let program = program.subcommand(check_command(alloc)?)?;
-    program.subcommand(serve_command(alloc)?)
+    let program = with_subcommand(root_command(alloc), run_command(alloc))?;
+    let program = with_subcommand(program, check_command(alloc))?;
+    with_subcommand(program, serve_command(alloc))
 }
 
 /// A copy of an argument's text.

@@ -148,6 +148,15 @@ pub(crate) const MISSES: [Row; 6] = [
     (0, "delete c", "", "DELETED"),
 ];
 
+/// A key's new item is gone as it comes. It would not have fitted beside the other's.
+pub(crate) const GONE_AT_ONCE: [Row; 5] = [
+    (5, "set a 0 0 30000", "", "STORED"),
+    (5, "set b 0 0 20000", "", "STORED"),
+    (5, "set a 0 -1 60000", "", "STORED"),
+    (5, "delete a", "", "NOT_FOUND"),
+    (5, "delete b", "", "DELETED"),
+];
+
 /// Main may weigh 64,881: data of 64,816 bytes, a key of one byte and 64.
 pub(crate) const HEAVIEST: [Row; 4] = [
     (0, "set k 0 0 64817", "", "TOO_LARGE"),
