@@ -33,7 +33,7 @@ use tc_slru::Area;
 use tc_stats::Counters;
 
 /// So many keys at most are read ahead together.
-const TOGETHER: usize = 64;
+pub(crate) const TOGETHER: usize = 64;
 
 /// What look-ups touch: the entries, how often each key was seen, and when the entries go.
 #[derive(Drop)]
@@ -104,20 +104,38 @@ impl LiveSlots {
 
     /// Reads what look-ups of keys of these hashes are going to read, and does nothing with it.
     pub(crate) fn read_ahead(&self, hashes: &[u64]) {
+        let mut slots = [Slot(0); TOGETHER];
         for some in hashes.chunks(TOGETHER) {
-            self.read_together(some);
+            self.read_together(some, &mut slots);
         }
     }
 
-    /// The same of a few. To know where an entry lies is to have read its hint, and where data lies its entry, so all
-    /// hints are read first, then all entries with their nodes in the lists, which deferred work will ask for.
-    /// The less is done between two reads the more wait at once, so slots are kept.
-    fn read_together(&self, hashes: &[u64]) {
-        let mut slots = [Slot(0); TOGETHER];
+    /// Where a hint says that the key at a place is, of keys of these hashes that are sought one after another.
+    /// At the first place, and so many places behind each time, the next keys are read ahead, and `slots` keeps
+    /// where their hints say that they are.
+    pub(crate) fn next_hint(&self, hashes: &[u64], at: usize, slots: &mut [Slot; TOGETHER]) -> Slot
+        requires { at < length hashes.now }
+    {
+        let place = at % TOGETHER;
+        if place == 0 {
+            self.read_together(&hashes[at..], slots);
+        }
+        slots[place]
+    }
+
+    /// Reads what look-ups of keys of these hashes are going to read, as many as `slots` has places, and puts down
+    /// where their hints say that they are. To know where an entry lies is to have read its hint, and where data
+    /// lies its entry, so all hints are read first, then all entries with their nodes in the lists, which deferred
+    /// work will ask for. The less is done between two reads the more wait at once, so hints are read before they
+    /// are looked into, and slots are kept.
+    fn read_together(&self, hashes: &[u64], slots: &mut [Slot; TOGETHER]) {
+        let mut sum: u64 = 0;
+        for (_, hash) in slots.iter().zip(hashes) {
+            sum = sum.wrapping_add(self.hints.read(*hash));
+        }
         for (slot, hash) in slots.iter_mut().zip(hashes) {
             *slot = self.hints.slot(*hash);
         }
-        let mut sum: u64 = 0;
         for (slot, _) in slots.iter().zip(hashes) {
             sum = sum.wrapping_add(self.held.read_node(*slot));
             sum = sum.wrapping_add(self.held.read_entry(*slot));
@@ -230,7 +248,7 @@ impl LiveSlots {
     {
         self.held.owning();
         self.sketch.record(key_hash);
-        self.hints.note(key_hash, slot);
+        self.hints.note_again(key_hash, slot);
         self.held.access_at(slot);
     }
 

@@ -6,8 +6,8 @@ use Rattle.tc_partition.specs.Seeking.{SeekSlots}
 use Rattle.tc_partition.proofs.OneLook.{found_push, hashed_long}
 use Rattle.tc_partition.proofs.looking.seek_all.Goals as goal
 
-pub bounds-hashes-i : goal.bounds-hashes-i
-bounds-hashes-i c =
+pub next_hint-hint-requires : goal.next_hint-hint-requires
+next_hint-hint-requires c =
     omega (arith, hashed_long c.args.keys.now c.args.hashes.now c.requires.hashed, c.loop-i-test.true)
 
 pub push_reserved-requires : goal.push_reserved-requires
