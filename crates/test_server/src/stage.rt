@@ -27,23 +27,18 @@ use tc_users::{Text, UserNo, UserSpec, Users};
 /// What is played in a hall.
 #[derive(Clone, Copy)]
 pub enum Scene {
+    Within(Within),
+    Closing(Closing),
+}
+
+/// What is played in a hall that stays open.
+#[derive(Clone, Copy)]
+pub enum Within {
     /// A seat reads back what it set.
     ReadsBack,
     /// Calls at moments that have passed in a user's book.
     CallsLate,
     CallsNobody,
-    /// The hall is closed without its last seat, and then with it.
-    ClosesTwice,
-    /// One call more than a page holds.
-    FillsPage,
-    /// A set and 39 gets.
-    TurnsPages,
-    /// The same in a hall whose journal is off.
-    KeepsNothing,
-    /// A page on which items are touched, evicted, expired and flushed.
-    ChangesAll,
-    /// A hundred calls by each of eight threads, beside a keeper.
-    EightThreads,
     /// Two connections of one worker, one after the other.
     Talks(Plan, Plan),
     /// One turn of a connection that has nothing more to say.
@@ -68,6 +63,23 @@ pub enum Scene {
     Comes,
     /// Bob is served while alice's worker is held.
     Holds(Hold),
+}
+
+/// What is played in a hall that is closed behind it.
+#[derive(Clone, Copy)]
+pub enum Closing {
+    /// The hall is closed without its last seat, and then with it.
+    ClosesTwice,
+    /// One call more than a page holds.
+    FillsPage,
+    /// A set and 39 gets.
+    TurnsPages,
+    /// The same in a hall whose journal is off.
+    KeepsNothing,
+    /// A page on which items are touched, evicted, expired and flushed.
+    ChangesAll,
+    /// A hundred calls by each of eight threads, beside a keeper.
+    EightThreads,
     /// A hundred calls by each of eight workers.
     Counts,
 }
@@ -84,7 +96,7 @@ pub struct Beginning<C: Cache> {
 /// The budget of each user in a scene.
 fn budget_of(scene: &Scene) -> u64 {
     match scene {
-        Scene::FallsDue => 1_048_576,
+        Scene::Within(Within::FallsDue) => 1_048_576,
         _ => 65_536,
     }
 }
@@ -92,7 +104,7 @@ fn budget_of(scene: &Scene) -> u64 {
 /// Whether pages are kept in a scene.
 fn journal_of(scene: &Scene) -> Journal {
     match scene {
-        Scene::KeepsNothing => Journal::Off,
+        Scene::Closing(Closing::KeepsNothing) => Journal::Off,
         _ => Journal::On,
     }
 }
@@ -147,27 +159,26 @@ fn perform_within<
     hall: &Hall<C, N>,
     users: &Users,
     seats: &mut Vec<Seat<N>>,
-    scene: &Scene,
+    scene: &Within,
 ) -> Result<(), Fail> {
     match scene {
-        Scene::ReadsBack => scenes::read_back(rt, alloc, hall, first(rt, seats)),
-        Scene::CallsLate => scenes::call_late(rt, alloc, hall, first(rt, seats)),
-        Scene::CallsNobody => scenes::call_nobody(rt, alloc, hall, first(rt, seats)),
-        Scene::Talks(one, other) => talks::talk(rt, alloc, hall, users, seats, one, other),
-        Scene::Rests => talks::rest(rt, alloc, hall, users, seats),
-        Scene::Beside(one, other) => {
+        Within::ReadsBack => scenes::read_back(rt, alloc, hall, first(rt, seats)),
+        Within::CallsLate => scenes::call_late(rt, alloc, hall, first(rt, seats)),
+        Within::CallsNobody => scenes::call_nobody(rt, alloc, hall, first(rt, seats)),
+        Within::Talks(one, other) => talks::talk(rt, alloc, hall, users, seats, one, other),
+        Within::Rests => talks::rest(rt, alloc, hall, users, seats),
+        Within::Beside(one, other) => {
             talks::talk_beside(rt, alloc, hall, users, seats, one, other)
         }
-        Scene::Floods => pressure::serve_flood(rt, alloc, hall, users, seats),
-        Scene::HoldsBack => backlogs::hold(rt, alloc, hall, users, seats),
-        Scene::Deals(guests) => deals::deal(rt, alloc, hall, users, seats, *guests),
-        Scene::FallsDue => dues::fall_due(rt, alloc, hall, users, seats),
-        Scene::Guesses => guesses::guess(rt, alloc, hall, users, seats),
-        Scene::Comes => moves::come(rt, alloc, hall, users, seats),
-        Scene::Sips => sips::serve_sips(rt, alloc, hall, users, seats),
-        Scene::Tapes => tapes::serve_tape(rt, alloc, hall, users, seats),
-        Scene::Holds(hold) => crews::hold_alice(rt, alloc, hall, users, seats, *hold),
-        _ => Err("the hall is to be closed")?,
+        Within::Floods => pressure::serve_flood(rt, alloc, hall, users, seats),
+        Within::HoldsBack => backlogs::hold(rt, alloc, hall, users, seats),
+        Within::Deals(guests) => deals::deal(rt, alloc, hall, users, seats, *guests),
+        Within::FallsDue => dues::fall_due(rt, alloc, hall, users, seats),
+        Within::Guesses => guesses::guess(rt, alloc, hall, users, seats),
+        Within::Comes => moves::come(rt, alloc, hall, users, seats),
+        Within::Sips => sips::serve_sips(rt, alloc, hall, users, seats),
+        Within::Tapes => tapes::serve_tape(rt, alloc, hall, users, seats),
+        Within::Holds(hold) => crews::hold_alice(rt, alloc, hall, users, seats, *hold),
     }
 }
 
@@ -188,14 +199,16 @@ fn perform<
     requires { all ≡ N.terms.seats }
 {
     match scene {
-        Scene::ClosesTwice => scenes::close_twice(rt, alloc, hall, seats, all),
-        Scene::FillsPage => refusals::call_on_a_full_page(rt, alloc, hall, seats, all),
-        Scene::TurnsPages => pages::turn_two_pages(rt, alloc, hall, seats, all),
-        Scene::KeepsNothing => pages::keep_nothing(rt, alloc, hall, seats, all),
-        Scene::ChangesAll => busy::change_all(rt, alloc, hall, seats),
-        Scene::EightThreads => crowd::eight_threads(rt, alloc, hall, seats),
-        Scene::Counts => crews::count(rt, alloc, hall, users, seats, all),
-        _ => perform_within(rt, alloc, &hall, users, &mut seats, scene),
+        Scene::Within(scene) => perform_within(rt, alloc, &hall, users, &mut seats, scene),
+        Scene::Closing(scene) => match scene {
+            Closing::ClosesTwice => scenes::close_twice(rt, alloc, hall, seats, all),
+            Closing::FillsPage => refusals::call_on_a_full_page(rt, alloc, hall, seats, all),
+            Closing::TurnsPages => pages::turn_two_pages(rt, alloc, hall, seats, all),
+            Closing::KeepsNothing => pages::keep_nothing(rt, alloc, hall, seats, all),
+            Closing::ChangesAll => busy::change_all(rt, alloc, hall, seats),
+            Closing::EightThreads => crowd::eight_threads(rt, alloc, hall, seats),
+            Closing::Counts => crews::count(rt, alloc, hall, users, seats, all),
+        },
     }
 }
 

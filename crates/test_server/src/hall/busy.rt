@@ -2,7 +2,7 @@
 //! The outcomes are by hand: a budget of 65,536 holds three items of 20,000 bytes beside a small one.
 use super::commands::{flush, get_of, set_of, touch_of};
 use super::replayed::has_page;
-use crate::stage::{Scene, call, closed, first, play};
+use crate::stage::{Closing, Scene, call, closed, first, play};
 use std::alloc::Global;
 use std::process::Abort;
 use std::sync::Wait;
@@ -154,5 +154,5 @@ pub fn change_all<C: Cache, N: Naming, R: Wait + Abort>(
 
 #[test]
 fn a_page_with_every_change_replays(rt: HostRuntime) -> Result<(), Fail> {
-    play(&rt, rt.alloc(), 1, 16, Scene::ChangesAll)
+    play(&rt, rt.alloc(), 1, 16, Scene::Closing(Closing::ChangesAll))
 }

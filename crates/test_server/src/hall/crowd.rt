@@ -2,7 +2,7 @@
 
 use super::commands::{append, get, incr, look_up, set};
 use super::replayed::has_page;
-use crate::stage::{Scene, closed, play};
+use crate::stage::{Closing, Scene, closed, play};
 use std::alloc::{AllocError, Global};
 use std::process::Abort;
 use std::sync::Wait;
@@ -23,7 +23,13 @@ struct Work<N: Naming> {
 
 #[test]
 fn eight_threads_beside_a_keeper_leave_every_entry(rt: HostRuntime) -> Result<(), Fail> {
-    play(&rt, rt.alloc(), 8, 65_536, Scene::EightThreads)
+    play(
+        &rt,
+        rt.alloc(),
+        8,
+        65_536,
+        Scene::Closing(Closing::EightThreads),
+    )
 }
 
 /// A hundred calls by each of eight seats, beside a keeper, each in a thread of its own.

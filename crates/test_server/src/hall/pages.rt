@@ -4,7 +4,7 @@ ghost use Rattle.std.specs.Prelude.{◌≡◌};
 
 use super::commands::{get, set, shows};
 use super::replayed::has_page;
-use crate::stage::{Scene, call, closed, count, first, play};
+use crate::stage::{Closing, Scene, call, closed, count, first, play};
 use std::alloc::Global;
 use std::process::Abort;
 use std::sync::Wait;
@@ -16,14 +16,20 @@ use tc_users::UserNo;
 
 #[test]
 fn forty_calls_turn_two_pages(rt: HostRuntime) -> Result<(), Fail> {
-    play(&rt, rt.alloc(), 1, 16, Scene::TurnsPages)
+    play(&rt, rt.alloc(), 1, 16, Scene::Closing(Closing::TurnsPages))
 }
 
 #[test]
 fn a_hall_whose_journal_is_off_counts_its_calls_and_shows_none(
     rt: HostRuntime,
 ) -> Result<(), Fail> {
-    play(&rt, rt.alloc(), 1, 16, Scene::KeepsNothing)
+    play(
+        &rt,
+        rt.alloc(),
+        1,
+        16,
+        Scene::Closing(Closing::KeepsNothing),
+    )
 }
 
 /// Makes a set and 39 gets in a hall whose journal is off, and closes it.

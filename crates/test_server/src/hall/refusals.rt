@@ -3,7 +3,7 @@ ghost use Rattle.std.specs.Prelude.{◌≡◌};
 
 use super::commands::set;
 use super::replayed::has_page;
-use crate::stage::{Scene, call, closed, count, first, play};
+use crate::stage::{Closing, Scene, call, closed, count, first, play};
 use std::alloc::Global;
 use std::process::Abort;
 use std::sync::Wait;
@@ -16,7 +16,7 @@ use tc_users::UserNo;
 
 #[test]
 fn a_refused_call_on_a_full_page_changes_nothing(rt: HostRuntime) -> Result<(), Fail> {
-    play(&rt, rt.alloc(), 1, 3, Scene::FillsPage)
+    play(&rt, rt.alloc(), 1, 3, Scene::Closing(Closing::FillsPage))
 }
 
 /// Fills a page of three entries and calls once more.

@@ -2,7 +2,7 @@
 ghost use Rattle.std.specs.Prelude.{◌≡◌};
 
 use super::commands::{get, set, shows, shows_nothing};
-use crate::stage::{Scene, call, closed, count, first, play};
+use crate::stage::{Closing, Scene, Within, call, closed, count, first, play};
 use std::alloc::Global;
 use std::process::Abort;
 use std::sync::Wait;
@@ -24,7 +24,7 @@ fn the_clock_takes_the_later_moment(rt: HostRuntime) {
 
 #[test]
 fn a_seat_reads_its_own_set_back(rt: HostRuntime) -> Result<(), Fail> {
-    play(&rt, rt.alloc(), 1, 16, Scene::ReadsBack)
+    play(&rt, rt.alloc(), 1, 16, Scene::Within(Within::ReadsBack))
 }
 
 /// What the first user set, the first user gets, and the second does not.
@@ -142,7 +142,7 @@ const LATE: [Late; 2] = [
 
 #[test]
 fn a_late_call_is_entered_at_the_books_moment(rt: HostRuntime) -> Result<(), Fail> {
-    play(&rt, rt.alloc(), 1, 16, Scene::CallsLate)
+    play(&rt, rt.alloc(), 1, 16, Scene::Within(Within::CallsLate))
 }
 
 /// Calls around a maintenance of the second user's book.
@@ -192,7 +192,7 @@ fn second_of<N: Naming>(receipt: &Receipt<N>) -> u64 {
 
 #[test]
 fn a_call_on_no_user_is_refused(rt: HostRuntime) -> Result<(), Fail> {
-    play(&rt, rt.alloc(), 1, 16, Scene::CallsNobody)
+    play(&rt, rt.alloc(), 1, 16, Scene::Within(Within::CallsNobody))
 }
 
 pub fn call_nobody<C: Cache, N: Naming, R: Wait + Abort>(
@@ -223,7 +223,7 @@ fn has_no_user<C: Cache, N: Naming, R: Wait>(
 
 #[test]
 fn a_hall_that_lacks_a_seat_is_not_closed(rt: HostRuntime) -> Result<(), Fail> {
-    play(&rt, rt.alloc(), 2, 16, Scene::ClosesTwice)
+    play(&rt, rt.alloc(), 2, 16, Scene::Closing(Closing::ClosesTwice))
 }
 
 /// Stores by the first of two seats, and closes the hall without the last and then with it.

@@ -5,7 +5,7 @@ use super::deals::{ALICE, BOB};
 use super::talks::worker_of;
 use super::words::Words;
 use crate::hall::commands::set_of;
-use crate::stage::{Scene, call, first, play_fast};
+use crate::stage::{Scene, Within, call, first, play_fast};
 use std::alloc::Global;
 use std::process::Abort;
 use std::sync::atomic::AtomicU64;
@@ -282,5 +282,5 @@ pub fn hold<C: Cache, N: Naming, R: Wait + Abort>(
 
 #[test]
 fn what_waits_is_bounded_by_user_and_sent_in_the_end(rt: HostRuntime) -> Result<(), Fail> {
-    play_fast(&rt, rt.alloc(), 2, 16, Scene::HoldsBack)
+    play_fast(&rt, rt.alloc(), 2, 16, Scene::Within(Within::HoldsBack))
 }

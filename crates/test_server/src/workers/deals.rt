@@ -3,7 +3,7 @@ ghost use Rattle.std.specs.Prelude.{None};
 
 use super::talks::worker_of;
 use super::words::Words;
-use crate::stage::{Scene, play};
+use crate::stage::{Scene, Within, play};
 use std::alloc::Global;
 use std::process::Abort;
 use std::sync::atomic::AtomicU64;
@@ -229,10 +229,22 @@ pub fn deal<C: Cache, N: Naming, R: Wait + Abort>(
 
 #[test]
 fn a_user_alone_is_served_whole(rt: HostRuntime) -> Result<(), Fail> {
-    play(&rt, rt.alloc(), 1, 16, Scene::Deals(Guests::Alice))
+    play(
+        &rt,
+        rt.alloc(),
+        1,
+        16,
+        Scene::Within(Within::Deals(Guests::Alice)),
+    )
 }
 
 #[test]
 fn many_connections_of_one_user_take_no_turn_from_another(rt: HostRuntime) -> Result<(), Fail> {
-    play(&rt, rt.alloc(), 1, 16, Scene::Deals(Guests::AliceAndBob))
+    play(
+        &rt,
+        rt.alloc(),
+        1,
+        16,
+        Scene::Within(Within::Deals(Guests::AliceAndBob)),
+    )
 }

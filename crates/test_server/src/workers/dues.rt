@@ -3,7 +3,7 @@
 use super::deals::{ALICE, Asking, BOB, GETS, LOGGED_IN, Ledger, MANY, MISSED, join};
 use super::talks::worker_of;
 use crate::hall::commands::set_of;
-use crate::stage::{Scene, call, first, play_fast};
+use crate::stage::{Scene, Within, call, first, play_fast};
 use std::alloc::Global;
 use std::process::Abort;
 use std::sync::{Arc, Wait};
@@ -152,5 +152,5 @@ pub fn fall_due<C: Cache, N: Naming, R: Wait + Abort>(
 
 #[test]
 fn many_items_due_at_once_hold_their_user_alone(rt: HostRuntime) -> Result<(), Fail> {
-    play_fast(&rt, rt.alloc(), 2, 1_024, Scene::FallsDue)
+    play_fast(&rt, rt.alloc(), 2, 1_024, Scene::Within(Within::FallsDue))
 }

@@ -2,7 +2,7 @@
 
 use super::talks::worker_of;
 use super::wires::{Cut, Ending, Memory, Plan, Seen};
-use crate::stage::{Scene, play};
+use crate::stage::{Scene, Within, play};
 use std::alloc::Global;
 use std::process::Abort;
 use std::sync::atomic::Ordering::SeqCst;
@@ -108,5 +108,5 @@ pub fn guess<C: Cache, N: Naming, R: Wait + Abort>(
 
 #[test]
 fn from_the_fourth_refused_login_on_a_reply_waits_a_second(rt: HostRuntime) -> Result<(), Fail> {
-    play(&rt, rt.alloc(), 1, 16, Scene::Guesses)
+    play(&rt, rt.alloc(), 1, 16, Scene::Within(Within::Guesses))
 }

@@ -4,7 +4,7 @@
 ghost use Rattle.std.specs.Prelude.{None};
 
 use super::talks::worker_of;
-use crate::stage::{Scene, play};
+use crate::stage::{Scene, Within, play};
 use std::alloc::Global;
 use std::process::Abort;
 use std::sync::atomic::Ordering::SeqCst;
@@ -195,5 +195,5 @@ pub fn serve_flood<C: Cache, N: Naming, R: Wait + Abort>(
 
 #[test]
 fn one_who_never_reads_is_read_no_more_and_another_goes_on(rt: HostRuntime) -> Result<(), Fail> {
-    play(&rt, rt.alloc(), 1, 16, Scene::Floods)
+    play(&rt, rt.alloc(), 1, 16, Scene::Within(Within::Floods))
 }

@@ -2,7 +2,7 @@
 ghost use Rattle.std.specs.Prelude.{None, ◌≤◌, length};
 
 use super::talks::worker_of;
-use crate::stage::{Scene, play};
+use crate::stage::{Scene, Within, play};
 use std::alloc::Global;
 use std::process::Abort;
 use std::sync::atomic::AtomicU64;
@@ -184,5 +184,5 @@ fn is_served<C: Cache, N: Naming, R: Wait>(
 
 #[test]
 fn large_data_goes_whole_over_a_wire_that_takes_little(rt: HostRuntime) -> Result<(), Fail> {
-    play(&rt, rt.alloc(), 1, 16, Scene::Sips)
+    play(&rt, rt.alloc(), 1, 16, Scene::Within(Within::Sips))
 }

@@ -5,7 +5,7 @@ use super::table::{
     WRITES,
 };
 use super::wires::{Cut, Ending, Memory, Plan, Seen};
-use crate::stage::{Scene, play};
+use crate::stage::{Scene, Within, play};
 use std::alloc::Global;
 use std::process::Abort;
 use std::random::RandomSource;
@@ -177,7 +177,13 @@ fn expect<R: Threads + Wait + Abort + Time + RandomSource + Copy + Send + Sync +
     first: Plan,
     second: Plan,
 ) -> Result<(), Fail> {
-    play(rt, alloc, 1, 16, Scene::Talks(first, second))
+    play(
+        rt,
+        alloc,
+        1,
+        16,
+        Scene::Within(Within::Talks(first, second)),
+    )
 }
 
 /// Two streams in the same turns, where the first one's wire has its mishap at each call of a row.
@@ -187,7 +193,7 @@ fn expect_beside<R: Threads + Wait + Abort + Time + RandomSource + Copy + Send +
     row: &Mishap,
 ) -> Result<(), Fail> {
     for n in row.from..=row.to {
-        let beside = Scene::Beside(row.storing(n), row.contending());
+        let beside = Scene::Within(Within::Beside(row.storing(n), row.contending()));
         play(rt, alloc, 1, 16, beside)?;
     }
     Ok(())
@@ -232,12 +238,18 @@ fn a_wire_that_has_nothing_yet_is_kept_and_asked_each_turn(rt: HostRuntime) -> R
 
 #[test]
 fn a_watched_wire_rests_in_the_turn_that_answers_it(rt: HostRuntime) -> Result<(), Fail> {
-    play(&rt, rt.alloc(), 1, 16, Scene::Rests)
+    play(&rt, rt.alloc(), 1, 16, Scene::Within(Within::Rests))
 }
 
 #[test]
 fn a_turn_goes_by_the_numbers_of_connections(rt: HostRuntime) -> Result<(), Fail> {
-    play(&rt, rt.alloc(), 1, 16, Scene::Beside(STORES, APPENDS))
+    play(
+        &rt,
+        rt.alloc(),
+        1,
+        16,
+        Scene::Within(Within::Beside(STORES, APPENDS)),
+    )
 }
 
 #[test]

@@ -3,7 +3,7 @@
 ghost use Rattle.std.specs.Prelude.{◌≤◌, Some, take, vec_len};
 
 use super::talks::worker_of;
-use crate::stage::{Scene, play};
+use crate::stage::{Scene, Within, play};
 use std::alloc::Global;
 use std::process::Abort;
 use std::sync::atomic::AtomicU64;
@@ -97,5 +97,5 @@ pub fn serve_tape<C: Cache, N: Naming, R: Wait + Abort>(
 
 #[test]
 fn a_wire_that_knows_its_bytes_is_served(rt: HostRuntime) -> Result<(), Fail> {
-    play(&rt, rt.alloc(), 1, 16, Scene::Tapes)
+    play(&rt, rt.alloc(), 1, 16, Scene::Within(Within::Tapes))
 }

@@ -26,12 +26,14 @@ impl Words {
         }
     }
 
+    /// Makes a word this value, where there is one.
     pub(super) fn store(&self, at: usize, value: usize) {
         if let Some(word) = self.0.get(at) {
             word.store(value as u64, SeqCst);
         }
     }
 
+    /// Adds to a word, where there is one.
     pub(super) fn add(&self, at: usize, more: usize) {
         if let Some(word) = self.0.get(at) {
             word.fetch_add(more as u64, SeqCst);
