@@ -6,12 +6,12 @@ use Rattle.tc_item.specs.KeyRule.{is_key}
 
 -- the bytes: the first so many of those in place, or all of the others
 abbrev pub bytes_held : KeyBytes → List ℕ
-bytes_held (Short place length) = take length place
+bytes_held (Short length place) = take length place
 bytes_held (Long bytes) = bytes
 
 -- no more are counted than there are places, and the places behind them are 0
 abbrev pub IsInPlace : KeyBytes → Type 0
-IsInPlace (Short place length) = (length ≤ 22) × (drop length place ≡ replicate (22 - length) 0)
+IsInPlace (Short length place) = (length ≤ 22) × (drop length place ≡ replicate (22 - length) 0)
 IsInPlace (Long bytes) = ⊤
 
 -- a key's bytes

@@ -124,6 +124,14 @@ impl Blob {
         self.len() == 0
     }
 
+    /// Reads the first byte and the last, which who reads all of them will wait for. What that comes to says nothing.
+    pub fn read_ends(&self) -> u64 {
+        match self.as_slice() {
+            [first, .., last] => u64::from(*first).wrapping_add(u64::from(*last)),
+            _ => 0,
+        }
+    }
+
     /// The same bytes, held once more and not copied.
     pub fn copy(&self) -> Result<Blob, NoMemory>
         ensures { IfOk result (λ b. b ≡ self.now) }

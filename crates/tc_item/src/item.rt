@@ -12,10 +12,10 @@ pub struct Item {
     pub flags: u32,
     /// Until when the item is alive.
     pub due: KeptDue,
-    /// The number of the change that made the data.
-    pub cas: u64,
     /// The data.
     pub blob: Blob,
+    /// The number of the change that made the data.
+    pub cas: u64,
 }
 
 /// Whether an item is alive at a moment: its due is never or after it.

@@ -59,10 +59,11 @@ pub struct Key {
     bytes: KeyBytes,
 }
 
-/// A key's bytes: the first so many of some in place, or those that it shares with its copies.
+/// A key's bytes: so many of the first of some in place, or those that it shares with its copies. How many they
+/// are stands before them, so that they lie at an even place of a key and are copied in pieces that do not overlap.
 #[derive(Drop)]
 enum KeyBytes {
-    Short([u8; IN_PLACE], u8),
+    Short(u8, [u8; IN_PLACE]),
     Long(Blob),
 }
 
@@ -94,8 +95,8 @@ fn are_same_places(
     other: &[u8; IN_PLACE],
     other_length: u8,
 ) -> bool
-    requires one { IsInPlace (Short one.now one_length) }
-    requires other { IsInPlace (Short other.now other_length) }
+    requires one { IsInPlace (Short one_length one.now) }
+    requires other { IsInPlace (Short other_length other.now) }
     ensures { result ≡ bytes_eq (take one_length one.now) (take other_length other.now) }
 {
     one_length == other_length && are_same_bytes(one, other)
@@ -110,7 +111,7 @@ impl KeyBytes {
     {
         let mut place = [0; IN_PLACE];
         place[..bytes.len()].copy_from_slice(bytes);
-        KeyBytes::Short(place, bytes.len() as u8)
+        KeyBytes::Short(bytes.len() as u8, place)
     }
 
     /// The bytes.
@@ -119,7 +120,7 @@ impl KeyBytes {
         ensures { result.now ≡ bytes_held self.now }
     {
         match self {
-            KeyBytes::Short(place, length) => &place[..usize::from(*length)],
+            KeyBytes::Short(length, place) => &place[..usize::from(*length)],
             KeyBytes::Long(bytes) => bytes.as_slice(),
         }
     }
@@ -131,7 +132,7 @@ impl KeyBytes {
         ensures { result ≡ bytes_eq (bytes_held self.now) (bytes_held other.now) }
     {
         match (self, other) {
-            (KeyBytes::Short(place, length), KeyBytes::Short(other_place, other_length)) => {
+            (KeyBytes::Short(length, place), KeyBytes::Short(other_length, other_place)) => {
                 are_same_places(place, *length, other_place, *other_length)
             }
             _ => self.as_slice() == other.as_slice(),
@@ -186,7 +187,7 @@ impl Key {
         ensures { IfOk result (λ k. k ≡ self.now) }
     {
         let bytes = match &self.bytes {
-            KeyBytes::Short(place, length) => KeyBytes::Short(*place, *length),
+            KeyBytes::Short(length, place) => KeyBytes::Short(*length, *place),
             KeyBytes::Long(bytes) => KeyBytes::Long(bytes.copy()?),
         };
         Ok(Key { bytes })

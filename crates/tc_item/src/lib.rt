@@ -20,6 +20,7 @@ mod key_bytes;
 pub mod moment;
 mod no_memory;
 mod place;
+mod prefetching;
 mod slot;
 
 pub use blob::Blob;
@@ -34,4 +35,5 @@ pub use key::{Key, KeyFault, Keys, is_key};
 pub use key_bytes::key_run;
 pub use moment::{Due, Moment};
 pub use no_memory::NoMemory;
+pub use prefetching::have_read;
 pub use slot::Slot;

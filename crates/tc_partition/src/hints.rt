@@ -85,14 +85,6 @@ impl Hints {
         }
     }
 
-    /// Reads a hash's set. What that comes to says nothing.
-    pub fn read(&self, hash: u64) -> u64 {
-        match self.sets.get(self.place(hash)) {
-            Some([first, ..]) => u64::from(*first),
-            None => 0,
-        }
-    }
-
     /// Notes where a key of this hash is, if its slot is one that a hint can name.
     pub fn note(&mut self, hash: u64, slot: Slot) {
         let at = self.place(hash);
@@ -108,14 +100,6 @@ impl Hints {
                 }
             };
             put(set, place, hint);
-        }
-    }
-
-    /// The same of a key that was found there, as most are by their hint. That one stays as it is: to look for its
-    /// place is to try four in turns, and a processor guesses which it is, mostly wrong.
-    pub fn note_again(&mut self, hash: u64, slot: Slot) {
-        if self.slot(hash) != slot {
-            self.note(hash, slot);
         }
     }
 

@@ -24,11 +24,11 @@ ghost use Rattle.tc_partition.specs.Working.{is_new, IsAimed};
 use crate::hints::Hints;
 use crate::work::Work;
 use std::alloc::Global;
-use tc_item::{Due, Key, Moment, NoMemory, Slot, alive};
+use tc_item::{Due, Key, Moment, NoMemory, Slot, alive, have_read};
 use tc_plain::{Areas, Change, End, Entry, EvictionState, Limits, is_flush_due};
 use tc_readbuf::LookUp;
 use tc_sketch::{PastSketch, hash};
-use tc_slots::{Aside, Slots, Tables, have_read, set_aside, shed, turn};
+use tc_slots::{Aside, Slots, Tables, set_aside, shed, turn};
 use tc_slru::Area;
 use tc_stats::Counters;
 
@@ -111,8 +111,8 @@ impl LiveSlots {
     }
 
     /// Where a hint says that the key at a place is, of keys of these hashes that are sought one after another.
-    /// At the first place, and so many places behind each time, the next keys are read ahead, and `slots` keeps
-    /// where their hints say that they are.
+    /// At the first place, and at each that is `TOGETHER` places behind one, the next keys are read ahead, and
+    /// `slots` keeps where their hints say that they are.
     pub(crate) fn next_hint(&self, hashes: &[u64], at: usize, slots: &mut [Slot; TOGETHER]) -> Slot
         requires { at < length hashes.now }
     {
@@ -125,17 +125,13 @@ impl LiveSlots {
 
     /// Reads what look-ups of keys of these hashes are going to read, as many as `slots` has places, and puts down
     /// where their hints say that they are. To know where an entry lies is to have read its hint, and where data
-    /// lies its entry, so all hints are read first, then all entries with their nodes in the lists, which deferred
-    /// work will ask for. The less is done between two reads the more wait at once, so hints are read before they
-    /// are looked into, and slots are kept.
+    /// lies its entry, so all hints are looked into first, then all entries are read with their nodes in the lists,
+    /// which deferred work will ask for.
     fn read_together(&self, hashes: &[u64], slots: &mut [Slot; TOGETHER]) {
-        let mut sum: u64 = 0;
-        for (_, hash) in slots.iter().zip(hashes) {
-            sum = sum.wrapping_add(self.hints.read(*hash));
-        }
         for (slot, hash) in slots.iter_mut().zip(hashes) {
             *slot = self.hints.slot(*hash);
         }
+        let mut sum: u64 = 0;
         for (slot, _) in slots.iter().zip(hashes) {
             sum = sum.wrapping_add(self.held.read_node(*slot));
             sum = sum.wrapping_add(self.held.read_entry(*slot));
@@ -248,7 +244,6 @@ impl LiveSlots {
     {
         self.held.owning();
         self.sketch.record(key_hash);
-        self.hints.note_again(key_hash, slot);
         self.held.access_at(slot);
     }
 

@@ -18,7 +18,7 @@ use crate::values::{append_composed, room_to_compose};
 use std::alloc::Global;
 use std::marker::Model;
 use tc_grammar::{Command, Fault, Form};
-use tc_item::NoMemory;
+use tc_item::{NoMemory, have_read};
 use tc_stats::{Hits, Outcome};
 
 /// The reply to a look-up that is not written yet, and for how many bytes room is made for it.
@@ -55,6 +55,18 @@ impl Model for Replies {
         × AreMeasured r.owed.items };
 }
 
+/// Reads the data of all hits that are owed, so that they wait for memory together. It is long since they were
+/// looked up, where many others were behind them.
+fn read_data(owed: &[Owed]) {
+    let mut sum: u64 = 0;
+    for reply in owed {
+        for hit in reply.hits.as_slice() {
+            sum = sum.wrapping_add(hit.blob.read_ends());
+        }
+    }
+    have_read(sum);
+}
+
 /// Writes all that is owed, for which there is room.
 fn write_owed(written: &mut Output, owed: &mut Vec<Owed>)
     requires fits { owed_room owed.old.items ≤ written.old.room }
@@ -63,6 +75,7 @@ fn write_owed(written: &mut Output, owed: &mut Vec<Owed>)
     ensures room { written.old.room ≤ written.new.room + owed_room owed.old.items }
     ensures owed { owed.new.items ≡ [] }
 {
+    read_data(owed.as_slice());
     for reply in owed.iter() {
         written.write_composed(reply.room, reply.form, reply.hits.as_slice());
     }

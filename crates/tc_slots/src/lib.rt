@@ -16,7 +16,6 @@ mod gone;
 mod kept_log;
 mod log;
 mod opened;
-mod prefetching;
 mod rebuilding;
 mod seen;
 mod seen_past;
@@ -26,6 +25,5 @@ mod tables;
 mod unkept_log;
 
 pub use aside::{Aside, set_aside, shed, turn};
-pub use prefetching::have_read;
 pub use slots::Slots;
 pub use tables::Tables;

@@ -14,13 +14,12 @@ ghost use Rattle.tc_slots.specs.Held.{seen_by, IsVacated, IsTaken, HasRoom, IsSa
 ghost use Rattle.tc_slots.specs.Undoing.{at_slots, undo, undo_one, was_in, AreBelow, IsNoted, AreNoted, Notes};
 
 use crate::log::Log;
-use crate::prefetching::have_read;
 use slab::Slab;
 use std::alloc::Global;
 use std::hash::{BuildHasher, RandomState};
 use std::mem;
 use tc_index::{Index, Tag};
-use tc_item::{Due, KeptDue, Key, MOMENT_LIMIT, Moment, NoMemory, Slot};
+use tc_item::{Due, KeptDue, Key, MOMENT_LIMIT, Moment, NoMemory, Slot, have_read};
 use tc_plain::{Change, Entry, Was};
 use tc_sketch::{PastSketch, hash};
 use tc_slru::Lists;

@@ -21,19 +21,19 @@ loop-i-preserved c =
     let keys = c.args.keys.now in
     let key = c.index-keys-i.result in
     let before = c.loop-i.places.items in
-    let at = subst (λ q. SeeksSlot c.seek_from.result m q live) c.index-keys-i.is c.seek_from.ensures in
+    let at = subst (λ q. SeeksSlot c.seek_from-place.result m q live) c.index-keys-i.is c.seek_from-place.ensures in
     record {
       found =
           subst (λ (ps : List (Option Slot)). SeekSlots m (take (i + 1) keys) ps live) (sym c.push_reserved.ensures.items)
-          (subst (λ ks. SeekSlots m ks (before ++ c.seek_from.result ∷ []) live)
+          (subst (λ ks. SeekSlots m ks (before ++ c.seek_from-place.result ∷ []) live)
           (sym (take_more keys i key c.loop-i-test.true))
-          (found_push m (take i keys) before live (get_or keys i key) c.seek_from.result c.loop-i.invariant.found at));
+          (found_push m (take i keys) before live (get_or keys i key) c.seek_from-place.result c.loop-i.invariant.found at));
       room =
           omega (
             arith,
             c.loop-i.invariant.room,
             c.push_reserved.ensures.capacity,
             ap length c.push_reserved.ensures.items,
-            length-append before (c.seek_from.result ∷ []),
+            length-append before (c.seek_from-place.result ∷ []),
           );
     }

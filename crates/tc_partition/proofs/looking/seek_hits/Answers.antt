@@ -12,7 +12,7 @@ pub show_all-requires : goal.show_all-requires
 show_all-requires c =
     let live = c.args.live.now in
     ap (λ ps. length (map (placed_in live.held.slots) ps)) c.as_slice.ensures
-    ∙ ap length (found_sought c.args.moment c.args.keys.now c.in_ok-places.places.items live c.in_ok-places.ensures)
+    ∙ ap length (found_sought c.args.moment c.args.keys.now c.in_ok-found.found.places.items live c.in_ok-found.ensures)
     ∙ length-map c.args.keys.now (λ q. peeked c.args.moment q (live_of live))
 
 pub returns-clause-hits : goal.returns-clause-hits
@@ -20,10 +20,10 @@ returns-clause-hits c =
     let live = c.args.live.now in
     c.in_ok-hits.ensures (live_of live) c.requires.sound
     (ap (map (placed_in live.held.slots)) c.as_slice.ensures
-    ∙ found_sought c.args.moment c.args.keys.now c.in_ok-places.places.items live c.in_ok-places.ensures)
+    ∙ found_sought c.args.moment c.args.keys.now c.in_ok-found.found.places.items live c.in_ok-found.ensures)
 
 pub returns-clause-places : goal.returns-clause-places
 returns-clause-places c =
     let live = c.args.live.now in
-    sought_by live.held.slots c.args.moment c.args.keys.now c.in_ok-places.places.items (live_of live)
-    (found_sought c.args.moment c.args.keys.now c.in_ok-places.places.items live c.in_ok-places.ensures)
+    sought_by live.held.slots c.args.moment c.args.keys.now c.in_ok-found.found.places.items (live_of live)
+    (found_sought c.args.moment c.args.keys.now c.in_ok-found.found.places.items live c.in_ok-found.ensures)

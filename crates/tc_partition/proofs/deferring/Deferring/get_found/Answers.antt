@@ -23,11 +23,11 @@ seek_hits-requires-clause-hashed c =
 
 pub note_all_found-requires-clause-long : goal.note_all_found-requires-clause-long
 note_all_found-requires-clause-long c =
-    ap length c.as_slice-2.ensures
-    ∙ found_long c.later-moment.result c.args.keys.now c.in_ok-hits.found.items c.self.inside.cache.live
+    ap length c.as_slice-3.ensures
+    ∙ found_long c.later-moment.result c.args.keys.now c.in_ok-hits.found.places.items c.self.inside.cache.live
     c.in_ok-hits.ensures.seen
     ∙ sym (hashed_long c.args.keys.now c.in_ok-hashes.hashes.items c.in_ok-hashes.ensures)
-    ∙ sym (ap length c.as_slice-3.ensures)
+    ∙ sym (ap length c.as_slice-4.ensures)
 
 pub note_all_found-requires-clause-room : goal.note_all_found-requires-clause-room
 note_all_found-requires-clause-room c =
@@ -38,7 +38,7 @@ note_all_found-requires-clause-room c =
       length_map (waiting_of i.cache.live.held.slots) i.waiting,
       ap (λ (z : Delayed). length z.waiting) c.self.view_is,
       hashed_long c.args.keys.now c.in_ok-hashes.hashes.items c.in_ok-hashes.ensures,
-      ap length c.as_slice-3.ensures,
+      ap length c.as_slice-4.ensures,
     )
 
 -- what was noted of what stands in the two lists
@@ -52,10 +52,10 @@ invariant_of-self c =
     let i = c.self.inside in
     let keys = c.args.keys.now in
     let m = c.later-moment.result in
-    let found = c.in_ok-hits.found.items in
+    let found = c.in_ok-hits.found.places.items in
     let hashes = c.in_ok-hashes.hashes.items in
-    let is = noted_all m i.waiting c.note_all_found.new.waiting c.as_slice-3.result.now hashes c.as_slice-2.result.now found
-    c.note_all_found.ensures c.as_slice-2.ensures c.as_slice-3.ensures in
+    let is = noted_all m i.waiting c.note_all_found.new.waiting c.as_slice-4.result.now hashes c.as_slice-3.result.now found
+    c.note_all_found.ensures c.as_slice-3.ensures c.as_slice-4.ensures in
     let all = look_all_now i.cache.live i.waiting i.moment c.args.now keys hashes found m c.in_ok-hashes.ensures
     c.later-moment.ensures
     c.self.invariant.lazy c.self.invariant.placed c.in_ok-hits.ensures.seen in
@@ -80,10 +80,10 @@ returns-clause-state c =
     let i = c.self.inside in
     let keys = c.args.keys.now in
     let m = c.later-moment.result in
-    let found = c.in_ok-hits.found.items in
+    let found = c.in_ok-hits.found.places.items in
     let hashes = c.in_ok-hashes.hashes.items in
-    let is = noted_all m i.waiting c.note_all_found.new.waiting c.as_slice-3.result.now hashes c.as_slice-2.result.now found
-    c.note_all_found.ensures c.as_slice-2.ensures c.as_slice-3.ensures in
+    let is = noted_all m i.waiting c.note_all_found.new.waiting c.as_slice-4.result.now hashes c.as_slice-3.result.now found
+    c.note_all_found.ensures c.as_slice-3.ensures c.as_slice-4.ensures in
     let all = look_all_now i.cache.live i.waiting i.moment c.args.now keys hashes found m c.in_ok-hashes.ensures
     c.later-moment.ensures
     c.self.invariant.lazy c.self.invariant.placed c.in_ok-hits.ensures.seen in
@@ -97,10 +97,10 @@ returns-clause-waits c =
     let i = c.self.inside in
     let keys = c.args.keys.now in
     let m = c.later-moment.result in
-    let found = c.in_ok-hits.found.items in
+    let found = c.in_ok-hits.found.places.items in
     let hashes = c.in_ok-hashes.hashes.items in
-    let is = noted_all m i.waiting c.note_all_found.new.waiting c.as_slice-3.result.now hashes c.as_slice-2.result.now found
-    c.note_all_found.ensures c.as_slice-2.ensures c.as_slice-3.ensures in
+    let is = noted_all m i.waiting c.note_all_found.new.waiting c.as_slice-4.result.now hashes c.as_slice-3.result.now found
+    c.note_all_found.ensures c.as_slice-3.ensures c.as_slice-4.ensures in
     let long = found_long m keys found i.cache.live c.in_ok-hits.ensures.seen in
     let same = hashed_long keys hashes c.in_ok-hashes.ensures in
     length_map _ c.note_all_found.new.waiting ∙ ap length is ∙ length-append i.waiting (all_noted m hashes found)

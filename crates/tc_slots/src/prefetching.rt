@@ -1,8 +1,0 @@
-//! Reads ahead of use. Where memory is to be waited for again and again, reads that nothing stands
-//! between wait for it together.
-use std::sync::atomic::{AtomicU64, Ordering};
-
-/// Takes what reads came to, and does nothing with it but what keeps a compiler from leaving them out.
-pub fn have_read(sum: u64) {
-    AtomicU64::new(0).fetch_add(sum, Ordering::SeqCst);
-}
