@@ -26,6 +26,16 @@ use tc_item::NoMemory;
 /// The most room that is kept once all bytes are read.
 const KEPT_ROOM: usize = 131_072;
 
+/// The first byte of the names of look-ups: `get`, `gets`, `gat` and `gats`. No other command's name begins so.
+const LOOK_UP: u8 = b'g';
+
+/// A whole request that was read ahead, where blocks of so many bytes at most are taken.
+#[derive(Drop)]
+pub(crate) struct Ahead {
+    limit: u32,
+    framed: Framed,
+}
+
 /// The unread bytes of a stream, and how many of those to come are skipped.
 #[derive(Drop)]
 pub struct Feed {
@@ -39,6 +49,8 @@ pub struct Feed {
     needed: usize,
     /// How many bytes to come are skipped.
     owed: usize,
+    /// The request that the unread bytes begin with, where it was read ahead.
+    ahead: Option<Ahead>,
 }
 
 impl Model for Feed {
@@ -50,10 +62,12 @@ impl Model for Feed {
     ghost view = { λ f. record { unread = drop f.start f.bytes.items; owed = f.owed } };
 
     ghost use Rattle.tc_feed.specs.Scanned.{IsScanned, IsAwaited, IsRemembered};
+    ghost use Rattle.tc_feed.specs.Looking.{IsReadAhead};
 
     ghost invariant = { λ f. IsScanned f.start f.scanned f.owed f.bytes.items
         × (IsAwaited f.limit f.needed (drop f.start f.bytes.items)
-        × IsRemembered f.needed f.scanned (drop f.start f.bytes.items)) };
+        × IsRemembered f.needed f.scanned (drop f.start f.bytes.items))
+        × IsReadAhead f.ahead (drop f.start f.bytes.items) };
 }
 
 impl Feed {
@@ -68,6 +82,7 @@ impl Feed {
             limit: 0,
             needed: 1,
             owed: 0,
+            ahead: None,
         }
     }
 
@@ -84,6 +99,7 @@ impl Feed {
             return Ok(());
         }
         self.compact();
+        forget(&mut self.ahead);
         let rest = &piece[self.owed..];
         self.bytes.extend_from_slice(rest)?;
         self.owed = 0;
@@ -119,20 +135,58 @@ impl Feed {
         ensures refused { OnErr result (HasLine self.old.unread) }
         ensures unchanged_on_err { OnErr result (self.new ≡ self.old) }
     {
+        match self.front(alloc, limit)? {
+            Some(framed) => Ok(Some(self.take(alloc, framed))),
+            None => Ok(None),
+        }
+    }
+
+    /// Reads the next whole request ahead, so that `next` has it at once, where blocks of at most `limit` bytes
+    /// are taken and it seems to be a look-up. Nothing is taken; where memory is refused, `next` meets that.
+    pub fn read_ahead(&mut self, alloc: Global, limit: u32)
+        ensures { self.new ≡ self.old }
+    {
+        if self.bytes.get(self.start) != Some(&LOOK_UP) {
+            return;
+        }
+        if let Ok(Some(framed)) = self.front(alloc, limit) {
+            self.ahead = Some(Ahead { limit, framed });
+        }
+    }
+
+    /// The next whole request, which may have been read ahead. It is not taken out of the unread bytes.
+    fn front(&mut self, alloc: Global, limit: u32) -> Result<Option<Framed>, NoMemory>
+        ensures next { IfOk result (IsNext limit self.old) }
+        ensures unchanged { self.new ≡ self.old }
+        ensures refused { OnErr result (HasLine self.old.unread) }
+    {
+        match self.ahead.take() {
+            Some(ahead) if ahead.limit == limit => Ok(Some(ahead.framed)),
+            _ => self.seek(alloc, limit),
+        }
+    }
+
+    /// The next whole request, sought among the unread bytes and not taken out of them.
+    fn seek(&mut self, alloc: Global, limit: u32) -> Result<Option<Framed>, NoMemory>
+        ensures next { IfOk result (IsNext limit self.old) }
+        ensures unchanged { self.new ≡ self.old }
+        ensures refused { OnErr result (HasLine self.old.unread) }
+    {
         if self.is_waiting(limit) {
             return Ok(None);
         }
         let unread = &self.bytes[self.start..];
         match find_end(unread, self.scanned) {
-            None => Ok(self.next_without_end(alloc, limit)),
+            None => Ok(self.next_without_end(limit)),
             Some(end) => self.next_line(alloc, limit, end),
         }
     }
 
     /// What is next where the room of a line holds no line feed.
-    fn next_without_end(&mut self, alloc: Global, limit: u32) -> Option<Request>
+    fn next_without_end(&mut self, limit: u32) -> Option<Framed>
         requires none { line_length (take line_room self.old.unread) ≡ None }
-        ensures { IsNext limit self.old self.new result }
+        ensures next { IsNext limit self.old result }
+        ensures unchanged { self.new ≡ self.old }
     {
         let unread = self.unread_len();
         if unread <= LONGEST_LINE {
@@ -143,7 +197,7 @@ impl Feed {
             fault: Fault::LineTooLong,
             quiet: false,
         };
-        Some(self.take(alloc, Framed::whole(request, LONGEST_LINE + 1)))
+        Some(Framed::whole(request, LONGEST_LINE + 1))
     }
 
     /// The request of the first line, which ends at a place.
@@ -152,12 +206,12 @@ impl Feed {
         alloc: Global,
         limit: u32,
         end: usize,
-    ) -> Result<Option<Request>, NoMemory>
+    ) -> Result<Option<Framed>, NoMemory>
         requires end { line_length (take line_room self.old.unread) ≡ Some end }
         requires within { end < list_length self.old.unread }
         requires short { end ≤ longest_line }
-        ensures next { IfOk result (IsNext limit self.old self.new) }
-        ensures unchanged_on_err { OnErr result (self.new ≡ self.old) }
+        ensures next { IfOk result (IsNext limit self.old) }
+        ensures unchanged { self.new ≡ self.old }
     {
         let unread = &self.bytes[self.start..];
         let (request, skip) = match parse_line(alloc, trim_line(&unread[..end]), limit)? {
@@ -167,12 +221,11 @@ impl Feed {
                 return self.next_block(alloc, limit, end, head, length as usize);
             }
         };
-        let taken = Framed {
+        Ok(Some(Framed {
             request,
             length: end + 1,
             skip: skip as usize,
-        };
-        Ok(Some(self.take(alloc, taken)))
+        }))
     }
 
     /// The request of the first line, which ends at a place, and of the block that it needs.
@@ -183,15 +236,15 @@ impl Feed {
         end: usize,
         head: Head,
         length: usize,
-    ) -> Result<Option<Request>, NoMemory>
+    ) -> Result<Option<Framed>, NoMemory>
         requires end { line_length (take line_room self.old.unread) ≡ Some end }
         requires within { end < list_length self.old.unread }
         requires short { end ≤ longest_line }
         requires line { reading limit (trimmed (take end self.old.unread))
             ≡ NeedsBlock head length }
         requires few { length ≤ limit }
-        ensures next { IfOk result (IsNext limit self.old self.new) }
-        ensures unchanged_on_err { OnErr result (self.new ≡ self.old) }
+        ensures next { IfOk result (IsNext limit self.old) }
+        ensures unchanged { self.new ≡ self.old }
     {
         let needed = end + 1 + (length + 2);
         if self.unread_len() < needed {
@@ -200,7 +253,7 @@ impl Feed {
         }
         let bytes = &self.bytes[self.start + (end + 1)..];
         let request = read_block(alloc, head, length, bytes)?;
-        Ok(Some(self.take(alloc, Framed::whole(request, needed))))
+        Ok(Some(Framed::whole(request, needed)))
     }
 
     /// Takes a request out of the unread bytes, with those after it that are skipped.
@@ -270,6 +323,7 @@ impl Feed {
         let there = self.bytes.len() - self.start - length;
         self.scanned = 0;
         self.needed = 1;
+        forget(&mut self.ahead);
         if skip < there {
             self.start += length + skip;
         } else {
@@ -278,6 +332,13 @@ impl Feed {
             self.owed = skip - there;
         }
     }
+}
+
+/// Forgets a request that was read ahead.
+fn forget(ahead: &mut Option<Ahead>)
+    ensures { ahead.new ≡ None }
+{
+    *ahead = None;
 }
 
 /// Empties the bytes, and gives up their room where it is large.

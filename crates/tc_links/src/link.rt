@@ -245,8 +245,8 @@ impl<W: Wire + Drop> Link<W> {
         self.session.unread_len()
     }
 
-    /// The first part of a turn: reads. Whether it goes on.
-    pub(crate) fn take_in<R: Wait>(&mut self, rt: &R, buffer: &mut [u8]) -> bool
+    /// The first part of a turn: reads, and reads a request ahead while no lock is held. Whether it goes on.
+    pub(crate) fn take_in<R: Wait>(&mut self, rt: &R, alloc: Global, buffer: &mut [u8]) -> bool
         ensures moved { (lost : List ℕ) × Carries [] lost self.old self.new
             × (result ≡ true → lost ≡ []) }
     {
@@ -258,6 +258,7 @@ impl<W: Wire + Drop> Link<W> {
         match self.read(buffer) {
             Some(came) => {
                 self.pace = came;
+                self.session.read_ahead(alloc);
                 true
             }
             None => {

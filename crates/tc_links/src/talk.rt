@@ -181,13 +181,13 @@ impl<W: Wire + Drop> Talk<W> {
     }
 
     /// The first part of a turn (`Link::take_in`). Whether it goes on.
-    pub fn take_in<R: Wait>(&mut self, rt: &R, buffer: &mut [u8]) -> bool
+    pub fn take_in<R: Wait>(&mut self, rt: &R, alloc: Global, buffer: &mut [u8]) -> bool
         ensures moved { (lost : List ℕ) × Carries [] lost self.old.link self.new.link
             × (result ≡ true → lost ≡ []) }
         ensures stays { result ≡ true
             → (rows : List UserSpec) → IsOpen rows self.old → IsOpen rows self.new }
     {
-        if self.link.take_in(rt, buffer) {
+        if self.link.take_in(rt, alloc, buffer) {
             return true;
         }
         self.ends = self.ends.and(&(), &());

@@ -41,6 +41,9 @@ const REPLY_ROOM: usize = 64;
 /// Room that a request is read with: for what is said at once, and for a reply or its refusal.
 const NEEDED_ROOM: usize = 2 * REPLY_ROOM;
 
+/// A request is read ahead where so many bytes are unread at most, so that its keys take little memory while it waits.
+const MOST_AHEAD: usize = 2_048;
+
 /// Whose a connection is.
 #[derive(Clone, Copy, PartialEq, Eq)]
 enum Phase {
@@ -140,6 +143,16 @@ impl Session {
                 let request = self.feed.next(alloc, LARGEST_ITEM)?;
                 Ok(self.serve_bound(user, request))
             }
+        }
+    }
+
+    /// Reads the next request of a bound connection ahead, where it is a short look-up, so that `next` has it at
+    /// once. It is not done.
+    pub fn read_ahead(&mut self, alloc: Global)
+        ensures { self.new ≡ self.old }
+    {
+        if matches!(self.phase, Phase::Bound(_)) && self.feed.unread_len() <= MOST_AHEAD {
+            self.feed.read_ahead(alloc, LARGEST_ITEM);
         }
     }
 

@@ -222,6 +222,18 @@ fn a_stream_that_comes_byte_by_byte_holds_the_same_requests(rt: HostRuntime) -> 
     Ok(())
 }
 
+#[test]
+fn requests_that_were_read_ahead_at_each_byte_are_the_same(rt: HostRuntime) -> Result<(), Fail> {
+    let mut feed = Feed::new(rt.alloc());
+    for byte in STREAM.as_bytes() {
+        push(&mut feed, &[*byte])?;
+        feed.read_ahead(rt.alloc(), LIMIT);
+    }
+    let found = expect_piece(&rt, &mut feed, b"", 0)?;
+    expect_end(&rt, &feed, found);
+    Ok(())
+}
+
 /// Whether this is what is passed over next.
 fn expect_passed(
     rt: &(impl AllocGlobal + Abort),

@@ -236,6 +236,31 @@ fn a_bound_command_is_handed_to_its_users_cache(rt: HostRuntime) -> Result<(), F
 }
 
 /// Whether the connection is closed.
+/// Reads a request ahead, and asks for it.
+fn expect_ahead(
+    rt: &(impl AllocGlobal + Abort),
+    session: &mut Session,
+    users: &Users,
+) -> Result<(), NoMemory> {
+    push(session, b"get k\r\n")?;
+    session.read_ahead(rt.alloc());
+    expect_number(rt, session.unread_len() as u64, 7, "read ahead");
+    let asked = wanted(rt.alloc(), session, users)?;
+    expect_wanted(rt, asked, Wanted::Alices, "asked for");
+    expect_number(rt, session.unread_len() as u64, 0, "asked for");
+    Ok(())
+}
+
+#[test]
+fn a_request_that_was_read_ahead_is_taken_when_it_is_asked_for(
+    rt: HostRuntime,
+) -> Result<(), Fail> {
+    let users = users(rt.alloc())?;
+    let mut session = opened(rt.alloc(), &users, true)?;
+    expect_ahead(&rt, &mut session, &users)?;
+    Ok(())
+}
+
 fn state_of(session: &Session) -> State {
     if session.is_closed() {
         State::Closed

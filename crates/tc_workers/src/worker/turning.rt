@@ -321,7 +321,7 @@ impl<W: Wire + Drop, N: Naming> Worker<W, N> {
     {
         match self.links.get_mut(key) {
             Some(link) => {
-                let goes_on = link.take_in(rt, self.buffer.as_mut_slice());
+                let goes_on = link.take_in(rt, self.alloc, self.buffer.as_mut_slice());
                 self.accounts
                     .note(key, before, link.holding(), link.work(), now);
                 goes_on
