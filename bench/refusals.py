@@ -146,7 +146,9 @@ class Server(Refusing):
         line = f"listening on 127.0.0.1:{PORT}, {self.workers} worker{several}, 1 user\n"
         said = {line: "listening", "out of memory\n": "out of memory",
                 f"cannot listen on 127.0.0.1:{PORT}: out of memory\n": "cannot listen"}
-        told = "".join(line for line in out.decode().splitlines(True) if not line.startswith("audit of "))
+        # A refused command is told of at the clock's next second, where the server is still there.
+        left_out = ("audit of ", "out of memory for a command of ")
+        told = "".join(line for line in out.decode().splitlines(True) if not line.startswith(left_out))
         return status, err, said.get(told, told)
 
 
