@@ -46,8 +46,8 @@ class Server:
         return len(os.listdir(f"/proc/{self.process.pid}/fd"))
 
     def settled(self, most):
-        """Whether the server comes down to so many descriptors."""
-        for _ in range(100):
+        """Whether the server comes down to so many descriptors, in half a minute: a busy machine takes seconds."""
+        for _ in range(600):
             if self.descriptors() <= most:
                 return True
             time.sleep(0.05)
