@@ -128,7 +128,8 @@ impl Blob {
     pub fn read_ends(&self) -> u64 {
         match self.as_slice() {
             [first, .., last] => u64::from(*first).wrapping_add(u64::from(*last)),
-            _ => 0,
+            [only] => u64::from(*only),
+            [] => 0,
         }
     }
 

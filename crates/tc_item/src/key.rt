@@ -59,8 +59,8 @@ pub struct Key {
     bytes: KeyBytes,
 }
 
-/// A key's bytes: so many of the first of some in place, or those that it shares with its copies. How many they
-/// are stands before them, so that they lie at an even place of a key and are copied in pieces that do not overlap.
+/// A key's bytes: in place, of which the first so many are the key's, or shared with its copies. How many are the
+/// key's stands before them. So they begin at an even place, and are copied in pieces that do not overlap.
 #[derive(Drop)]
 enum KeyBytes {
     Short(u8, [u8; IN_PLACE]),

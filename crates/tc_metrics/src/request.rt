@@ -1,5 +1,5 @@
 //! What a scraper asks, and how it is answered.
-ghost use Rattle.std.specs.Prelude.{◌≡◌, ◌≤◌, ◌++◌, ℕ, List, length, Some, None, OnOk, IsNone};
+ghost use Rattle.std.specs.Prelude.{◌≡◌, ◌≤◌, ◌++◌, ℕ, List, length, Some, None, OnOk, IfOk, IsNone};
 ghost use Rattle.httparse.specs.Grammar.{RequestHead, ReadsRequest, HasNoRequest};
 ghost use Rattle.tc_metrics.specs.Replies.{status_of, answer_to, status_line, common_lines, header_lines};
 ghost use Rattle.tc_metrics.specs.Replies.{reply_of};
@@ -8,6 +8,7 @@ use crate::text::write;
 use httparse::spans::{EMPTY_HEADER_SPAN, parse_request};
 use httparse::{Error, Status};
 use itoa::Buffer;
+use std::alloc::Global;
 use tc_item::NoMemory;
 
 /// The most bytes of a request's head.
@@ -107,12 +108,14 @@ fn write_headers(out: &mut Vec<u8>, length: usize) -> Result<(), NoMemory>
     write(out, b"\r\n\r\n")
 }
 
-/// Puts the reply with this text at the end.
+/// The reply with this text.
 #[tactic(auto, unfolding(crate::specs::Replies::reply_of))]
-pub fn write_reply(out: &mut Vec<u8>, answer: Answer, text: &[u8]) -> Result<(), NoMemory>
-    ensures { OnOk result (out.new.items ≡ out.old.items ++ reply_of answer text.now) }
+pub fn reply(alloc: Global, answer: Answer, text: &[u8]) -> Result<Vec<u8>, NoMemory>
+    ensures { IfOk result (λ reply. reply.items ≡ reply_of answer text.now) }
 {
-    write_status(out, answer)?;
-    write_headers(out, text.len())?;
-    write(out, text)
+    let mut reply = Vec::new(alloc);
+    write_status(&mut reply, answer)?;
+    write_headers(&mut reply, text.len())?;
+    write(&mut reply, text)?;
+    Ok(reply)
 }

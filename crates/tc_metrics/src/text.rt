@@ -1,11 +1,12 @@
 //! The text that a scraper reads.
-ghost use Rattle.std.specs.Prelude.{◌≡◌, ◌++◌, ◌∷◌, [], decimal, OnOk};
+ghost use Rattle.std.specs.Prelude.{◌≡◌, ◌++◌, ◌∷◌, [], decimal, OnOk, IfOk};
 ghost use Rattle.std.specs.List.{flat_map};
 ghost use Rattle.tc_metrics.specs.MetricsText.{type_line, user_line, metric_text, server_line, own_text};
 ghost use Rattle.tc_metrics.specs.MetricsText.{metrics_text};
 
 use crate::{Metric, OwnMetric, ServerFigures, UserFigures};
 use itoa::Buffer;
+use std::alloc::Global;
 use tc_item::NoMemory;
 
 /// Puts bytes at the end.
@@ -109,14 +110,16 @@ fn write_server(
     Ok(())
 }
 
-/// Puts all that a scraper reads at the end: of each metric each user's line, then the server's own.
+/// All that a scraper reads: of each metric each user's line, then the server's own.
 pub fn render(
-    out: &mut Vec<u8>,
+    alloc: Global,
     users: &[UserFigures],
     server: &ServerFigures,
-) -> Result<(), NoMemory>
-    ensures { OnOk result (out.new.items ≡ out.old.items ++ metrics_text users.now server.now) }
+) -> Result<Vec<u8>, NoMemory>
+    ensures { IfOk result (λ text. text.items ≡ metrics_text users.now server.now) }
 {
-    write_metrics(out, &Metric::all(), users)?;
-    write_server(out, &OwnMetric::all(), server)
+    let mut text = Vec::new(alloc);
+    write_metrics(&mut text, &Metric::all(), users)?;
+    write_server(&mut text, &OwnMetric::all(), server)?;
+    Ok(text)
 }

@@ -10,7 +10,7 @@ use std::sync::Wait;
 use tc_grammar::Command;
 use tc_item::NoMemory;
 use tc_locked::{CallFault, Clock, Hall, Naming, Seat};
-use tc_metrics::{Answer, ServerFigures, UserFigures, render, write_reply};
+use tc_metrics::{Answer, ServerFigures, UserFigures, render, reply};
 use tc_plain::Cache;
 use tc_stats::{Counters, Outcome};
 use tc_users::{UserNo, Users};
@@ -159,9 +159,7 @@ impl Scraping {
             resident: from.audience.resident(),
             uptime: from.connections.second().saturating_sub(1),
         };
-        let mut text = Vec::new(self.alloc);
-        render(&mut text, &self.figures, &server)?;
-        Ok(text)
+        Ok(render(self.alloc, &self.figures, &server)?)
     }
 
     /// The reply to a request that is answered so; without a text where memory for it is refused.
@@ -171,16 +169,13 @@ impl Scraping {
         seat: &mut Seat<N>,
         answer: Answer,
     ) -> Result<Vec<u8>, NoMemory> {
-        let mut reply = Vec::new(self.alloc);
         if answer != Answer::Told {
-            write_reply(&mut reply, answer, b"")?;
-            return Ok(reply);
+            return reply(self.alloc, answer, b"");
         }
         match self.tell(from, seat) {
-            Ok(text) => write_reply(&mut reply, Answer::Told, &text)?,
-            Err(_) => write_reply(&mut reply, Answer::Refused, b"")?,
+            Ok(text) => reply(self.alloc, Answer::Told, &text),
+            Err(_) => reply(self.alloc, Answer::Refused, b""),
         }
-        Ok(reply)
     }
 
     /// The turn of one peer. Whether it stays.

@@ -7,9 +7,7 @@ use std::process::Abort;
 use std::str;
 use std::test::Fail;
 use tc_item::NoMemory;
-use tc_metrics::{
-    Answer, MOST_HEAD, ServerFigures, UserFigures, read_request, render, write_reply,
-};
+use tc_metrics::{Answer, MOST_HEAD, ServerFigures, UserFigures, read_request, render, reply};
 use tc_stats::Counters;
 
 /// What is told of the server.
@@ -68,9 +66,7 @@ fn figures(
 fn told(alloc: Global) -> Result<Vec<u8>, NoMemory> {
     let alice = figures(alloc, "alice", 2, 70, 9)?;
     let bob = figures(alloc, "b-1", 0, 8, 10)?;
-    let mut text = Vec::new(alloc);
-    render(&mut text, &[alice, bob], &SERVER)?;
-    Ok(text)
+    render(alloc, &[alice, bob], &SERVER)
 }
 
 /// Whether a part stands in a text.
@@ -149,11 +145,10 @@ fn a_head_of_more_than_64_lines_is_refused(rt: HostRuntime) -> Result<(), Fail> 
 
 #[test]
 fn a_reply_says_how_long_its_text_is(rt: HostRuntime) -> Result<(), Fail> {
-    let mut out = Vec::new(rt.alloc());
-    write_reply(&mut out, Answer::NotFound, b"no\n")?;
+    let reply = reply(rt.alloc(), Answer::NotFound, b"no\n")?;
     expect_bytes(
         &rt,
-        &out,
+        &reply,
         b"HTTP/1.1 404 Not Found\r\nContent-Type: text/plain; version=0.0.4\r\nAllow: GET\r\nConnection: close\r\nContent-Length: 3\r\n\r\nno\n",
         "reply",
     );

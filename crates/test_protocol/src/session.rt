@@ -235,7 +235,6 @@ fn a_bound_command_is_handed_to_its_users_cache(rt: HostRuntime) -> Result<(), F
     expect_owners(&rt, true, &CALLED)
 }
 
-/// Whether the connection is closed.
 /// Reads a request ahead, and asks for it.
 fn expect_ahead(
     rt: &(impl AllocGlobal + Abort),
@@ -261,6 +260,7 @@ fn a_request_that_was_read_ahead_is_taken_when_it_is_asked_for(
     Ok(())
 }
 
+/// Whether the connection is closed.
 fn state_of(session: &Session) -> State {
     if session.is_closed() {
         State::Closed
