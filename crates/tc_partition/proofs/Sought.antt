@@ -14,11 +14,11 @@ use Rattle.tc_plain.specs.Doing.{looked_up}
 use Rattle.tc_plain.specs.Soundness.{AreSound}
 use Rattle.tc_plain.proofs.Asked.{held-used}
 use Rattle.tc_plain.proofs.Used.{held_key}
-use Rattle.tc_partition.specs.Deferred.{Lazy, IsLazy, peeked, settled, raised_to, deferred}
+use Rattle.tc_partition.specs.Deferred.{Lazy, IsLazy, peeked, settled, raised_to}
 use Rattle.tc_partition.specs.LiveSlots.{live_of}
 use Rattle.tc_partition.specs.declared.live_slots.LiveSlots.{LiveSlots}
 use Rattle.tc_partition.specs.WaitingSlots.{SeeksSlot, AreSought, placed_in}
-use Rattle.tc_partition.proofs.Deferral.{look_answer, noted_lazy, raised_settled, raised_lazy}
+use Rattle.tc_partition.proofs.Deferral.{look_answer, raised_settled, raised_lazy}
 
 -- what is at a place that was found is what its key will hold
 pub placed_sought : (place : Option Slot) (m : ℕ) (key : List ℕ) (s : LiveSlots) → SeeksSlot place m key s
@@ -83,7 +83,3 @@ pub held_then : (f : Lazy) (now m : ℕ) (q : List ℕ) → IsLazy f → m ≡ m
 held_then f now m q h e =
     ap (λ (l : EvictionState). held q l.areas) (sym (raised_settled f now h))
     ∙ look_answer (raised_to f now) q (raised_lazy f now h) ∙ ap (λ t. held q (at_moment t f.base).areas) (sym e)
-
--- a look-up that waits changes nothing that a key holds
-pub held_noted : (f : Lazy) (key q : List ℕ) → IsLazy f → held q (settled (deferred f key)).areas ≡ held q (settled f).areas
-held_noted f key q h = look_answer (deferred f key) q (noted_lazy f key h) ∙ sym (look_answer f q h)

@@ -12,12 +12,6 @@ abbrev pub noted_at : ℕ → Option Slot → LookUp
 noted_at h None = MissNoted h
 noted_at h (Some slot) = HitNoted slot h
 
--- what is noted of keys of these hashes that were found so, one after another, at a moment
-abbrev pub all_noted : ℕ → List ℕ → List (Option Slot) → List (LookUp × ℕ)
-all_noted m [] found = []
-all_noted m (h ∷ hashes) [] = []
-all_noted m (h ∷ hashes) (place ∷ found) = (noted_at h place, m) ∷ all_noted m hashes found
-
 -- the hash of each key
 abbrev pub AreHashed : List (List ℕ) → List ℕ → Type 0
 AreHashed [] [] = Unit {0}

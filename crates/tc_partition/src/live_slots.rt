@@ -164,16 +164,6 @@ impl LiveSlots {
         }
     }
 
-    /// The same, of a key that was found at this place then, or that holds nothing at the moment.
-    pub(crate) fn seek_again(&self, place: Option<Slot>, key: &Key, moment: Moment) -> Option<Slot>
-        requires sound { AreSound self.now.held.limits self.now.held.areas }
-        requires missed { place ≡ None → peeked moment key.now (live_of self.now) ≡ None }
-        ensures { SeeksSlot result moment key.now self.now }
-    {
-        let slot = place?;
-        self.seek_from(slot, key, moment)
-    }
-
     /// What is held at the place that was found for a key.
     pub(crate) fn held_at(&self, place: Option<Slot>) -> Option<&Entry>
         ensures placed { option_copied result ≡ placed_in self.now.held.slots place }

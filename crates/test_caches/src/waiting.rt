@@ -26,7 +26,7 @@ enum Deed {
 /// A deed, and how many look-ups wait behind it.
 type Turn = (Deed, usize);
 
-static TURNS: [Turn; 30] = [
+static TURNS: [Turn; 31] = [
     (Deed::Does("set k 0 0 1", 1), 0),
     (Deed::Does("get k", 128), 128),
     (Deed::Maintains(100), 28),
@@ -36,8 +36,9 @@ static TURNS: [Turn; 30] = [
     (Deed::Maintains(128), 0),
     (Deed::Does("get z", 128), 128),
     (Deed::Does("gets z", 1), 1),
-    (Deed::Does("get k z k", 42), 127),
-    (Deed::Does("gets k z k", 1), 2),
+    (Deed::Does("get k z k", 1), 0),
+    (Deed::Does("gets z", 2), 2),
+    (Deed::Does("gets k z k", 1), 0),
     (Deed::Does("set k 0 0 1", 1), 0),
     (Deed::ReadsAhead, 0),
     (Deed::Does("gets k", 3), 3),
