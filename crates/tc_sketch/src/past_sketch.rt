@@ -3,10 +3,13 @@
 //! Each call changes what is live by the equation that `Sketch` has for it, and leaves the past.
 ghost use Rattle.std.specs.Prelude.{◌≡◌, ◌+◌, ◌*◌, ◌^◌, ◌<◌, ◌≤◌, replicate, IfOk};
 ghost use Rattle.tc_past.specs.Told.{all_told, live_with, prepared, turned};
-ghost use Rattle.tc_sketch.specs.Sketch.{empty_sketch, recorded, freq};
+ghost use Rattle.tc_sketch.specs.Sketch.{empty_sketch, aged, recorded, freq};
+ghost use Rattle.tc_sketch.specs.PastSketches.{counted_in, one_more};
 ghost use Rattle.tc_sketch.specs.CountingLaw.{CountsRecords};
 
+use crate::lanes::MOST_COUNTED;
 use crate::past_row::PastRow;
+use crate::saturated::Saturated;
 use crate::sketch::{
     MULTIPLIER_0, MULTIPLIER_1, MULTIPLIER_2, MULTIPLIER_3, Sketch, place, records_before_halving,
 };
@@ -24,6 +27,8 @@ pub struct PastSketch {
     row2: PastRow,
     row3: PastRow,
     count: PastValue<u32>,
+    /// Hashes whose counters no record raises.
+    saturated: Saturated,
 }
 
 impl Model for PastSketch {
@@ -35,7 +40,7 @@ impl Model for PastSketch {
 
     ghost view = { λ s. told_sketch s.width s.row0 s.row1 s.row2 s.row3 s.count };
 
-    ghost invariant = { λ s. IsPastSketch s.width
+    ghost invariant = { λ s. IsPastSketch s.width s.saturated
         (told_sketch s.width s.row0 s.row1 s.row2 s.row3 s.count) };
 }
 
@@ -46,6 +51,7 @@ impl PastSketch {
         requires at_most { width ≤ 22 }
         ensures { IfOk result (λ s. s ≡ all_told (empty_sketch width)) }
     {
+        let saturated = Saturated::new(alloc, width)?;
         let (row0, row1) = two_rows(alloc, width, journal)?;
         let (row2, row3) = two_rows(alloc, width, journal)?;
         Ok(PastSketch {
@@ -55,36 +61,59 @@ impl PastSketch {
             row2,
             row3,
             count: PastValue::new(0),
+            saturated,
         })
     }
 
-    /// Records that a key with this hash was seen.
-    #[inline(always)]
-    pub fn record(&mut self, hash: u64)
-        ensures recorded { self.new ≡ live_with (recorded self.old.live hash) self.old }
-        ensures counting { CountsRecords self.new.live }
+    /// Raises the four counters of a hash, or notes that none is to be raised.
+    fn raise(&mut self, hash: u64)
+        ensures { self.new ≡ live_with (counted_in hash self.old.live) self.old }
     {
+        if self.freq(hash) == MOST_COUNTED {
+            self.saturated.note(hash);
+            return;
+        }
         let width = self.width;
         self.row0.raise(place(width, MULTIPLIER_0, hash));
         self.row1.raise(place(width, MULTIPLIER_1, hash));
         self.row2.raise(place(width, MULTIPLIER_2, hash));
         self.row3.raise(place(width, MULTIPLIER_3, hash));
+    }
+
+    /// Counts a record, and halves all counters where that is due.
+    fn count_one(&mut self)
+        ensures { self.new ≡ live_with (aged (one_more self.old.live)) self.old }
+    {
         let count = self.count.get() + 1;
-        let limit = records_before_halving(width);
-        if count == limit {
+        if count == records_before_halving(self.width) {
             self.row0.halve();
             self.row1.halve();
             self.row2.halve();
             self.row3.halve();
             self.count.set(count / 2);
+            self.saturated.clear();
         } else {
             self.count.set(count);
         }
     }
 
+    /// Records that a key with this hash was seen.
+    pub fn record(&mut self, hash: u64)
+        ensures recorded { self.new ≡ live_with (recorded self.old.live hash) self.old }
+        ensures counting { CountsRecords self.new.live }
+    {
+        if !self.saturated.has(hash) {
+            self.raise(hash);
+        }
+        self.count_one();
+    }
+
     /// Reads what a record of this hash writes, so that several wait for memory together. What that comes
     /// to says nothing.
     pub fn read(&self, hash: u64) -> u64 {
+        if self.saturated.has(hash) {
+            return 0;
+        }
         let width = self.width;
         let word0 = self.row0.read(place(width, MULTIPLIER_0, hash));
         let word1 = self.row1.read(place(width, MULTIPLIER_1, hash));
