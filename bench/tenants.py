@@ -1,7 +1,7 @@
 #!/usr/bin/env python3
 """Whether one tenant, or a stranger without a login, can hurt the others.
 
-usage: bench/tenants.py PROGRAM [--only NAMES] [--quick] [--seconds S]
+usage: bench/tenants.py PROGRAM [--only NAMES] [--quick] [--seconds S] [--steal P]
        bench/tenants.py --memcached          the control: memcached -t 4 -m 64 -c 1024 -Y
        bench/tenants.py --list
 
@@ -14,7 +14,10 @@ whatever is promised. Latencies are milliseconds, p50/p99/longest. It ends with 
 
 Only processes that were started here are stopped, by their pids; a server that grows past --cap, or
 leaves the machine less than 3.5 GiB, is stopped too. It takes some seven minutes and 3 GiB at most;
---quick is what asks for no time, in some 40 seconds."""
+--quick is what asks for no time, in some 40 seconds.
+
+On a virtual machine the host may take processors away, which Linux counts as stolen. With --steal P a check
+that fails while it takes more than P per cent of the processors' time is made again, three times in all."""
 import argparse
 import collections
 import os
@@ -882,6 +885,31 @@ def endings():
         return worst <= 0.1 and s.fds() <= f0, "%.2f processors at most while nothing is to be done, %d descriptors, %d before [<= 0.10, as before]" % (worst, s.fds(), f0)
 
 
+def machine_time():
+    """what the host stole of the processors' time, and all of that time, in ticks"""
+    ticks = [int(word) for word in Path("/proc/stat").read_text().splitlines()[0].split()[1:9]]
+    return ticks[7], sum(ticks)
+
+
+def outcome(f):
+    try:
+        return f()
+    except Exception as e:
+        return False, "%s: %s" % (type(e).__name__, e)
+
+
+def tried(f):
+    """a check, and once more where it fails while the host takes more time than it may"""
+    for tries_left in (2, 1, 0):
+        steal_then, then = machine_time()
+        ok, text = outcome(f)
+        steal, now = machine_time()
+        share = 100 * (steal - steal_then) / max(now - then, 1)
+        if ok or share <= O.steal or not tries_left:
+            return ok, text
+        print("     again  %-29s %.1f %% stolen" % (f.__name__, share), flush=True)
+
+
 def main():
     global O
     p = argparse.ArgumentParser(description=__doc__, formatter_class=argparse.RawDescriptionHelpFormatter)
@@ -891,6 +919,7 @@ def main():
     p.add_argument("--quick", action="store_true")
     p.add_argument("--list", action="store_true")
     p.add_argument("--seconds", type=float, default=2.5, help="how long a quiet tenant is watched")
+    p.add_argument("--steal", type=float, default=100, help="per cent of a check's time that the host may take; default: all")
     p.add_argument("--cap", type=float, default=3072, help="MiB at which a server is stopped")
     O = p.parse_args()
     if O.list:
@@ -906,10 +935,7 @@ def main():
         if f.__name__ not in only or O.memcached and f.__name__ in ("turns_256", "turns_4096", "hint_collisions"):
             continue
         t = time.time()
-        try:
-            ok, text = f()
-        except Exception as e:
-            ok, text = False, "%s: %s" % (type(e).__name__, e)
+        ok, text = tried(f)
         passed, failed = passed + ok, failed + (not ok)
         print("%s %5.1f s  %-29s %s" % ("pass" if ok else "FAIL", time.time() - t, f.__name__, text), flush=True)
     print("%d passed, %d failed" % (passed, failed))
