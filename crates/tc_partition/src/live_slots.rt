@@ -123,10 +123,10 @@ impl LiveSlots {
         slots[place]
     }
 
-    /// Reads what look-ups of keys of these hashes are going to read, as many as `slots` has places, and puts down
-    /// where their hints say that they are. To know where an entry lies is to have read its hint, and where data
-    /// lies its entry, so all hints are looked into first, then all entries are read with their nodes in the lists,
-    /// which deferred work will ask for.
+    /// Reads what look-ups of keys of these hashes are going to read and to change, as many as `slots` has places,
+    /// and puts down where their hints say that they are. To know where an entry lies is to have read its hint, and
+    /// where data lies its entry, so all hints are looked into first, then all entries are read with their nodes in
+    /// the lists, and then what these lead to.
     fn read_together(&self, hashes: &[u64], slots: &mut [Slot; TOGETHER]) {
         for (slot, hash) in slots.iter_mut().zip(hashes) {
             *slot = self.hints.slot(*hash);
@@ -136,10 +136,25 @@ impl LiveSlots {
             sum = sum.wrapping_add(self.held.read_node(*slot));
             sum = sum.wrapping_add(self.held.read_entry(*slot));
         }
-        for (slot, _) in slots.iter().zip(hashes) {
+        for (slot, hash) in slots.iter().zip(hashes) {
             sum = sum.wrapping_add(self.held.read_data(*slot));
+            sum = sum.wrapping_add(self.read_changed(*slot, *hash));
         }
         have_read(sum);
+    }
+
+    /// Reads what a hit in this slot of a key of this hash changes: its links in the lists, and its counters. What
+    /// that comes to says nothing; so in the one below.
+    fn read_changed(&self, slot: Slot, hash: u64) -> u64 {
+        self.held.read_links(slot) ^ self.sketch.read(hash)
+    }
+
+    /// Reads what a look-up that was noted will change.
+    pub(crate) fn read_noted(&self, noted: LookUp) -> u64 {
+        match noted {
+            LookUp::Hit(slot, hash) => self.read_changed(slot, hash),
+            LookUp::Miss(hash) => self.sketch.read(hash),
+        }
     }
 
     /// Where what a key will hold at the moment is, which may be this slot: where it is there, the index
@@ -235,20 +250,6 @@ impl LiveSlots {
         self.held.owning();
         self.sketch.record(key_hash);
         self.held.access_at(slot);
-    }
-
-    /// Reads what a look-up that was noted will change: its counters, and its links in the lists. What that
-    /// comes to says nothing.
-    pub(crate) fn read_noted(&self, noted: LookUp) -> u64
-        requires { IsPlaced self.now.held.slots noted }
-    {
-        match noted {
-            LookUp::Hit(slot, hash) => {
-                let links = self.held.read_links(slot);
-                links ^ self.sketch.read(hash)
-            }
-            LookUp::Miss(hash) => self.sketch.read(hash),
-        }
     }
 
     /// One look-up of a key of this hash that holds nothing.

@@ -7,7 +7,8 @@
 //!
 //! Where it is off, what contracts see of the past has as many places as there are.
 ghost use Rattle.std.specs.Prelude.{◌≡◌, List, ◌<◌, ◌≤◌, ◌^◌, [], length, slice_index_or, slice_set, map};
-ghost use Rattle.std.specs.Prelude.{is_ok, IfOk, OnErr, if◌then◌else◌};
+ghost use Rattle.std.specs.Prelude.{is_ok, IfOk, OnErr, if◌then◌else◌, true, false};
+ghost use Rattle.std.specs.Fn.{FnOnceTakesAtMut, FnOnceReturnsAtMut};
 ghost use Rattle.tc_past.specs.Told.{Told, prepared, turned, live_with, grown, all_told};
 
 use crate::journal::Journal;
@@ -89,6 +90,25 @@ impl<T: Copy> Past<T> {
         self.remembered.note_held(&self.live, at);
         let held = self.live[at];
         self.live[at] = f(held);
+    }
+
+    /// Has places hold what f leaves in them, where the journal is off, and says whether it did: nothing is noted
+    /// of what changes then, so that f need not ask at each place.
+    #[inline(always)]
+    pub fn rewrite<F: FnOnce(&mut [T])>(&mut self, f: F) -> bool
+        requires { FnOnceTakesAtMut F.FnOnce f self.old.live }
+        ensures rewritten { result ≡ true
+            → FnOnceReturnsAtMut F.FnOnce f self.old.live tt self.new.live }
+        ensures past { result ≡ true → self.new ≡ live_with self.new.live self.old }
+        ensures left { result ≡ false → self.new ≡ self.old }
+    {
+        match &self.remembered {
+            Remembered::Logged(_) => false,
+            Remembered::Unlogged(_) => {
+                f(&mut self.live);
+                true
+            }
+        }
     }
 
     /// Places up to this number, which hold `blank`, now and in the past. A refusal changes nothing.

@@ -1,11 +1,11 @@
 -- What a write to one node does to the lists of links.
-use Rattle.std.specs.Prelude.{if◌then◌else◌, map, slice_set, slice_index_or, replicate}
-use Rattle.std.proofs.Common.{◌≡◌, Bool, true, false, ℕ, zero, suc, ◌-◌, ◌<◌, ◌≤◌, List, ◌∷◌, ◌++◌, length, take, refl, sym, ◌∙◌, ap, arith}
+use Rattle.std.specs.Prelude.{if◌then◌else◌, map, slice_set, slice_index, slice_index_or, replicate}
+use Rattle.std.proofs.Common.{◌≡◌, Bool, true, false, ℕ, zero, suc, ◌-◌, ◌<◌, List, ◌∷◌, ◌++◌, length, refl, sym, ◌∙◌, ap, arith}
 use Rattle.std.proofs.Math.Seq.{map-set_same}
-use Rattle.std.proofs.lemmas.List.{get_or-map, length-map, map-append, map-set, take_all}
+use Rattle.std.proofs.lemmas.List.{get_or-map, length-map, map-append, map-set}
 use Rattle.tc_past.specs.Told as past
 use Rattle.tc_past.specs.Told.{Told, told_by, lengthened}
-use Rattle.tc_ring.specs.Links.{Links, grown}
+use Rattle.tc_ring.specs.Links.{Links, grown, linked_behind, noted, unlinked}
 use Rattle.tc_ring.specs.Nodes.{links}
 use Rattle.tc_ring.specs.declared.ring.Node.{Node}
 
@@ -59,6 +59,23 @@ module _ {N : Type 0} where
       let x : Node N = record n { note = note } in
       same_links _ _ _ _ _ _ (kept_field (λ n. n.next) ns at n x w refl) (kept_field (λ n. n.prev) ns at n x w refl)
       (map-set (λ n. n.note) ns at x)
+
+  -- a node is taken out by the links that it has
+  pub unlinked_by : (at before after : ℕ) (l m : Links N) → before ≡ slice_index l.prev at → after ≡ slice_index l.next at
+      → m ≡ record l { next = slice_set l.next before after }
+      → (let o : Links N = record m { prev = slice_set m.prev after before } in o) ≡ unlinked at l
+  unlinked_by at before after l m e f g = cc
+
+  -- a node is put in by three writes: of the one before it, of its own, and of the one behind it
+  pub linked_by : (at before after : ℕ) (note : N) (l p q : Links N) → after ≡ slice_index l.next before
+      → p ≡ record l { next = slice_set l.next before at } → q ≡ record {
+        next = slice_set p.next at after;
+        prev = slice_set p.prev at before;
+        notes = slice_set p.notes at note;
+      }
+      → (let o : Links N = record q { prev = slice_set q.prev after at } in o)
+      ≡ noted at note (linked_behind before at l)
+  linked_by at before after note l p q e f g = cc
 
   -- nodes that come
   pub links-lengthened : (n : ℕ) (free : N) (ns : List (Node N))

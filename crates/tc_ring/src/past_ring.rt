@@ -7,7 +7,7 @@ ghost use Rattle.tc_past.specs.Told.{all_told, live_with, prepared, turned, told
 ghost use Rattle.tc_model.specs.Ring.{HasPlace};
 ghost use Rattle.tc_ring.specs.Links.{Links, linked_behind, unlinked, noted, grown, AreMarks, IsNew};
 
-use crate::ring::{MOST_NODES, Node, Ring, alone};
+use crate::ring::{MOST_NODES, Node, Ring, alone, move_in};
 use std::alloc::Global;
 use std::marker::Model;
 use tc_item::{NoMemory, Slot};
@@ -168,6 +168,23 @@ impl<N: Copy, const MARKS: usize> PastRing<N, MARKS> {
         self.set_next(before, at);
         self.set_node(at, after, before, note);
         self.set_prev(after, at);
+    }
+
+    /// Moves a node behind another, and notes something of its slot.
+    #[inline(always)]
+    pub fn move_behind(&mut self, before: usize, at: usize, note: N)
+        requires linked { HasPlace self.old.live.next self.old.live.prev at }
+        requires before { before < length self.old.live.next }
+        requires after { slice_index (unlinked at self.old.live).next before
+            < length self.old.live.next }
+        ensures { self.new ≡ live_with (noted at note (linked_behind before at
+            (unlinked at self.old.live))) self.old }
+    {
+        let is_moved = self.nodes.rewrite(|nodes| move_in(nodes, before, at, note));
+        if !is_moved {
+            self.unlink(at);
+            self.link_behind(before, at, note);
+        }
     }
 
     /// Notes something of the slot of a node.

@@ -12,7 +12,7 @@ use tc_item::NoMemory;
 /// The hash that stands where none was noted. It is never found.
 const BLANK: u64 = 0;
 
-/// A sketch has so many times as many counters a row, as a power of two: a table takes as much memory as a row.
+/// A table has room for one hash for each 2^4 counters of a row, so it takes as much memory as a row.
 const FEWER: u32 = 4;
 
 /// Hashes that were noted, each in the place of its lowest bits, where it took that of another.

@@ -285,11 +285,12 @@ impl Slots {
     }
 
     /// Reads what an access of what a slot holds changes of the lists beside its node: the nodes next to it.
-    pub fn read_links(&self, slot: Slot) -> u64
-        requires { IsSome (slice_index_or self.now.slots slot.0 None) }
-    {
-        let _ = &self.index;
-        self.lists.read(slot)
+    pub fn read_links(&self, slot: Slot) -> u64 {
+        if self.lists.holds(slot) {
+            self.lists.read(slot)
+        } else {
+            0
+        }
     }
 
     /// The key of what a slot holds; no bytes where it holds nothing.

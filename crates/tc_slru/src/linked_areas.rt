@@ -262,8 +262,7 @@ impl LinkedAreas {
             weight: held.weight,
             area: Some(area),
         };
-        self.nodes.unlink(at);
-        self.nodes.link_behind(mark, at, note);
+        self.nodes.move_behind(mark, at, note);
         count_moved(&mut self.sizes, from, node.note.weight, area, held.weight);
     }
 

@@ -75,6 +75,39 @@ fn a_vector_is_alike_with_the_journal_off_and_its_past_is_refused(
     Ok(())
 }
 
+/// Three places that are rewritten at once, which is done where the journal is off.
+fn expect_rewritten(rt: &impl Abort, alloc: Global, journal: Journal) -> Result<(), NoMemory> {
+    let mut past = Past::new(alloc, journal);
+    let expected = expect_filled(rt, alloc, &mut past, journal);
+    drop(past);
+    expected
+}
+
+/// The same of this vector.
+fn expect_filled(
+    rt: &impl Abort,
+    alloc: Global,
+    past: &mut Past<u8>,
+    journal: Journal,
+) -> Result<(), NoMemory> {
+    past.reserve_to(3, 7)?;
+    let is_rewritten = past.rewrite(|held| held.fill(9));
+    let want: &[u8] = match journal {
+        Journal::On => &[7, 7, 7],
+        Journal::Off => &[9, 9, 9],
+    };
+    assert!(rt; is_rewritten == (journal == Journal::Off));
+    assert!(rt; are_items(past.copy(alloc)?.as_slice(), want));
+    Ok(())
+}
+
+#[test]
+fn a_vector_is_rewritten_at_once_with_the_journal_off_alone(rt: HostRuntime) -> Result<(), Fail> {
+    expect_rewritten(&rt, rt.alloc(), Journal::On)?;
+    expect_rewritten(&rt, rt.alloc(), Journal::Off)?;
+    Ok(())
+}
+
 #[test]
 fn a_sketch_is_alike_with_the_journal_off_and_its_past_is_refused(
     rt: HostRuntime,

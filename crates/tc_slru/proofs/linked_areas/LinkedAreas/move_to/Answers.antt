@@ -31,33 +31,20 @@ unwrap-from-requires c =
     rw (area_noted c.node-node.result.note c.place-at.result c.self.inside.nodes.live c.node-node.ensures.note, c.place-at.ensures.node)
     (rw held.1.own_area refl)
 
-pub unlink-requires : goal.unlink-requires
-unlink-requires c =
-    let held = held_shown (links_of c.self.inside.nodes.live) c.self.inside.sizes.live c.args.held.slot.0 c.args.self.now.live (ap (λ t. t.live) c.self.view_is)
-    c.requires.held c.self.invariant.live in
-    (omega arith, rw c.place-at.ensures.node held.1.place)
-
-pub link_behind-requires : goal.link_behind-requires
-link_behind-requires c =
+pub move_behind-requires : goal.move_behind-requires
+move_behind-requires c =
     let held = held_shown (links_of c.self.inside.nodes.live) c.self.inside.sizes.live c.args.held.slot.0 c.args.self.now.live (ap (λ t. t.live) c.self.view_is)
     c.requires.held c.self.invariant.live in
     let on = taken_on c.unwrap-from.result c.self.inside.nodes.live c.self.inside.sizes.live c.args.held.slot.0 c.place-at.result
     c.node-node.result.note c.place-at.ensures.node c.node-node.ensures.note (sym c.unwrap-from.ensures)
     (rw (← c.self.view_is) at c.requires.held) c.self.invariant.live in
     let mark = mark_within c.args.area _ _ _ on.nodes in
-    rw (ap (λ t. t.live) c.unlink.ensures, c.mark_of-mark.ensures) (
+    let long = length-cut c.self.inside.nodes.live.next c.self.inside.nodes.live.prev c.place-at.result in
+    rw c.mark_of-mark.ensures (
       omega arith,
       (
-        mark.0,
-        (
-          omega (
-            arith,
-            held.1.place.own,
-            c.place-at.ensures.node,
-            length-cut c.self.inside.nodes.live.next c.self.inside.nodes.live.prev c.place-at.result,
-          ),
-          mark.1,
-        ),
+        rw c.place-at.ensures.node held.1.place,
+        (omega (arith, mark.0, long), omega (arith, mark.1, long)),
       ),
     )
 
@@ -107,15 +94,12 @@ invariant_of-self c =
     let s = c.self.inside.sizes in
     let held = held_shown (links_of c.self.inside.nodes.live) c.self.inside.sizes.live c.args.held.slot.0 c.args.self.now.live (ap (λ t. t.live) c.self.view_is)
     c.requires.held c.self.invariant.live in
-    each_live r c.link_behind.new.self s c.count_moved.new.sizes
-    (page_goes_on r c.unlink.new.self c.link_behind.new.self (page_stays r c.unlink.new.self _ c.unlink.ensures)
-    (page_stays c.unlink.new.self c.link_behind.new.self _ c.link_behind.ensures))
+    each_live r c.move_behind.new.self s c.count_moved.new.sizes (page_stays r c.move_behind.new.self _ c.move_behind.ensures)
     (page_stays s c.count_moved.new.sizes _ c.count_moved.ensures) c.self.invariant
     (moved_by c.unwrap-from.result c.args.area r.live s.live c.args.held.slot.0 c.place-at.result c.mark_of-mark.result
-    c.args.held.weight c.node-node.result.note c.link_behind.new.self.live c.count_moved.new.sizes.live c.place-at.ensures.node
+    c.args.held.weight c.node-node.result.note c.move_behind.new.self.live c.count_moved.new.sizes.live c.place-at.ensures.node
     c.mark_of-mark.ensures c.node-node.ensures.note (sym c.unwrap-from.ensures)
-    (ap (λ t. t.live) (c.link_behind.ensures ∙ ap (λ u. live_with (ring.noted c.place-at.result (note_in c.args.area c.args.held.weight)
-    (ring.linked_behind c.mark_of-mark.result c.place-at.result u.live)) u) c.unlink.ensures))
+    (ap (λ t. t.live) c.move_behind.ensures)
     (ap (λ t. t.live) c.count_moved.ensures)
     (omega (arith, held.1.place.own)) (rw (← c.self.view_is) at c.requires.held) c.self.invariant.live).nodes
 
@@ -125,15 +109,12 @@ returns c =
     let s = c.self.inside.sizes in
     let held = held_shown (links_of c.self.inside.nodes.live) c.self.inside.sizes.live c.args.held.slot.0 c.args.self.now.live (ap (λ t. t.live) c.self.view_is)
     c.requires.held c.self.invariant.live in
-    shown_live r c.link_behind.new.self s c.count_moved.new.sizes _
-    (page_goes_on r c.unlink.new.self c.link_behind.new.self (page_stays r c.unlink.new.self _ c.unlink.ensures)
-    (page_stays c.unlink.new.self c.link_behind.new.self _ c.link_behind.ensures))
+    shown_live r c.move_behind.new.self s c.count_moved.new.sizes _ (page_stays r c.move_behind.new.self _ c.move_behind.ensures)
     (page_stays s c.count_moved.new.sizes _ c.count_moved.ensures)
     (moved_by c.unwrap-from.result c.args.area r.live s.live c.args.held.slot.0 c.place-at.result c.mark_of-mark.result
-    c.args.held.weight c.node-node.result.note c.link_behind.new.self.live c.count_moved.new.sizes.live c.place-at.ensures.node
+    c.args.held.weight c.node-node.result.note c.move_behind.new.self.live c.count_moved.new.sizes.live c.place-at.ensures.node
     c.mark_of-mark.ensures c.node-node.ensures.note (sym c.unwrap-from.ensures)
-    (ap (λ t. t.live) (c.link_behind.ensures ∙ ap (λ u. live_with (ring.noted c.place-at.result (note_in c.args.area c.args.held.weight)
-    (ring.linked_behind c.mark_of-mark.result c.place-at.result u.live)) u) c.unlink.ensures))
+    (ap (λ t. t.live) c.move_behind.ensures)
     (ap (λ t. t.live) c.count_moved.ensures)
     (omega (arith, held.1.place.own)) (rw (← c.self.view_is) at c.requires.held) c.self.invariant.live).shows
     ∙ ap (λ t. live_with (put_in c.args.area (placed c.args.held.slot.0 c.args.held.weight)
