@@ -102,7 +102,7 @@ impl LiveSlots {
         Ok(())
     }
 
-    /// Reads what look-ups of keys of these hashes are going to read, and does nothing with it.
+    /// Reads what look-ups of keys of these hashes are going to read and to change, and does nothing with it.
     pub(crate) fn read_ahead(&self, hashes: &[u64]) {
         let mut slots = [Slot(0); TOGETHER];
         for some in hashes.chunks(TOGETHER) {
