@@ -4,10 +4,11 @@ function. A busy host does not change them, so they tell of changes that times a
 
 usage: bench/instructions.py PROGRAM [PROGRAM ..] [--loads NAMES] [--functions N]
 
-It starts each `PROGRAM serve` under valgrind's callgrind, on the settings of examples/partcached.toml but for the
-port, one user of 256 MiB and one worker. Ten connections ask as bench/serve.py has them, over 20,000 items that were
-all set before the count begins, so many requests in all. Numbers are instructions a request; those of several
-programs stand side by side, and ratios are to the first. Two runs of one program come to the same within one per cent.
+It starts each `PROGRAM serve` under valgrind's callgrind, as bench/serve.py starts it, with one worker. Ten
+connections of one user ask for what `LOADS` says, over 20,000 items that were all set before the count begins. Numbers
+are instructions a request; those of several programs stand side by side, and ratios are to the first. Two runs of one
+program come to the same within one per cent. Under the lock is what calls of a user's book take: not what is read
+ahead for several connections, nor what stands between two calls.
 
 What is zeroed and copied is read off the instructions: a store of a register of 16 bytes that was cleared just
 before, or of a zero, and other moves of such registers to and from memory. A function begins by zeroing all places
@@ -20,50 +21,47 @@ import re
 import subprocess
 import sys
 import tempfile
-import time
 from pathlib import Path
 
-from serve import BENCH, free_port, settings
+from serve import BENCH, Server, ask, fill
 
 # how bench/load.c is asked for each load, and how many requests are counted
+ALL = "-c 10 -k 20000 -v 100"
 LOADS = {
-    "single": ("-g 90", 20_000),
-    "pipelined": ("-P 16 -g 90", 40_000),
-    "many": ("-g 100 -m 50", 2_000),
-    "sets": ("-P 16 -g 0", 40_000),
+    "single": (f"{ALL} -g 90", 20_000),
+    "pipelined": (f"{ALL} -P 16 -g 90", 40_000),
+    "many": (f"{ALL} -g 100 -m 50", 2_000),
+    "sets": (f"{ALL} -P 16 -g 0", 40_000),
 }
-# a call of a user's book, which is what is done under its lock but for what stands between two calls
+# a call of a user's book
 CALL = "HallBook::call"
 CLEARED = re.compile(r"(%xmm\d+),\1$")
 STORED = re.compile(r"(%xmm\d+),.*\(")
 ZERO = re.compile(r"\$0x0,.*\(")
 
 
-def profile(program, words, requests, folder):
+def profile(program, words, requests, asked):
     """What callgrind wrote of a server under a load."""
-    port, out = free_port(), Path(folder, "callgrind.out")
-    config = Path(folder, "config.toml")
-    config.write_text(settings(port, ["alice one"], workers=1))
-    server = subprocess.Popen(["valgrind", "--tool=callgrind", "--instr-atstart=no", "--dump-instr=yes", "--compress-pos=no",
-                               "--compress-strings=no", f"--callgrind-out-file={out}", program, "serve", "--config",
-                               str(config)], stdout=subprocess.DEVNULL, stderr=subprocess.DEVNULL)
+    out, log = Path(asked.folder, "callgrind.out"), Path(asked.folder, "valgrind.log")
+    server = Server(f"valgrind --tool=callgrind --instr-atstart=no --dump-instr=yes --compress-pos=no --compress-strings=no "
+                    f"--callgrind-out-file={out} --log-file={log} {program} serve --config {{config}}", asked)
     try:
-        time.sleep(3)
-        ask = [profile.load, "-j", "-p", str(port), "-L", "alice one", "-t", "1", "-c", "10", "-k", "20000", "-v", "100", *words.split()]
-        for more in (["-n", "1", "-w", "0"], ["-F", "-n", str(requests // 4), "-w", "0"]):
-            subprocess.run([*ask, *more], check=True, stdout=subprocess.DEVNULL)
+        fill(server, words, 1, asked)
+        ask(server, words, 1, asked, "-F", "-n", str(requests // 4), "-w", "0")
         count(server, "on")
-        subprocess.run([*ask, "-F", "-n", str(requests), "-w", "0"], check=True, stdout=subprocess.DEVNULL)
+        run = ask(server, words, 1, asked, "-F", "-n", str(requests), "-w", "0")
         count(server, "off")
     finally:
-        server.terminate()
-        server.wait()
+        server.stop()
+    if not run["good"]:
+        sys.exit(f"bench/instructions.py: a reply that was not right: {run['first']}")
     return out.read_text().splitlines()
 
 
 def count(server, state):
     """Has callgrind begin or stop to count."""
-    subprocess.run(["callgrind_control", "-i", state, str(server.pid)], check=True, stdout=subprocess.DEVNULL, stderr=subprocess.DEVNULL)
+    subprocess.run(["callgrind_control", "-i", state, str(server.process.pid)], check=True, stdout=subprocess.DEVNULL,
+                   stderr=subprocess.DEVNULL)
 
 
 class Counts:
@@ -125,10 +123,10 @@ def moved(counts, program):
     return zeroed, copied
 
 
-def measured(program, load, folder):
+def measured(program, load, asked):
     """The rows of a program under a load, in instructions a request."""
     words, requests = LOADS[load]
-    counts = Counts(profile(program, words, requests, folder), program)
+    counts = Counts(profile(program, words, requests, asked), program)
     zeroed, copied = moved(counts, program)
     rows = {"in all": sum(counts.of.values()), "under the lock": counts.within(CALL), "zeroing": sum(zeroed.values()),
             "copies by 16 bytes": sum(copied.values()),
@@ -147,11 +145,12 @@ def main():
     for load in asked.loads.split(","):
         if load not in LOADS:
             words.error(f"no such load: {load}")
-    with tempfile.TemporaryDirectory() as folder:
-        profile.load = str(Path(folder, "load"))
-        subprocess.run(["cc", "-O2", "-pthread", "-o", profile.load, str(BENCH / "load.c"), "-lm"], check=True)
+    asked.budget, asked.workers, asked.threads = 256 << 20, 1, 1
+    with tempfile.TemporaryDirectory() as asked.folder:
+        asked.load = str(Path(asked.folder, "load"))
+        subprocess.run(["cc", "-O2", "-pthread", "-o", asked.load, str(BENCH / "load.c"), "-lm"], check=True)
         for load in asked.loads.split(","):
-            told = [measured(program, load, folder) for program in asked.programs]
+            told = [measured(program, load, asked) for program in asked.programs]
             show(load, asked.programs, told, asked.functions)
 
 
