@@ -145,13 +145,14 @@ impl Register {
             moment: by.moment,
             conn: by.conn,
         };
-        let (outcome, entry) = self.page.add(numbers, command, copy, acted);
+        let Acted { answer, kept } = acted;
+        let entry = self.page.add(numbers, command, copy, &answer, kept);
         let slip = Slip {
             page: self.turns,
             number,
             tally,
             moment: by.moment,
-            outcome,
+            outcome: answer,
         };
         (slip, entry)
     }
@@ -266,11 +267,7 @@ impl<C: Cache> Book<C> {
             .act(alloc, moment, command, self.register.page.journal)?;
         let (slip, entry) = self.register.enter(by, command, copy, acted);
         self.moment = moment;
-        Ok(Called {
-            slip,
-            entry,
-            left: Vec::new(alloc),
-        })
+        Ok(Called { slip, entry })
     }
 
     /// Deferred work of the cache, at most `limit` pieces of it (`Cache::maintain`).
@@ -283,10 +280,11 @@ impl<C: Cache> Book<C> {
 
     /// `call` on a new page, which begins at what the cache stands for. The turn's memory is taken before
     /// the call, and the page is turned after it, so a refusal changes nothing. The entries of the page
-    /// before stay until new ones take their places, one a call.
+    /// before stay until new ones take their places, one a call. What the turn leaves over goes to `left`.
     fn call_turning(
         &mut self,
         alloc: Global,
+        left: &mut Vec<LeftOver>,
         seat_no: usize,
         now: Moment,
         conn: u32,
@@ -311,11 +309,10 @@ impl<C: Cache> Book<C> {
             moment,
             conn,
         };
-        let mut left = Vec::new(alloc);
         let acted = act_on_next(
             alloc,
             &mut self.cache,
-            &mut left,
+            left,
             self.register.number,
             moment,
             command,
@@ -326,14 +323,15 @@ impl<C: Cache> Book<C> {
         self.register.page.clear();
         let (slip, entry) = self.register.enter(by, command, copy, acted);
         self.moment = moment;
-        Ok(Called { slip, entry, left })
+        Ok(Called { slip, entry })
     }
 
-    /// `call`, after a turn of the page where it has `journal` entries. A refusal of either changes
-    /// nothing.
+    /// `call`, after a turn of the page where it has `journal` entries: what the turn leaves over goes to
+    /// `left`. A refusal of either changes nothing.
     pub fn call_paged(
         &mut self,
         alloc: Global,
+        left: &mut Vec<LeftOver>,
         journal: usize,
         seat_no: usize,
         now: Moment,
@@ -356,7 +354,7 @@ impl<C: Cache> Book<C> {
         if self.register.page.len() < journal {
             self.call(alloc, seat_no, now, conn, command, copy)
         } else {
-            self.call_turning(alloc, seat_no, now, conn, command, copy)
+            self.call_turning(alloc, left, seat_no, now, conn, command, copy)
         }
     }
 

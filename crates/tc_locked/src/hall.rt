@@ -156,12 +156,9 @@ impl<C: Cache, N: Naming> Hall<C, N> {
             drop(copy);
             return Err(CallFault::OtherBook);
         }
-        let Called {
-            slip,
-            entry: _,
-            left,
-        } = book.call(
+        let Called { slip, entry: _ } = book.call(
             alloc,
+            &mut lease.left,
             &self.table.shared,
             seat,
             self.journal,
@@ -170,8 +167,7 @@ impl<C: Cache, N: Naming> Hall<C, N> {
             command,
             copy,
         )?;
-        // What is left over may be much, and others wait for the lock.
-        lease.keep(alloc, number, guard, command, left);
+        lease.keep(alloc, number, guard, command);
         Ok(Receipt {
             user,
             slip,

@@ -19,7 +19,7 @@ use std::marker::{Model, PhantomData};
 use std::mem;
 use tc_grammar::Command;
 use tc_item::Moment;
-use tc_plain::{Cache, Progress};
+use tc_plain::{Cache, LeftOver, Progress};
 use tc_users::UserNo;
 
 /// A book of the hall N, seen as its user, its state and the notes of all its pages.
@@ -47,10 +47,11 @@ impl<C: Cache, N: Naming> Model for HallBook<C, N> {
 
 impl<C: Cache, N: Naming> HallBook<C, N> {
     /// One call of a seat: the book's paged call, and the notes of both seats. It waits for nobody, and
-    /// a refusal changes nothing.
+    /// a refusal changes nothing. What a turn of the page leaves over goes to `left`.
     pub fn call(
         &mut self,
         alloc: Global,
+        left: &mut Vec<LeftOver>,
         table: &Shared,
         seat: &mut Seat<N>,
         journal: usize,
@@ -74,9 +75,16 @@ impl<C: Cache, N: Naming> HallBook<C, N> {
         ensures fault { IfErr result (IsBookFault self.old.book.number) }
         ensures unchanged_on_err { OnErr result ((self.new ≡ self.old) × (seat.new ≡ seat.old)) }
     {
-        let called = self
-            .book
-            .call_paged(alloc, journal, seat.number, now, conn, command, copy)?;
+        let called = self.book.call_paged(
+            alloc,
+            left,
+            journal,
+            seat.number,
+            now,
+            conn,
+            command,
+            copy,
+        )?;
         let badge = mem::replace(&mut self.badge, Badge::blank());
         self.badge = note_both(
             table,

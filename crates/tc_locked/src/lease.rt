@@ -30,8 +30,9 @@ pub struct Lease<'a, C: Cache, N: Naming> {
     user: u32,
     /// What was done since the lock was got.
     done: usize,
-    /// What turns of pages left over, which is let go of once no lock is held.
-    left: Vec<LeftOver>,
+    /// What the turn of a page under it left over. That may be much memory, and others wait for the lock, so it
+    /// is let go of once none is held.
+    pub(crate) left: Vec<LeftOver>,
 }
 
 impl<'a, C: Cache, N: Naming> Lease<'a, C, N> {
@@ -75,23 +76,19 @@ impl<'a, C: Cache, N: Naming> Lease<'a, C, N> {
         self.guard = Some(guard);
     }
 
-    /// Keeps the lock of this user after a command that left this over, or gives it back where enough
-    /// was done under it.
+    /// Keeps the lock of this user after a command, or gives it back where enough was done under it, or where a
+    /// page was turned, so that no more is left over than one turn leaves.
     pub(crate) fn keep(
         &mut self,
         alloc: Global,
         user: u32,
         guard: MutexGuard<'a, HallBook<C, N>>,
         command: &Command,
-        left: Vec<LeftOver>,
     ) {
         self.user = user;
         self.done = self.done.saturating_add(cost_of(command));
         self.guard = Some(guard);
-        if !left.is_empty() {
-            self.left = left;
-        }
-        if self.done >= MOST {
+        if self.done >= MOST || !self.left.is_empty() {
             self.release(alloc);
         }
     }

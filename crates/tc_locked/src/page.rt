@@ -16,7 +16,7 @@ use std::alloc::Global;
 use tc_grammar::Command;
 use tc_item::NoMemory;
 use tc_past::Journal;
-use tc_plain::Acted;
+use tc_plain::KeptOutcome;
 use tc_stats::Outcome;
 
 /// The entries of a page. Where the journal is off, nobody can read them, and they take no memory.
@@ -58,7 +58,7 @@ fn keep(
     command: &Command,
     copy: Option<KeptCommand>,
     answer: &Outcome,
-    outcome: Option<Outcome>,
+    outcome: Option<KeptOutcome>,
 )
     requires copy { copy ≡ kept_by journal command.now }
     requires outcome { outcome ≡ kept_by journal answer.now }
@@ -73,7 +73,7 @@ fn keep(
         (Some(command), Some(outcome)) => put(
             entries,
             used,
-            CallEntry::of(numbers, command, outcome),
+            CallEntry::of(numbers, command, outcome.into_outcome()),
         ),
         (_, _) => {}
     }
@@ -113,29 +113,28 @@ impl Page {
         }
     }
 
-    /// An entry more: its numbers, its command with the copy that was made of it to keep, and what the
-    /// command came to.
+    /// An entry more: its numbers, its command with the copy that was made of it to keep, and what was
+    /// answered, with the same to keep.
     pub(crate) fn add(
         &mut self,
         numbers: Numbers,
         command: &Command,
         copy: Option<KeptCommand>,
-        acted: Acted,
-    ) -> (Outcome, Witness)
+        answer: &Outcome,
+        outcome: Option<KeptOutcome>,
+    ) -> Witness
         requires page { IsPage self.old }
         requires room { HasRoom self.old }
         requires few { length (entries_on self.old) + 1 < 2 ^ 64 }
         requires copy { copy ≡ kept_by self.old.journal command.now }
-        requires kept { acted.kept ≡ kept_by self.old.journal acted.answer }
+        requires outcome { outcome ≡ kept_by self.old.journal answer.now }
         ensures page { IsPage self.new }
         ensures entries { entries_on self.new
-            ≡ entries_on self.old ++ entry_from numbers command.now acted.answer ∷ [] }
+            ≡ entries_on self.old ++ entry_from numbers command.now answer.now ∷ [] }
         ensures journal { self.new.journal ≡ self.old.journal }
-        ensures answer { result.0 ≡ acted.answer }
-        ensures entry { result.1 ≡ entry_from numbers command.now acted.answer }
+        ensures entry { result ≡ entry_from numbers command.now answer.now }
     {
-        let Acted { answer, kept } = acted;
-        let witness = Witness::of(numbers, command, &answer);
+        let witness = Witness::of(numbers, command, answer);
         self.noted = self.noted.and(&witness, &numbers);
         keep(
             &mut self.kept,
@@ -144,11 +143,11 @@ impl Page {
             numbers,
             command,
             copy,
-            &answer,
-            kept,
+            answer,
+            outcome,
         );
         self.used += 1;
-        (answer, witness)
+        witness
     }
 
     /// A new page: no entry, in the same memory. What the page before kept stays until new entries take

@@ -11,10 +11,6 @@ abbrev pub kept_by : {A : Type 0} → Journal → A → Option A
 kept_by On a = Some a
 kept_by Off a = None
 
--- the answer, and the same to keep
-abbrev pub AreGiven : {A : Type 0} → Journal → A → A × Option A → Type 0
-AreGiven keep answer given = (given.0 ≡ answer) × (given.1 ≡ kept_by keep answer)
-
 -- what was given and left is what a command comes to and leaves: the outcome to answer, the same to keep, and the cache
 abbrev pub IsActed : Journal → Outcome × UserCache → Acted → UserCache → Type 0
 IsActed keep done acted left = (acted.answer ≡ done.0) × (acted.kept ≡ kept_by keep done.0) × (left ≡ done.1)

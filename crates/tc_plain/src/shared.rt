@@ -15,6 +15,7 @@ pub(crate) mod end;
 pub(crate) mod entry;
 pub(crate) mod flush;
 pub(crate) mod hits;
+pub(crate) mod kept_outcome;
 pub(crate) mod left_over;
 pub(crate) mod offers;
 pub(crate) mod plans;

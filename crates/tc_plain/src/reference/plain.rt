@@ -13,7 +13,7 @@ use crate::shared::commands::Commands;
 use crate::shared::end::End;
 use crate::shared::offers::{Bid, offer};
 use crate::shared::plans::{Plan, plan_count, plan_item};
-use crate::{Areas, EvictionState, Limits};
+use crate::{Acted, Areas, EvictionState, Limits};
 use std::alloc::Global;
 use std::marker::Model;
 use tc_grammar::{Command, Head, Way};
@@ -21,7 +21,7 @@ use tc_item::exptime::due;
 use tc_item::{Blob, Due, Key, Moment, NoMemory};
 use tc_past::Journal;
 use tc_sketch::{Sketch, width_of};
-use tc_stats::{Counters, Hits, Outcome};
+use tc_stats::{Counters, Outcome};
 
 /// One user's cache as three lists. Its fields are public, so that another cache can be frozen into
 /// one.
@@ -208,14 +208,17 @@ impl Commands for Plain {
         keys: &[Key],
         due: Option<Due>,
         keep: Journal,
-    ) -> Result<(Hits, Option<Hits>), NoMemory> {
+    ) -> Result<Acted, NoMemory> {
         let moment = self.live.moment.later(now);
         let hits = self.live.look_up(alloc, keys, moment, due)?;
         let kept = keep_hits(alloc, &hits, keep)?;
         self.live.areas.make_room()?;
         self.live.advance(now);
         self.live.look_all(keys, due);
-        Ok((hits, kept))
+        Ok(Acted {
+            answer: Outcome::Values(hits),
+            kept,
+        })
     }
 
     fn touch(&mut self, now: Moment, key: &Key, due: Due) -> Result<End, NoMemory> {

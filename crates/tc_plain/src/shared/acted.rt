@@ -1,8 +1,9 @@
 //! What a cache gives of a command that it did.
 ghost use Rattle.std.specs.Prelude.{◌≡◌, IfOk};
-ghost use Rattle.tc_stats.specs.declared.outcome.Outcome.TheVariants.{Values, Stats};
+ghost use Rattle.tc_stats.specs.declared.outcome.Outcome.TheVariants.{Values, Stats, Done};
 ghost use Rattle.tc_plain.specs.Keeping.{kept_by};
 
+use crate::KeptOutcome;
 use std::alloc::Global;
 use tc_item::NoMemory;
 use tc_past::Journal;
@@ -13,82 +14,64 @@ use tc_stats::{Counters, Hits, Outcome, Statistics};
 #[derive(Drop)]
 pub struct Acted {
     pub answer: Outcome,
-    pub kept: Option<Outcome>,
+    pub kept: Option<KeptOutcome>,
 }
 
-impl Acted {
-    /// Hits as an outcome.
-    pub fn of_hits(hits: Hits, kept: Option<Hits>, keep: Journal) -> Acted
-        requires { kept ≡ kept_by keep hits }
-        ensures answer { result.answer ≡ Values hits }
-        ensures kept { result.kept ≡ kept_by keep (Values hits) }
-    {
-        let kept = match kept {
-            Some(hits) => Some(Outcome::Values(hits)),
-            None => None,
-        };
-        Acted {
-            answer: Outcome::Values(hits),
-            kept,
-        }
-    }
-
-    /// Counters as an outcome.
-    pub fn of_statistics(statistics: Statistics, kept: Option<Statistics>, keep: Journal) -> Acted
-        requires { kept ≡ kept_by keep statistics }
-        ensures answer { result.answer ≡ Stats statistics }
-        ensures kept { result.kept ≡ kept_by keep (Stats statistics) }
-    {
-        let kept = match kept {
-            Some(statistics) => Some(Outcome::Stats(statistics)),
-            None => None,
-        };
-        Acted {
-            answer: Outcome::Stats(statistics),
-            kept,
-        }
-    }
-}
-
-/// A copy of hits to keep, over the same data, where the journal is on.
-pub fn keep_hits(alloc: Global, hits: &Hits, keep: Journal) -> Result<Option<Hits>, NoMemory>
-    ensures { IfOk result (λ kept. kept ≡ kept_by keep hits.now) }
+/// Hits to keep, over the same data, where the journal is on.
+pub fn keep_hits(alloc: Global, hits: &Hits, keep: Journal) -> Result<Option<KeptOutcome>, NoMemory>
+    ensures { IfOk result (λ kept. kept ≡ kept_by keep (Values hits.now)) }
 {
     match keep {
-        Journal::On => Ok(Some(hits.copy(alloc)?)),
+        Journal::On => {
+            let hits = hits.copy(alloc)?;
+            Ok(Some(KeptOutcome::of(alloc, Outcome::Values(hits))?))
+        }
         Journal::Off => Ok(None),
     }
 }
 
-/// A copy of counters to keep, where the journal is on.
+/// Counters to keep, where the journal is on.
 pub(crate) fn keep_statistics(
     alloc: Global,
     statistics: &Statistics,
     keep: Journal,
-) -> Result<Option<Statistics>, NoMemory>
-    ensures { IfOk result (λ kept. kept ≡ kept_by keep statistics.now) }
+) -> Result<Option<KeptOutcome>, NoMemory>
+    ensures { IfOk result (λ kept. kept ≡ kept_by keep (Stats statistics.now)) }
 {
     match keep {
-        Journal::On => Ok(Some(statistics.copy(alloc)?)),
+        Journal::On => {
+            let statistics = statistics.copy(alloc)?;
+            Ok(Some(KeptOutcome::of(alloc, Outcome::Stats(statistics))?))
+        }
         Journal::Off => Ok(None),
     }
 }
 
 /// The counters that are kept, with these numbers in the place of those that were.
 pub(crate) fn with_numbers(
-    kept: Option<Statistics>,
+    kept: Option<KeptOutcome>,
     was: &Counters,
     numbers: Counters,
     keep: Journal,
-) -> Option<Statistics>
-    requires { kept ≡ kept_by keep was.now }
-    ensures { result ≡ kept_by keep numbers }
+) -> Option<KeptOutcome>
+    requires { kept ≡ kept_by keep (Stats was.now) }
+    ensures { result ≡ kept_by keep (Stats numbers) }
 {
     match kept {
-        Some(mut statistics) => {
-            statistics.set(numbers);
-            Some(statistics)
+        Some(mut kept) => {
+            kept.set_numbers(numbers);
+            Some(kept)
         }
         None => None,
+    }
+}
+
+/// Room for an outcome to keep, where the journal is on. It holds `Done` until it is filled.
+pub(crate) fn keep_room(alloc: Global, keep: Journal) -> Result<Option<KeptOutcome>, NoMemory>
+    ensures { IfOk result (λ room. room ≡ kept_by keep Done) }
+{
+    match keep {
+        Journal::On => Ok(Some(KeptOutcome::of(alloc, Outcome::Done)?)),
+        Journal::Off => Ok(None),
     }
 }

@@ -1,9 +1,10 @@
 //! How commands end that show no item.
 ghost use Rattle.std.specs.Prelude.{◌≡◌};
+ghost use Rattle.tc_stats.specs.declared.outcome.Outcome.TheVariants.{Done};
 ghost use Rattle.tc_plain.specs.Keeping.{kept_by};
 ghost use Rattle.tc_plain.specs.Plans.{outcome_of};
 
-use crate::shared::acted::Acted;
+use crate::{Acted, KeptOutcome};
 use tc_past::Journal;
 use tc_stats::Outcome;
 
@@ -45,14 +46,18 @@ impl End {
         }
     }
 
-    /// What a command gives that ends so.
-    pub fn acted(self, keep: Journal) -> Acted
+    /// What a command gives that ends so, with the room that there is where it is kept.
+    pub(crate) fn acted(self, room: Option<KeptOutcome>, keep: Journal) -> Acted
+        requires { room ≡ kept_by keep Done }
         ensures answer { result.answer ≡ outcome_of self }
         ensures kept { result.kept ≡ kept_by keep (outcome_of self) }
     {
-        let kept = match keep {
-            Journal::On => Some(self.outcome()),
-            Journal::Off => None,
+        let kept = match room {
+            Some(mut kept) => {
+                kept.set(self.outcome());
+                Some(kept)
+            }
+            None => None,
         };
         Acted {
             answer: self.outcome(),
