@@ -6,8 +6,9 @@ usage: bench/lock_time.py PROGRAM [PROGRAM ..] [--beside COMMAND] [--load NAME] 
 It starts the servers as bench/serve.py does, all at once, sets every item once, and loads them in turns, each for S
 seconds a round, one round the other way about. A sample of perf (`cpu-clock`, 2,000 a second) is a call's where it was
 taken in a function that only calls run: those of a cache, and of its book. The program keeps no frames by which its callers
-would be known, so what the C library does for a call is left out; for look-ups that is little. A call takes that share of
-the server's processor time a request. The table has the median of the rounds, the least and the most. With --beside, as
+would be known, so what the C library does for a call is left out; for look-ups that is little. In loads of short requests
+what is read ahead for several connections counts too, which is under the lock and in no call. A call takes that share
+of the server's processor time a request. The table has the median of the rounds, the least and the most. With --beside, as
 bench/serve.py has it, the last column is the call's time as a part of the processor time that the other server takes
 for a whole request.
 
@@ -26,7 +27,7 @@ from pathlib import Path
 
 from serve import BENCH, LOADS, Server, ask, fill
 
-# functions that only calls of a user's book run, where no requests of several connections are read ahead together
+# functions that calls of a user's book run, and nothing else but what reads ahead for several connections
 CALLS = ("tc_partition::", "tc_slots::", "tc_slru::", "tc_ring::", "tc_past::", "tc_sketch::", "tc_index::", "tc_wheel::",
          "tc_readbuf::", "tc_plain::", "tc_locked::hall_book::", "tc_locked::book::", "tc_item::blob::Blob::copy",
          "tc_item::key::KeyPartialEq::eq", "tc_stats::counters::")
