@@ -5,5 +5,6 @@ pub mod FewItems
 pub mod KeptDues
 pub mod KeyBytes
 pub mod KeyFaults
+pub mod KeyHash
 pub mod KeyRule
 pub mod Weight

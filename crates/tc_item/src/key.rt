@@ -7,13 +7,14 @@ ghost use Rattle.std.specs.Cmp.Rules.{comparing, hashing};
 ghost use Rattle.std.proofs.Common.{rules};
 ghost use Rattle.tc_item.specs.Bounds.{longest_key};
 ghost use Rattle.tc_item.specs.KeyRule.{is_key, is_key_byte};
+ghost use Rattle.tc_item.specs.KeyHash.{hash};
 ghost use Rattle.tc_item.specs.KeyBytes.{bytes_held, IsInPlace};
 ghost use Rattle.tc_item.specs.KeyFaults.{key_fault};
-ghost use Rattle.tc_item.specs.declared.key.KeyBytes.TheVariants.{Short};
 ghost use Rattle.tc_item.specs.declared.key.KeyFault.TheVariants.{NoMemory as OutOfMemory};
 
+use crate::fnv::hash;
 use crate::key_bytes::are_key_bytes;
-use crate::place::{IN_PLACE, are_same_bytes};
+use crate::place::{BESIDE_HASH, IN_PLACE, are_same_few, are_same_many};
 use crate::{Blob, Few, LONGEST_KEY, NoMemory, TryCopy};
 use std::alloc::Global;
 use std::error::Error;
@@ -53,16 +54,18 @@ impl From<NoMemory> for KeyFault {
 }
 
 /// What an item is stored under. Up to 22 bytes are kept in place, and copied all at once; more are
-/// shared by all copies.
+/// shared by all copies. Beside up to 14 bytes there is room for their hash, which is made with the key.
 #[derive(Drop)]
 pub struct Key {
     bytes: KeyBytes,
 }
 
-/// A key's bytes: in place, of which the first so many are the key's, or shared with its copies. How many are the
-/// key's stands before them. So they begin at an even place, and are copied in pieces that do not overlap.
+/// A key's bytes: in place, of which the first so many are the key's, the few with their hash behind them; or shared
+/// with its copies. How many are the key's stands before them. So they begin at an even place, and are copied in
+/// pieces that do not overlap.
 #[derive(Drop)]
 enum KeyBytes {
+    Hashed(u8, [u8; BESIDE_HASH], u64),
     Short(u8, [u8; IN_PLACE]),
     Long(Blob),
 }
@@ -87,22 +90,18 @@ pub fn is_key(bytes: &[u8]) -> bool
     !bytes.is_empty() && bytes.len() <= LONGEST_KEY && are_key_bytes(bytes)
 }
 
-/// Whether two places have the same bytes, each so many. They are compared whole, since behind its bytes
-/// each is 0.
-fn are_same_places(
-    one: &[u8; IN_PLACE],
-    one_length: u8,
-    other: &[u8; IN_PLACE],
-    other_length: u8,
-) -> bool
-    requires one { IsInPlace (Short one_length one.now) }
-    requires other { IsInPlace (Short other_length other.now) }
-    ensures { result ≡ bytes_eq (take one_length one.now) (take other_length other.now) }
-{
-    one_length == other_length && are_same_bytes(one, other)
-}
-
 impl KeyBytes {
+    /// These bytes, in place, and their hash.
+    fn hashed(bytes: &[u8]) -> KeyBytes
+        requires { length bytes.now ≤ 14 }
+        ensures held { bytes_held result ≡ bytes.now }
+        ensures fits { IsInPlace result }
+    {
+        let mut place = [0; BESIDE_HASH];
+        place[..bytes.len()].copy_from_slice(bytes);
+        KeyBytes::Hashed(bytes.len() as u8, place, hash(bytes))
+    }
+
     /// These bytes, in place.
     fn short(bytes: &[u8]) -> KeyBytes
         requires { length bytes.now ≤ 22 }
@@ -120,8 +119,20 @@ impl KeyBytes {
         ensures { result.now ≡ bytes_held self.now }
     {
         match self {
+            KeyBytes::Hashed(length, place, _) => &place[..usize::from(*length)],
             KeyBytes::Short(length, place) => &place[..usize::from(*length)],
             KeyBytes::Long(bytes) => bytes.as_slice(),
+        }
+    }
+
+    /// The hash of the bytes.
+    fn hash(&self) -> u64
+        requires { IsInPlace self.now }
+        ensures { result ≡ hash (bytes_held self.now) }
+    {
+        match self {
+            KeyBytes::Hashed(_, _, beside) => *beside,
+            _ => hash(self.as_slice()),
         }
     }
 
@@ -132,8 +143,12 @@ impl KeyBytes {
         ensures { result ≡ bytes_eq (bytes_held self.now) (bytes_held other.now) }
     {
         match (self, other) {
+            (
+                KeyBytes::Hashed(length, place, _),
+                KeyBytes::Hashed(other_length, other_place, _),
+            ) => are_same_few(place, *length, other_place, *other_length),
             (KeyBytes::Short(length, place), KeyBytes::Short(other_length, other_place)) => {
-                are_same_places(place, *length, other_place, *other_length)
+                are_same_many(place, *length, other_place, *other_length)
             }
             _ => self.as_slice() == other.as_slice(),
         }
@@ -164,10 +179,10 @@ impl Key {
         requires { IsTrue (is_key bytes.now) }
         ensures { IfOk result (λ k. k ≡ bytes.now) }
     {
-        let bytes = if bytes.len() <= IN_PLACE {
-            KeyBytes::short(bytes)
-        } else {
-            KeyBytes::Long(Blob::from_slice(alloc, bytes)?)
+        let bytes = match bytes.len() {
+            0..=BESIDE_HASH => KeyBytes::hashed(bytes),
+            15..=IN_PLACE => KeyBytes::short(bytes),
+            _ => KeyBytes::Long(Blob::from_slice(alloc, bytes)?),
         };
         Ok(Key { bytes })
     }
@@ -182,11 +197,19 @@ impl Key {
         self.bytes.as_slice()
     }
 
+    /// The hash of the key's bytes, by which it is counted (`hash`). Of up to 14 bytes it is at hand.
+    pub fn fnv_hash(&self) -> u64
+        ensures { result ≡ hash self.now }
+    {
+        self.bytes.hash()
+    }
+
     /// An equal key.
     pub fn copy(&self, _alloc: Global) -> Result<Key, NoMemory>
         ensures { IfOk result (λ k. k ≡ self.now) }
     {
         let bytes = match &self.bytes {
+            KeyBytes::Hashed(length, place, beside) => KeyBytes::Hashed(*length, *place, *beside),
             KeyBytes::Short(length, place) => KeyBytes::Short(*length, *place),
             KeyBytes::Long(bytes) => KeyBytes::Long(bytes.copy()?),
         };

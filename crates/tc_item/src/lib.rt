@@ -13,6 +13,7 @@ mod blob;
 mod bounds;
 pub mod exptime;
 mod few;
+mod fnv;
 mod item;
 mod kept_due;
 mod key;
@@ -29,6 +30,7 @@ pub use bounds::{
     SMALLEST_BUDGET,
 };
 pub use few::{Few, TryCopy};
+pub use fnv::hash;
 pub use item::{Item, alive, weight};
 pub use kept_due::KeptDue;
 pub use key::{Key, KeyFault, Keys, is_key};

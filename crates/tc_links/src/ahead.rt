@@ -3,8 +3,8 @@
 //! Nothing rests on a guess, and no clause speaks of it.
 use crate::link::requests::REQUESTS;
 use std::alloc::{AllocError, Global};
+use tc_item::hash;
 use tc_session::Session;
-use tc_sketch::hash;
 
 /// The most keys that are read ahead at once.
 const KEYS: usize = 128;

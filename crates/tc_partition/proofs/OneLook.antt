@@ -4,7 +4,7 @@ use Rattle.std.proofs.Common.{◌≡◌, ℕ, List, [], ◌∷◌, ◌++◌, len
 use Rattle.std.proofs.Common.{Option, Some, None, refl, sym, ◌∙◌, ap, subst, arith}
 use Rattle.tc_item.specs.declared.slot.Slot.{Slot}
 use Rattle.tc_readbuf.specs.declared.look_up.LookUp.{LookUp}
-use Rattle.tc_sketch.specs.Sketch.{hash}
+use Rattle.tc_item.specs.KeyHash.{hash}
 use Rattle.tc_plain.specs.declared.shared.entry.Entry.{Entry}
 use Rattle.tc_plain.specs.Entries.{hit_of}
 use Rattle.tc_plain.specs.EvictionState.{EvictionState, held, advanced}

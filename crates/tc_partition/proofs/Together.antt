@@ -3,7 +3,8 @@ use Rattle.std.specs.Prelude.{max, slice_index_or}
 use Rattle.std.proofs.Common.{◌≡◌, ℕ, zero, suc, ◌<◌, Bool, true, false, cond, List, [], ◌∷◌, get_or, Option, Some, None}
 use Rattle.std.proofs.Common.{refl, sym, ◌∙◌, ap, subst, arith, length}
 use Rattle.tc_item.specs.declared.slot.Slot.{Slot}
-use Rattle.tc_sketch.specs.Sketch.{hash, recorded}
+use Rattle.tc_item.specs.KeyHash.{hash}
+use Rattle.tc_sketch.specs.Sketch.{recorded}
 use Rattle.tc_plain.specs.declared.shared.entry.Entry.{Entry}
 use Rattle.tc_plain.specs.BySlot.{entry_or}
 use Rattle.tc_plain.specs.Entries.{lives}

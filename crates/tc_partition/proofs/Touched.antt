@@ -5,7 +5,8 @@ use Rattle.std.proofs.Common.{ap, arith}
 use Rattle.std.proofs.lemmas.List.Elements.{filter-append}
 use Rattle.std.proofs.lemmas.List.Sums.{sum_by-cons, sum_by-append}
 use Rattle.tc_model.specs.Areas.{Areas, accessed}
-use Rattle.tc_sketch.specs.Sketch.{Sketch, recorded, hash}
+use Rattle.tc_item.specs.KeyHash.{hash}
+use Rattle.tc_sketch.specs.Sketch.{Sketch, recorded}
 use Rattle.tc_plain.specs.declared.shared.entry.Entry.{Entry}
 use Rattle.tc_plain.specs.Entries.{weight, lives, has_key}
 use Rattle.tc_plain.specs.EvictionState.{EvictionState, held, filtered, entries_of}

@@ -1,7 +1,7 @@
 -- Keys that are sought, their hashes, and what is noted of them where they were found. Source: this project's own.
 use Rattle.std.specs.Prelude.{◌≡◌, ℕ, List, [], ◌∷◌, Option, Some, None}
 use Rattle.tc_item.specs.declared.slot.Slot.{Slot}
-use Rattle.tc_sketch.specs.Sketch.{hash}
+use Rattle.tc_item.specs.KeyHash.{hash}
 use Rattle.tc_readbuf.specs.declared.look_up.LookUp.{LookUp}
 use Rattle.tc_readbuf.specs.declared.look_up.LookUp.TheVariants.{Hit as HitNoted, Miss as MissNoted}
 use Rattle.tc_partition.specs.WaitingSlots.{SeeksSlot}

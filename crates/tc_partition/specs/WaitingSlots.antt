@@ -3,7 +3,7 @@ use Rattle.std.specs.Prelude.{◌≡◌, ℕ, List, [], ◌∷◌, Option, Some,
 use Rattle.tc_item.specs.declared.slot.Slot.{Slot}
 use Rattle.tc_readbuf.specs.declared.look_up.LookUp.{LookUp}
 use Rattle.tc_readbuf.specs.declared.look_up.LookUp.TheVariants.{Hit as HitNoted, Miss as MissNoted}
-use Rattle.tc_sketch.specs.Sketch.{hash}
+use Rattle.tc_item.specs.KeyHash.{hash}
 use Rattle.tc_plain.specs.declared.shared.entry.Entry.{Entry}
 use Rattle.tc_plain.specs.EvictionState.{EvictionState, held}
 use Rattle.tc_plain.specs.BySlot.{entry_or}

@@ -1,6 +1,6 @@
 -- What a command will do, and where. Source: this project's own.
 use Rattle.std.specs.Prelude.{◌≡◌, ℕ, Bool, false, is_none}
-use Rattle.tc_sketch.specs.Sketch.{hash}
+use Rattle.tc_item.specs.KeyHash.{hash}
 use Rattle.tc_slots.specs.Held.{Held, FindsSlot}
 use Rattle.tc_partition.specs.WaitingSlots.{SeeksSlot}
 use Rattle.tc_partition.specs.declared.live_slots.LiveSlots.{LiveSlots}

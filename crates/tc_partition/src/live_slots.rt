@@ -2,7 +2,7 @@
 ghost use Rattle.std.specs.Prelude.{◌≡◌, ℕ, max, false, None, IsSome, slice_index_or, ◌<◌, ◌≤◌, ◌+◌, ◌^◌, true, is_some, length};
 ghost use Rattle.std.specs.Prelude.{Some, IfOk, OnOk, OnErr, MatchOption, List};
 ghost use Rattle.std.specs.Option.{option_copied};
-ghost use Rattle.tc_sketch.specs.Sketch.{hash};
+ghost use Rattle.tc_item.specs.KeyHash.{hash};
 ghost use Rattle.tc_model.specs.Areas.{total, settle};
 ghost use Rattle.tc_stats.specs.UserCounters.{more};
 ghost use Rattle.tc_plain.specs.declared.shared.entry.Entry.{Entry};
@@ -27,7 +27,7 @@ use std::alloc::Global;
 use tc_item::{Due, Key, Moment, NoMemory, Slot, alive, have_read};
 use tc_plain::{Areas, Change, End, Entry, EvictionState, Limits, is_flush_due};
 use tc_readbuf::LookUp;
-use tc_sketch::{PastSketch, hash};
+use tc_sketch::PastSketch;
 use tc_slots::{Aside, Slots, Tables, set_aside, shed, turn};
 use tc_slru::Area;
 use tc_stats::Counters;
@@ -220,7 +220,7 @@ impl LiveSlots {
         ensures then { then_live self.new ≡ then_live self.old }
         ensures spare { self.old.held.spare ≤ self.new.held.spare + 1 }
     {
-        self.sketch.record(hash(key.as_bytes()));
+        self.sketch.record(key.fnv_hash());
         let Some(slot) = self.held.find_again(place, key) else {
             return false;
         };

@@ -1,6 +1,6 @@
 //! What a command will do, and where.
 ghost use Rattle.std.specs.Prelude.{◌≡◌, ℕ, List};
-ghost use Rattle.tc_sketch.specs.Sketch.{hash as hash_of};
+ghost use Rattle.tc_item.specs.KeyHash.{hash as hash_of};
 ghost use Rattle.tc_plain.specs.Plans.{IsUnder};
 ghost use Rattle.tc_partition.specs.LiveSlots.{plan_of};
 ghost use Rattle.tc_partition.specs.WaitingSlots.{SeeksSlot};

@@ -29,7 +29,7 @@ use Rattle.tc_plain.specs.UserCache.{UserCache, advance}
 use Rattle.tc_plain.specs.Storing.{Offer, Refused, Offered, is_too_large, is_worn, changed, accepted}
 use Rattle.tc_plain.specs.Doing.{looked_up, all_looked_up, with_live, touched, deleted, counted, counted_to, counted_under, done}
 use Rattle.tc_plain.specs.Soundness.{AreSound, IsSound, HasShortKey, StaysSound}
-use Rattle.tc_sketch.specs.Sketch.{hash}
+use Rattle.tc_item.specs.KeyHash.{hash}
 use Rattle.tc_plain.proofs.Widths.{recorded_width, width-at_moment, width-all_looked_up}
 use Rattle.tc_plain.proofs.Sound.{IsLight, held_light, sound_kept, sound_none, sound_at_moment, sound_hit, sound_settled}
 

@@ -6,7 +6,8 @@ use Rattle.std.proofs.lemmas.List.Sums.{sum_by-cons, sum_by-append}
 use Rattle.std.proofs.lemmas.Slice.Eq.{bytes_eq-Decides}
 use Rattle.tc_model.specs.Areas.{Areas, is_in, demoted, accessed, total, without}
 use Rattle.tc_model.proofs.Totals.{sum-filter-le, total-accessed}
-use Rattle.tc_sketch.specs.Sketch.{Sketch, recorded, hash}
+use Rattle.tc_item.specs.KeyHash.{hash}
+use Rattle.tc_sketch.specs.Sketch.{Sketch, recorded}
 use Rattle.tc_item.specs.declared.moment.Due.{Due}
 use Rattle.tc_item.specs.declared.item.Item.{Item}
 use Rattle.tc_plain.specs.declared.shared.entry.Entry.{Entry}

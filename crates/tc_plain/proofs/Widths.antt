@@ -2,7 +2,8 @@
 use Rattle.std.specs.Prelude.{◌*◌, ◌/◌, ◌^◌, ◌==◌, if◌then◌else◌}
 use Rattle.std.specs.Prelude.{ℕ, ◌+◌, Bool, true, false, cond, List, [], ◌∷◌, Option, Some, None}
 use Rattle.std.proofs.Common.{◌≡◌, refl, ◌∙◌}
-use Rattle.tc_sketch.specs.Sketch.{Sketch, empty_sketch, hash, aged, recorded, halved, raised, place0, place1, place2, place3}
+use Rattle.tc_item.specs.KeyHash.{hash}
+use Rattle.tc_sketch.specs.Sketch.{Sketch, empty_sketch, aged, recorded, halved, raised, place0, place1, place2, place3}
 use Rattle.tc_item.specs.declared.item.Item.{Item}
 use Rattle.tc_plain.specs.declared.shared.entry.Entry.{Entry}
 use Rattle.tc_plain.specs.Entries.{lives}

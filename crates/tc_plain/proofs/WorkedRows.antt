@@ -2,7 +2,8 @@
 use Rattle.std.specs.Prelude.{◌≡◌, ℕ, ℤ, pos, negsuc, false, List, [], ◌∷◌, codes, replicate}
 use Rattle.std.proofs.Common.{refl}
 use Rattle.std.specs.Fmt.{digits}
-use Rattle.tc_sketch.specs.Sketch.{empty_sketch, hash, place_of, raised, aged, recorded, freq, width_of}
+use Rattle.tc_item.specs.KeyHash.{hash}
+use Rattle.tc_sketch.specs.Sketch.{empty_sketch, place_of, raised, aged, recorded, freq, width_of}
 use Rattle.tc_counter.specs.CounterText.{number_in}
 use Rattle.tc_grammar.specs.declared.command.StoreKind.{StoreKind}
 use Rattle.tc_grammar.specs.declared.command.StoreKind.TheVariants.{Set, Add, Replace, Append, Prepend, Cas}

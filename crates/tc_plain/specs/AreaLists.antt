@@ -2,7 +2,8 @@
 use Rattle.std.specs.Prelude.{ℕ, ◌+◌, ◌≤◌, ◌∷◌, ◌++◌, [], ◌≡◌, ◌⊎◌, cond, not, map, vec_len, vec_capacity, Bool, true, false}
 use Rattle.std.specs.Prelude.{List, Option, Some, None}
 use Rattle.tc_model.specs.Areas.{Areas}
-use Rattle.tc_sketch.specs.Sketch.{Sketch, freq, hash}
+use Rattle.tc_item.specs.KeyHash.{hash}
+use Rattle.tc_sketch.specs.Sketch.{Sketch, freq}
 use Rattle.tc_item.specs.declared.moment.Due.{Due}
 use Rattle.tc_item.specs.declared.item.Item.{Item}
 use Rattle.tc_item.specs.Expiry.{is_before}

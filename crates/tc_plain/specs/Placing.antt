@@ -1,7 +1,8 @@
 -- How entries come into the areas, move and leave: W-TinyLFU (the TinyLFU paper; Caffeine's design notes).
 use Rattle.std.specs.Prelude.{ℕ, cond, not, is_some, List, ◌∷◌}
 use Rattle.tc_model.specs.Areas.{Areas, Limits, accessed}
-use Rattle.tc_sketch.specs.Sketch.{recorded, freq, hash}
+use Rattle.tc_item.specs.KeyHash.{hash}
+use Rattle.tc_sketch.specs.Sketch.{recorded, freq}
 use Rattle.tc_plain.specs.declared.shared.entry.Entry.{Entry}
 use Rattle.tc_plain.specs.Entries.{weight, lives, has_key}
 use Rattle.tc_plain.specs.EvictionState.{EvictionState, held, filtered}

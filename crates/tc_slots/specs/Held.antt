@@ -11,7 +11,8 @@ use Rattle.tc_plain.specs.Entries.{weight}
 use Rattle.tc_plain.specs.EvictionState.{held}
 use Rattle.tc_plain.specs.Then.{Then}
 use Rattle.tc_plain.specs.Placing.{without_key}
-use Rattle.tc_sketch.specs.Sketch.{Sketch, freq, hash}
+use Rattle.tc_item.specs.KeyHash.{hash}
+use Rattle.tc_sketch.specs.Sketch.{Sketch, freq}
 use Rattle.tc_plain.specs.declared.shared.entry.Entry.{Entry}
 use Rattle.tc_slru.specs.SlotLists.{SlotLists}
 use Rattle.tc_wheel.specs.Dues.{Dues, due_at}

@@ -19,9 +19,9 @@ use std::alloc::Global;
 use std::hash::{BuildHasher, RandomState};
 use std::mem;
 use tc_index::{Index, Tag};
-use tc_item::{Due, KeptDue, Key, MOMENT_LIMIT, Moment, NoMemory, Slot, have_read};
+use tc_item::{Due, KeptDue, Key, MOMENT_LIMIT, Moment, NoMemory, Slot, hash, have_read};
 use tc_plain::{Change, Entry, Was};
-use tc_sketch::{PastSketch, hash};
+use tc_sketch::PastSketch;
 use tc_slru::Lists;
 use tc_wheel::Wheel;
 
@@ -173,11 +173,11 @@ pub fn time(wheel: &mut Wheel, slot: Slot, due: Option<Moment>)
 pub fn frequency(entries: &Slab<Entry>, sketch: &PastSketch, slot: Slot) -> u8
     ensures { result ≡ seen_by sketch.now.live (slab_get entries.now) slot.0 }
 {
-    let key: &[u8] = match entries.get(slot.0) {
-        Some(entry) => entry.key.as_bytes(),
-        None => &[],
+    let hash = match entries.get(slot.0) {
+        Some(entry) => entry.key.fnv_hash(),
+        None => hash(&[]),
     };
-    sketch.freq(hash(key))
+    sketch.freq(hash)
 }
 
 /// The next slot that settle drops, out of the lists alone.

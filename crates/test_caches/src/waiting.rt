@@ -6,11 +6,10 @@ use std::hash::RandomState;
 use std::process::Abort;
 use std::test::Fail;
 use tc_grammar::Command;
-use tc_item::NoMemory;
+use tc_item::{NoMemory, hash};
 use tc_kinds::{Journal, Kind};
 use tc_partition::Fast;
 use tc_plain::Cache;
-use tc_sketch::hash;
 
 /// What is done to a cache that holds the key k, and not the key z.
 #[derive(Clone, Copy)]

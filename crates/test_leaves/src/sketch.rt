@@ -3,7 +3,8 @@
 use std::alloc::{AllocError, Global};
 use std::process::Abort;
 use std::test::Fail;
-use tc_sketch::{Sketch, halve, hash, width_of};
+use tc_item::hash;
+use tc_sketch::{Sketch, halve, width_of};
 
 #[test]
 fn fnv_1a_gives_its_published_values(rt: HostRuntime) {

@@ -14,8 +14,8 @@ use crate::reference::lists::put_first;
 use crate::shared::flush::is_flush_due;
 use crate::{Areas, Entry, Limits};
 use std::alloc::Global;
-use tc_item::{Due, Moment, NoMemory, alive};
-use tc_sketch::{Sketch, hash};
+use tc_item::{Due, Moment, NoMemory, alive, hash};
+use tc_sketch::Sketch;
 
 /// What look-ups touch: the areas that hold the entries, how often each key was seen, and when the
 /// entries go.
@@ -126,7 +126,7 @@ impl EvictionState {
         ensures live { live_of self.new ≡ used entry (live_of self.old) }
         ensures room { HasRoom 0 self.new.areas }
     {
-        self.sketch.record(hash(entry.key.as_bytes()));
+        self.sketch.record(entry.key.fnv_hash());
         match self.areas.take(entry.key.as_bytes()) {
             Some((origin, _old)) => self.access(origin, entry),
             None if alive(&entry.item, self.moment) => {

@@ -10,7 +10,7 @@ ghost use Rattle.tc_plain.specs.AreaLists.{areas_of, HasRoom, IsPopped, frequenc
 use crate::reference::areas::Areas;
 use crate::reference::lists::{pop_over, put_first, weigh_all};
 use crate::{Entry, Limits};
-use tc_sketch::{Sketch, hash};
+use tc_sketch::Sketch;
 
 /// Whether each of the last entries that weigh `need` together was seen less often than `level`.
 fn outranked(items: &[Entry], sketch: &Sketch, mut need: u64, level: u8) -> bool
@@ -21,7 +21,7 @@ fn outranked(items: &[Entry], sketch: &Sketch, mut need: u64, level: u8) -> bool
     while left > 0 && need > 0 {
         left -= 1;
         let entry = &items[left];
-        if sketch.freq(hash(entry.key.as_bytes())) >= level {
+        if sketch.freq(entry.key.fnv_hash()) >= level {
             return false;
         }
         need = need.saturating_sub(entry.weight());
@@ -77,7 +77,7 @@ impl Areas {
             (λ v. nat_lt (frequency_in sketch.now v) (frequency_in sketch.now candidate.now))
             (shortest weight need (from_tail (areas_of self.now))) }
     {
-        let level = sketch.freq(hash(candidate.key.as_bytes()));
+        let level = sketch.freq(candidate.key.fnv_hash());
         let rest = need.saturating_sub(weigh_all(&self.probation));
         outranked(&self.probation, sketch, need, level)
             && outranked(&self.protected, sketch, rest, level)

@@ -45,7 +45,7 @@ pub trait Cache: Drop {
         ensures opening { opened self.new ≡ opened self.old }
         ensures next { next self.new ≡ next self.old };
 
-    /// Reads what look-ups of keys of these hashes (`tc_sketch::hash`) are going to read, so that they wait
+    /// Reads what look-ups of keys of these hashes (`tc_item::hash`) are going to read, so that they wait
     /// for memory together. It gives nothing, and changes nothing.
     fn read_ahead(&self, hashes: &[u64]);
 

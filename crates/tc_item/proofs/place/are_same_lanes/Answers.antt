@@ -1,5 +1,5 @@
 use Rattle.std.specs.Prelude.{not}
-use Rattle.std.proofs.Common.{◌∙◌, ◌%◌, ◌^◌, ap, eqb, w8}
+use Rattle.std.proofs.Common.{◌∙◌, ◌%◌, ◌^◌, ap, eqb, w8, arith}
 use Rattle.std.proofs.lemmas.Simd.{tops_compared, length-chunk}
 use Rattle.tc_item.proofs.Places.{no_lane_differs}
 use lib.Lanes.{chunk, mask_l}
@@ -11,5 +11,5 @@ returns c =
     let xs = c.args.one.now in
     let ys = c.args.other.now in
     ap (λ ms. eqb (mask_l ms % 2 ^ 64) 0) (tops_compared w8 (λ a b. not (eqb a b)) (chunk at 16 xs) (chunk at 16 ys))
-    ∙ no_lane_differs (chunk at 16 xs) (chunk at 16 ys) (length-chunk at 16 xs c.requires.one)
+    ∙ no_lane_differs 16 (chunk at 16 xs) (chunk at 16 ys) (omega arith) (length-chunk at 16 xs c.requires.one)
     (length-chunk at 16 ys c.requires.other)

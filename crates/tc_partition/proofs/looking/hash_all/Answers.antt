@@ -1,6 +1,6 @@
 use Rattle.std.proofs.Common.{ℕ, List, ◌∷◌, ◌++◌, [], ◌+◌, length, take, get_or, arith, sym, ◌∙◌, subst, ap}
 use Rattle.std.proofs.lemmas.List.{take_more, length-append}
-use Rattle.tc_sketch.specs.Sketch.{hash}
+use Rattle.tc_item.specs.KeyHash.{hash}
 use Rattle.tc_partition.specs.Seeking.{AreHashed}
 use Rattle.tc_partition.proofs.OneLook.{hashed_push}
 use Rattle.tc_partition.proofs.looking.hash_all.Goals as goal

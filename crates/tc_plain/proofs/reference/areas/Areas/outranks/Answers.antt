@@ -1,6 +1,7 @@
 use Rattle.std.specs.Prelude.{sum_by, ◌-◌}
 use Rattle.std.proofs.Common.{◌∙◌, ap}
-use Rattle.tc_sketch.specs.Sketch.{freq, hash}
+use Rattle.tc_item.specs.KeyHash.{hash}
+use Rattle.tc_sketch.specs.Sketch.{freq}
 use Rattle.tc_plain.specs.Entries.{weight}
 use Rattle.tc_plain.specs.AreaLists.{areas_of}
 use Rattle.tc_plain.proofs.Dropping.{outranks_second, outranks_first}

@@ -2,7 +2,8 @@ use Rattle.std.proofs.Common.{◌≡◌, true, arith, ap, sym, ◌∙◌}
 use Rattle.tc_model.proofs.Steps.{areas_by}
 use Rattle.tc_plain.specs.EvictionState.{held}
 use Rattle.tc_model.specs.Areas.{total}
-use Rattle.tc_sketch.specs.Sketch.{recorded, hash}
+use Rattle.tc_item.specs.KeyHash.{hash}
+use Rattle.tc_sketch.specs.Sketch.{recorded}
 use Rattle.tc_plain.specs.Entries.{weight}
 use Rattle.tc_plain.specs.Placing.{without_key, at_front}
 use Rattle.tc_plain.specs.AreaLists.{areas_of, live_of}
