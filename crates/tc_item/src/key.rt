@@ -143,10 +143,8 @@ impl KeyBytes {
         ensures { result ≡ bytes_eq (bytes_held self.now) (bytes_held other.now) }
     {
         match (self, other) {
-            (
-                KeyBytes::Hashed(length, place, _),
-                KeyBytes::Hashed(other_length, other_place, _),
-            ) => are_same_few(place, *length, other_place, *other_length),
+            (KeyBytes::Hashed(length, place, _), KeyBytes::Hashed(other_length, other_place, _)) =>
+                are_same_few(place, *length, other_place, *other_length),
             (KeyBytes::Short(length, place), KeyBytes::Short(other_length, other_place)) => {
                 are_same_many(place, *length, other_place, *other_length)
             }
