@@ -81,6 +81,7 @@ impl PastSketch {
     }
 
     /// Counts a record, and halves all counters where that is due.
+    #[inline(always)]
     fn count_one(&mut self)
         ensures { self.new ≡ live_with (aged (one_more self.old.live)) self.old }
     {
@@ -98,6 +99,7 @@ impl PastSketch {
     }
 
     /// Records that a key with this hash was seen.
+    #[inline(always)]
     pub fn record(&mut self, hash: u64)
         ensures recorded { self.new ≡ live_with (recorded self.old.live hash) self.old }
         ensures counting { CountsRecords self.new.live }

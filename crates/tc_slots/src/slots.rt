@@ -214,6 +214,7 @@ impl Slots {
     }
 
     /// The slot of what a key holds.
+    #[inline(never)]
     pub fn find(&self, key: &Key) -> Option<Slot>
         ensures { FindsSlot result key.now self.now }
     {
@@ -230,6 +231,7 @@ impl Slots {
     }
 
     /// The slot of what a key holds; the index is asked only where that isn't this one.
+    #[inline(always)]
     pub fn find_from(&self, slot: Slot, key: &Key) -> Option<Slot>
         ensures { FindsSlot result key.now self.now }
     {

@@ -87,6 +87,7 @@ pub fn key_tag(hasher: &RandomState, key: &Key) -> Tag
 }
 
 /// Whether a slot holds an entry of this key.
+#[inline(always)]
 pub fn is_of(entries: &Slab<Entry>, slot: Slot, key: &Key) -> bool
     ensures { result ≡ is_of key.now (slab_get entries.now slot.0) }
 {

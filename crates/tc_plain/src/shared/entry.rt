@@ -25,6 +25,7 @@ impl Entry {
     }
 
     /// What a look-up shows of the entry.
+    #[inline(always)]
     pub fn show(&self, alloc: Global) -> Result<Hit, NoMemory>
         ensures { IfOk result (λ hit. hit ≡ record {
           key = self.now.key;

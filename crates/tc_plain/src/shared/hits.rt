@@ -65,6 +65,7 @@ pub fn show_one(alloc: Global, found: Option<&Entry>) -> Result<Hits, NoMemory>
 
 /// Adds the hit of what a key was found to hold, for which there is room, if it was not among those
 /// asked before, or is not gone since then.
+#[inline(always)]
 fn add_next(
     alloc: Global,
     asked: &[Key],

@@ -17,15 +17,15 @@ loop-key-preserved c =
     record {
       hashed =
           subst (λ (ws : List ℕ). AreHashed (take (i + 1) keys) ws) (sym c.push_reserved.ensures.items)
-          (subst (λ ks. AreHashed ks (before ++ c.hash.result ∷ [])) (sym (take_more keys i key c.loop-key-test.true))
-          (hashed_push (take i keys) before (get_or keys i key) c.hash.result c.loop-key.invariant.hashed
-          (c.hash.ensures ∙ ap hash (c.as_bytes.ensures.bytes ∙ c.key-item.is))));
+          (subst (λ ks. AreHashed ks (before ++ c.fnv_hash.result ∷ [])) (sym (take_more keys i key c.loop-key-test.true))
+          (hashed_push (take i keys) before (get_or keys i key) c.fnv_hash.result c.loop-key.invariant.hashed
+          (c.fnv_hash.ensures ∙ ap hash c.key-item.is)));
       room =
           omega (
             arith,
             c.loop-key.invariant.room,
             c.push_reserved.ensures.capacity,
             ap length c.push_reserved.ensures.items,
-            length-append before (c.hash.result ∷ []),
+            length-append before (c.fnv_hash.result ∷ []),
           );
     }
