@@ -268,6 +268,24 @@ fn a_map_finds_a_key_by_an_equal_one(rt: HostRuntime) -> Result<(), Fail> {
     Ok(())
 }
 
+/// The hash of a copy of a key.
+fn hash_of(alloc: Global, text: &str) -> Result<u64, KeyFault> {
+    let key = key_of(alloc, text)?;
+    let copied = key.copy(alloc)?;
+    Ok(copied.fnv_hash())
+}
+
+/// The first is FNV's own example; the others were reckoned by a program that is not this one.
+#[test]
+fn a_key_has_the_hash_of_its_bytes_at_each_length(rt: HostRuntime) -> Result<(), Fail> {
+    assert!(rt; hash_of(rt.alloc(), "foobar")? == 0x85944171f73967e8);
+    assert!(rt; hash_of(rt.alloc(), "fourteen_bytes")? == 0x916f9f177c002459);
+    assert!(rt; hash_of(rt.alloc(), "fifteen_bytes_x")? == 0x6a10a7ae8cea7405);
+    assert!(rt; hash_of(rt.alloc(), "twenty_two_bytes_exact")? == 0xe1dae1fbdad44dbd);
+    assert!(rt; hash_of(rt.alloc(), "twenty_three_bytes_long")? == 0x99422f3e3fa10376);
+    Ok(())
+}
+
 fn blob_of(alloc: Global, text: &str) -> Result<Blob, NoMemory> {
     Blob::new(alloc, Vec::from_slice(alloc, text.as_bytes())?)
 }
