@@ -134,6 +134,7 @@ impl Blob {
     }
 
     /// The same bytes, held once more and not copied.
+    #[inline(always)]
     pub fn copy(&self) -> Result<Blob, NoMemory>
         ensures { IfOk result (λ b. b ≡ self.now) }
     {

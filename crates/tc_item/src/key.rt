@@ -1,5 +1,5 @@
 //! Keys: 1 to 250 bytes, any but 0 to 32 and 127.
-ghost use Rattle.std.specs.Prelude.{◌≡◌, ◌<◌, ◌≤◌, ◌∷◌, [], length, take, IfOk, IfSome, IsNone, IsOkUnless};
+ghost use Rattle.std.specs.Prelude.{◌≡◌, ◌<◌, ◌≤◌, ◌∷◌, [], length, IfOk, IfSome, IsNone, IsOkUnless};
 ghost use Rattle.std.specs.Prelude.{IsTrue, Err};
 ghost use Rattle.std.specs.List.{list_all};
 ghost use Rattle.std.specs.Str.{bytes_eq};
@@ -137,6 +137,7 @@ impl KeyBytes {
     }
 
     /// Whether these are the same bytes.
+    #[inline(always)]
     fn is_same(&self, other: &KeyBytes) -> bool
         requires one { IsInPlace self.now }
         requires other { IsInPlace other.now }
@@ -179,7 +180,7 @@ impl Key {
     {
         let bytes = match bytes.len() {
             0..=BESIDE_HASH => KeyBytes::hashed(bytes),
-            15..=IN_PLACE => KeyBytes::short(bytes),
+            0..=IN_PLACE => KeyBytes::short(bytes),
             _ => KeyBytes::Long(Blob::from_slice(alloc, bytes)?),
         };
         Ok(Key { bytes })
@@ -203,6 +204,7 @@ impl Key {
     }
 
     /// An equal key.
+    #[inline(always)]
     pub fn copy(&self, _alloc: Global) -> Result<Key, NoMemory>
         ensures { IfOk result (λ k. k ≡ self.now) }
     {
@@ -229,6 +231,7 @@ impl PartialEq for Key {
 
     ghost laws = { Prim.search (comparing, rules) };
 
+    #[inline(always)]
     fn eq(&self, other: &Key) -> bool {
         self.bytes.is_same(&other.bytes)
     }

@@ -1,6 +1,7 @@
 -- Keys that are looked up, and noted where they were found.
 use Rattle.std.specs.Prelude.{max, map, option_map, option_to_list}
-use Rattle.std.proofs.Common.{◌≡◌, ℕ, List, [], ◌∷◌, ◌++◌, length}
+use Rattle.std.proofs.Common.{◌≡◌, ℕ, ◌+◌, ◌<◌, List, [], ◌∷◌, ◌++◌, length, take, get_or}
+use Rattle.std.proofs.lemmas.List.{take_more}
 use Rattle.std.proofs.Common.{Option, Some, None, refl, sym, ◌∙◌, ap, subst, arith}
 use Rattle.tc_item.specs.declared.slot.Slot.{Slot}
 use Rattle.tc_readbuf.specs.declared.look_up.LookUp.{LookUp}
@@ -83,6 +84,15 @@ found_push m [] [] s key place h at = (at, tt)
 found_push m [] (p ∷ found) s key place h at = absurd h
 found_push m (k ∷ keys) [] s key place h at = absurd h
 found_push m (k ∷ keys) (p ∷ found) s key place h at = (h.0, found_push m keys found s key place h.1 at)
+
+-- a loop over keys that has come to one key more
+pub found_next : (m : ℕ) (keys : List (List ℕ)) (i : ℕ) (d key : List ℕ) (found new : List (Option Slot)) (s : LiveSlots)
+    (place : Option Slot) → i < length keys → key ≡ get_or keys i d → SeekSlots m (take i keys) found s
+    → SeeksSlot place m key s → new ≡ found ++ place ∷ [] → SeekSlots m (take (i + 1) keys) new s
+found_next m keys i d key found new s place lt e h at same =
+    subst (λ ps. SeekSlots m (take (i + 1) keys) ps s) (sym same)
+    (subst (λ ks. SeekSlots m ks (found ++ place ∷ []) s) (sym (take_more keys i d lt))
+    (found_push m (take i keys) found s (get_or keys i d) place h (subst (λ q. SeeksSlot place m q s) e at)))
 
 -- a hash for each key
 pub hashed_long : (keys : List (List ℕ)) (hashes : List ℕ) → AreHashed keys hashes → length hashes ≡ length keys

@@ -38,6 +38,10 @@ abbrev pub ArePlaced : List (Option Entry) → List (LookUp × ℕ) → Type 0
 ArePlaced slots [] = Unit {0}
 ArePlaced slots (r ∷ rs) = IsPlaced slots r.0 × ArePlaced slots rs
 
+-- a slot holds this entry, whose key is this one
+abbrev pub IsEntryAt : ℕ → List ℕ → Entry → LiveSlots → Type 0
+IsEntryAt n key e s = (slice_index_or s.held.slots n None ≡ Some e) × (e.key ≡ key)
+
 -- where what a key will hold at a moment is, or nowhere
 abbrev pub SeeksSlot : Option Slot → ℕ → List ℕ → LiveSlots → Type 0
 SeeksSlot None t key s = peeked t key (live_of s) ≡ None

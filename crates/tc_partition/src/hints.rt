@@ -44,6 +44,19 @@ fn slot_under(set: &[u32; WAYS], tag: u32) -> u32 {
     least.min((third ^ tag).min(fourth ^ tag))
 }
 
+/// The place of a hash's set. The upper half of a hash is as good as the lower, so both count.
+fn place_in(sets: &[[u32; WAYS]], hash: u64) -> usize {
+    (hash ^ (hash >> 32)) as usize & sets.len().wrapping_sub(1)
+}
+
+/// The slot that these sets have for a hash.
+fn slot_in(sets: &[[u32; WAYS]], hash: u64) -> Slot {
+    match sets.get(place_in(sets, hash)) {
+        Some(set) => Slot(slot_under(set, tag(hash)) as usize),
+        None => Slot(0),
+    }
+}
+
 /// The place in a set of a hint with the tag of this one, or that is blank.
 fn place_for(set: &[u32; WAYS], hint: u32) -> Option<usize> {
     for (place, other) in set.iter().enumerate() {
@@ -72,22 +85,22 @@ impl Hints {
         }
     }
 
-    /// The place of a hash's set. The upper half of a hash is as good as the lower, so both count.
-    fn place(&self, hash: u64) -> usize {
-        (hash ^ (hash >> 32)) as usize & self.sets.len().wrapping_sub(1)
-    }
-
     /// Where a key of this hash was found last. Where no hint says it is any slot, or one that there isn't.
     pub fn slot(&self, hash: u64) -> Slot {
-        match self.sets.get(self.place(hash)) {
-            Some(set) => Slot(slot_under(set, tag(hash)) as usize),
-            None => Slot(0),
+        slot_in(&self.sets, hash)
+    }
+
+    /// The same for each of these hashes, as many as there are places for.
+    pub fn find_all(&self, hashes: &[u64], slots: &mut [Slot]) {
+        let sets = self.sets.as_slice();
+        for (slot, hash) in slots.iter_mut().zip(hashes) {
+            *slot = slot_in(sets, *hash);
         }
     }
 
     /// Notes where a key of this hash is, if its slot is one that a hint can name.
     pub fn note(&mut self, hash: u64, slot: Slot) {
-        let at = self.place(hash);
+        let at = place_in(&self.sets, hash);
         if let (Some(set), Ok(slot)) = (self.sets.get_mut(at), u32::try_from(slot.0))
             && slot < SLOTS
         {

@@ -16,7 +16,7 @@ ghost use Rattle.tc_plain.specs.UserCache.{UserCache};
 ghost use Rattle.tc_plain.specs.Plans.{outcome_of, planned, IsLightPlan};
 ghost use Rattle.tc_slots.specs.Held.{IsFound, FindsSlot};
 ghost use Rattle.tc_partition.specs.Deferred.{Miss, hit, do_note, peeked};
-ghost use Rattle.tc_partition.specs.WaitingSlots.{SeeksSlot, placed_in, IsPlaced};
+ghost use Rattle.tc_partition.specs.WaitingSlots.{SeeksSlot, IsEntryAt, placed_in, IsPlaced};
 ghost use Rattle.tc_readbuf.specs.declared.look_up.LookUp.{LookUp};
 ghost use Rattle.tc_partition.specs.LiveSlots.{live_of, then_live, seen_of, plan_of};
 ghost use Rattle.tc_partition.specs.Working.{is_new, IsAimed};
@@ -128,9 +128,7 @@ impl LiveSlots {
     /// where data lies its entry, so all hints are looked into first, then all entries are read with their nodes in
     /// the lists, and then what these lead to.
     fn read_together(&self, hashes: &[u64], slots: &mut [Slot; TOGETHER]) {
-        for (slot, hash) in slots.iter_mut().zip(hashes) {
-            *slot = self.hints.slot(*hash);
-        }
+        self.hints.find_all(hashes, slots);
         let mut sum: u64 = 0;
         for (slot, _) in slots.iter().zip(hashes) {
             sum = sum.wrapping_add(self.held.read_node(*slot));
@@ -157,24 +155,52 @@ impl LiveSlots {
         }
     }
 
-    /// Where what a key will hold at the moment is, which may be this slot: where it is there, the index
-    /// is not asked.
-    pub(crate) fn seek_from(&self, slot: Slot, key: &Key, moment: Moment) -> Option<Slot>
+    /// Where what a key holds is, which may be this slot, and that: where it is there, the index is not asked.
+    #[inline(always)]
+    fn find_entry(&self, slot: Slot, key: &Key) -> Option<(Slot, &Entry)>
+        ensures { MatchOption result (held key.now self.now.held.areas ≡ None)
+            (λ found. IsEntryAt found.0.0 key.now found.1.now self.now
+            × (held key.now self.now.held.areas ≡ Some found.1.now)) }
+    {
+        self.held.owning();
+        if let Some(entry) = self.held.entry(slot)
+            && entry.key == *key
+        {
+            return Some((slot, entry));
+        }
+        let other = self.held.find(key)?;
+        match self.held.entry(other) {
+            Some(held) => Some((other, held)),
+            None => None,
+        }
+    }
+
+    /// Where what a key will hold at the moment is, which may be this slot, and that.
+    #[inline(always)]
+    pub(crate) fn seek_entry(&self, slot: Slot, key: &Key, moment: Moment) -> Option<(Slot, &Entry)>
         requires { AreSound self.now.held.limits self.now.held.areas }
-        ensures { SeeksSlot result moment key.now self.now }
+        ensures { MatchOption result (peeked moment key.now (live_of self.now) ≡ None)
+            (λ found. IsEntryAt found.0.0 key.now found.1.now self.now
+            × (peeked moment key.now (live_of self.now) ≡ Some found.1.now)) }
     {
         if is_flush_due(self.flush, moment) {
             return None;
         }
-        let slot = self.held.find_from(slot, key)?;
-        match self.held.entry(slot) {
-            Some(entry) => {
-                if alive(&entry.item, moment) {
-                    Some(slot)
-                } else {
-                    None
-                }
-            }
+        let found = self.find_entry(slot, key)?;
+        if alive(&found.1.item, moment) {
+            Some(found)
+        } else {
+            None
+        }
+    }
+
+    /// Where what a key will hold at the moment is, which may be this slot.
+    pub(crate) fn seek_from(&self, slot: Slot, key: &Key, moment: Moment) -> Option<Slot>
+        requires { AreSound self.now.held.limits self.now.held.areas }
+        ensures { SeeksSlot result moment key.now self.now }
+    {
+        match self.seek_entry(slot, key, moment) {
+            Some((slot, _)) => Some(slot),
             None => None,
         }
     }

@@ -1,12 +1,10 @@
 -- The hits of keys that are looked up one after another, by what each held before.
-use Rattle.std.specs.Prelude.{filter, option_map, option_to_list, is_some, count_by, not, ◌&&◌, ◌||◌}
+use Rattle.std.specs.Prelude.{filter, option_map, option_to_list, is_some, not, ◌&&◌, ◌||◌}
 use Rattle.std.specs.Str.{bytes_eq}
 use Rattle.std.specs.List.{list_any}
 use Rattle.std.proofs.Common.{◌≡◌, ℕ, ◌≤◌, ◌<◌, ◌+◌, Bool, true, false, cond, List, [], ◌∷◌, ◌++◌, length, get_or, take, Option}
 use Rattle.std.proofs.Common.{Some, None, refl, sym, ◌∙◌, ap, subst, append_assoc, arith}
-use Rattle.std.proofs.Math.ListN.{drop}
 use Rattle.std.proofs.lemmas.List.{append-nil, take_more}
-use Rattle.std.proofs.lemmas.List.Sums.{sum_by-drop_more}
 use Rattle.std.proofs.lemmas.Slice.Eq.{bytes_eq-Decides}
 use Rattle.tc_model.specs.Areas.{Areas, accessed, raised}
 use Rattle.tc_model.proofs.Every.{Every, Every-filter, EveryIn, EveryIn-accessed, EveryIn-weaker}
@@ -20,7 +18,7 @@ use Rattle.tc_plain.specs.Entries.{weight, lives, has_key, hit_of, with_item}
 use Rattle.tc_plain.specs.EvictionState.{EvictionState, held, entries_of, filtered, no_entries, is_flush_due, at_moment}
 use Rattle.tc_plain.specs.Placing.{seen, at_front, put_in, without_key, placed, used}
 use Rattle.tc_plain.specs.Doing.{looked_up, all_looked_up}
-use Rattle.tc_plain.specs.AreaLists.{change_of, is_due, found_in}
+use Rattle.tc_plain.specs.AreaLists.{change_of, is_due}
 use Rattle.tc_plain.specs.Soundness.{AreSound, count_under}
 use Rattle.tc_plain.proofs.Sound.{sound_at_moment, once_put, sound_hit}
 use Rattle.tc_plain.proofs.Held.{found, all_of}
@@ -251,7 +249,7 @@ lasting_at due m l = go (is_flush_due l.flush m)
         (record { window = left l.areas.window; probation = left l.areas.probation; protected = left l.areas.protected })
 
 -- a loop over keys that has come to one key more
-pub hits_next : (due : Option Due) (m : ℕ) (keys : List (List ℕ)) (i : ℕ) (d key : List ℕ) (asked : List (List ℕ)) (gone : Bool)
+hits_next : (due : Option Due) (m : ℕ) (keys : List (List ℕ)) (i : ℕ) (d key : List ℕ) (asked : List (List ℕ)) (gone : Bool)
     (l : EvictionState) (hits new : List Hit)
     → i < length keys → AreSound l.limits l.areas → gone ≡ is_due due m → asked ≡ take i keys → key ≡ get_or keys i d
     → hits ≡ (all_looked_up (change_of due) (take i keys) (at_moment m l)).0
@@ -275,31 +273,29 @@ hits_next due m keys i d key asked gone l hits new lt sound e f g h same =
     (cond (is_due due m && list_any (λ k. bytes_eq k q) (take i keys)) None (option_map hit_of (held q j.areas)))) g
     ∙ sym (hits-take_more due (is_due due m) keys i d j lt there (lasting_at due m l))
 
-shown_alone : (change : Item → Item) (o : Option Entry) (key : List ℕ) (l : EvictionState)
-    → option_to_list (option_map hit_of o) ≡ (looked_up change key o l).0 ++ []
-shown_alone change None key l = refl
-shown_alone change (Some e) key l = refl
+-- where the key was found to hold an entry, its hit is the next, unless the entry is gone since the key was asked before
+pub hits_found : (due : Option Due) (m : ℕ) (keys : List (List ℕ)) (i : ℕ) (d key : List ℕ) (asked : List (List ℕ)) (gone : Bool)
+    (l : EvictionState) (e : Entry) (hits new : List Hit)
+    → i < length keys → AreSound l.limits l.areas → gone ≡ is_due due m → asked ≡ take i keys → key ≡ get_or keys i d
+    → hits ≡ (all_looked_up (change_of due) (take i keys) (at_moment m l)).0
+    → held key (at_moment m l).areas ≡ Some e
+    → new ≡ hits ++ option_to_list (cond (gone && list_any (λ k. bytes_eq k key) asked) None (Some (hit_of e)))
+    → new ≡ (all_looked_up (change_of due) (take (i + 1) keys) (at_moment m l)).0
+hits_found due m keys i d key asked gone l e hits new lt sound eg ea ek h at same =
+    hits_next due m keys i d key asked gone l hits new lt sound eg ea ek h
+    (same ∙ ap (λ o. hits ++ option_to_list (cond (gone && list_any (λ k. bytes_eq k key) asked) None (option_map hit_of o))) (sym at))
 
--- what is shown of one key alone
-pub hits_alone : (due : Option Due) (m : ℕ) (keys : List (List ℕ)) (o : Option Entry) (l : EvictionState) → length keys ≡ 1
-    → o ≡ get_or (found_in m keys l) 0 None
-    → option_to_list (option_map hit_of o) ≡ (all_looked_up (change_of due) keys (at_moment m l)).0
-hits_alone due m [] o l e same = absurd (omega (arith, e))
-hits_alone due m (k ∷ []) o l e same =
-    let j : EvictionState = at_moment m l in
-    ap (λ z. option_to_list (option_map hit_of z)) same ∙ shown_alone (change_of due) (held k j.areas) k j
-hits_alone due m (k ∷ q ∷ keys) o l e same = absurd (omega (arith, e))
-
--- how many of the rest hold something, once one more was found or not
-pub fewer_left : (entries : List (Option Entry)) (i n : ℕ) → i < length entries
-    → count_by is_some entries ≤ n + count_by is_some (drop i entries)
-    → (count_by is_some entries ≤ n + 1 + count_by is_some (drop (i + 1) entries))
-    × (get_or entries i None ≡ None → count_by is_some entries ≤ n + count_by is_some (drop (i + 1) entries))
-fewer_left entries i n lt h =
-    let one : Option Entry → ℕ = λ o. cond (is_some o) 1 0 in
-    let more = sum_by-drop_more one entries i None lt in
-    (omega (arith, more, h, at_most (get_or entries i None)), λ none. omega (arith, more, h, ap one none))
+-- where it was found to hold nothing, the hits are the same
+pub hits_none : (due : Option Due) (m : ℕ) (keys : List (List ℕ)) (i : ℕ) (d key : List ℕ) (l : EvictionState) (hits : List Hit)
+    → i < length keys → AreSound l.limits l.areas → key ≡ get_or keys i d
+    → hits ≡ (all_looked_up (change_of due) (take i keys) (at_moment m l)).0
+    → held key (at_moment m l).areas ≡ None
+    → hits ≡ (all_looked_up (change_of due) (take (i + 1) keys) (at_moment m l)).0
+hits_none due m keys i d key l hits lt sound ek h none =
+    let b : Bool = is_due due m && list_any (λ k. bytes_eq k key) (take i keys) in
+    hits_next due m keys i d key (take i keys) (is_due due m) l hits hits lt sound refl refl ek h
+    (sym (ap (λ o. hits ++ option_to_list (cond b None (option_map hit_of o))) none ∙ left b))
   where
-    at_most : (o : Option Entry) → cond (is_some o) 1 0 ≤ 1
-    at_most None = omega arith
-    at_most (Some e) = omega arith
+    left : (b : Bool) → hits ++ option_to_list (cond b None (option_map hit_of None)) ≡ hits
+    left true = append-nil hits
+    left false = append-nil hits

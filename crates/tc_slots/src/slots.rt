@@ -232,7 +232,7 @@ impl Slots {
 
     /// The slot of what a key holds; the index is asked only where that isn't this one.
     #[inline(always)]
-    pub fn find_from(&self, slot: Slot, key: &Key) -> Option<Slot>
+    fn find_from(&self, slot: Slot, key: &Key) -> Option<Slot>
         ensures { FindsSlot result key.now self.now }
     {
         if self.is_of(slot, key) {

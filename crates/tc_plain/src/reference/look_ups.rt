@@ -2,30 +2,14 @@
 ghost use Rattle.std.specs.Prelude.{◌≡◌, ◌<◌, ◌+◌, ◌^◌, IfOk};
 ghost use Rattle.tc_plain.specs.EvictionState.{at_moment};
 ghost use Rattle.tc_plain.specs.Doing.{all_looked_up};
-ghost use Rattle.tc_plain.specs.AreaLists.{areas_of, live_of, HasRoom, change_of, found_in};
+ghost use Rattle.tc_plain.specs.AreaLists.{areas_of, live_of, HasRoom, change_of};
 ghost use Rattle.tc_plain.specs.Soundness.{AreSound};
 
-use crate::shared::hits::{FoundEntries, show_all};
-use crate::{Entry, EvictionState};
+use crate::EvictionState;
+use crate::shared::hits::{add_next, is_due};
 use std::alloc::Global;
 use tc_item::{Due, Key, Moment, NoMemory};
 use tc_stats::Hits;
-
-/// What keys will hold at a moment.
-#[derive(Drop)]
-struct Peeked<'a> {
-    live: &'a EvictionState,
-    keys: &'a [Key],
-    moment: Moment,
-}
-
-impl<'a> FoundEntries for Peeked<'a> {
-    ghost entries = { λ p. found_in p.moment p.keys.now (live_of p.live.now) };
-
-    fn entry(&self, i: usize) -> Option<&Entry> {
-        self.live.peek(self.keys[i].as_bytes(), self.moment)
-    }
-}
 
 impl EvictionState {
     /// The hits of keys at the moment, in the order asked. What is held has this due after its hit,
@@ -41,12 +25,14 @@ impl EvictionState {
         ensures { IfOk result (λ hits. hits ≡ (all_looked_up (change_of due) keys.now
             (at_moment moment (live_of self.now))).0) }
     {
-        let found = Peeked {
-            live: self,
-            keys,
-            moment,
-        };
-        show_all(alloc, keys, &found, moment, due)
+        let gone = is_due(due, moment);
+        let mut hits = Vec::with_capacity(alloc, keys.len())?;
+        for (i, key) in keys.iter().enumerate() {
+            if let Some(entry) = self.peek(key.as_bytes(), moment) {
+                add_next(alloc, &keys[..i], key, entry, gone, &mut hits)?;
+            }
+        }
+        Hits::from_vec(alloc, hits)
     }
 
     /// Looks keys up, one after another. What they hold has this due from now on, if one is given.
