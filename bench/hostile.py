@@ -17,13 +17,15 @@ import time
 
 LOGIN = b"set login 0 0 9\r\nalice one\r\n"
 MIB = 1024 * 1024
+# the bytes of twenty replies to a `get` of `big`, which holds a MiB
+TWENTY = 20 * (len(b"VALUE big 0 1048576\r\n") + MIB + len(b"\r\nEND\r\n"))
 
 
 class Server:
-    def __init__(self, program, port):
-        self.port = port
+    def __init__(self, program, port, limits=""):
+        self.program, self.port = program, port
         self.file = tempfile.NamedTemporaryFile("w", suffix=".toml")
-        self.file.write(f'listen = "127.0.0.1:{port}"\nworkers = 2\njournal = 4096\n'
+        self.file.write(f'listen = "127.0.0.1:{port}"\nworkers = 2\njournal = 4096\n{limits}'
                         '[[user]]\nname = "alice"\ntoken = "one"\nbudget = 67108864\n'
                         '[[user]]\nname = "bob"\ntoken = "two"\nbudget = 1048576\n')
         self.file.flush()
@@ -35,8 +37,16 @@ class Server:
             except ConnectionRefusedError:
                 time.sleep(0.05)
 
-    def connect(self, login=None):
-        link = socket.create_connection(("127.0.0.1", self.port), timeout=20)
+    def end(self):
+        self.process.kill()
+        self.process.wait()
+
+    def connect(self, login=None, buffer=None):
+        link = socket.socket()
+        if buffer:
+            link.setsockopt(socket.SOL_SOCKET, socket.SO_RCVBUF, buffer)
+        link.settimeout(20)
+        link.connect(("127.0.0.1", self.port))
         if login:
             link.sendall(login)
             assert read(link, 8) == b"STORED\r\n"
@@ -136,7 +146,7 @@ def closes_its_half(server):
     link = server.connect(LOGIN)
     link.sendall(b"set big 0 0 1048576\r\n" + b"x" * MIB + b"\r\n" + b"get big\r\n" * 20)
     link.shutdown(socket.SHUT_WR)
-    return len(read_all(link)) == 8 + 20 * (len(b"VALUE big 0 1048576\r\n") + MIB + 2 + 5)
+    return len(read_all(link)) == 8 + TWENTY
 
 
 def never_reads(server):
@@ -154,6 +164,24 @@ def never_reads(server):
     for link in links:
         reset(link)
     return grown < 20 * 6
+
+
+def reads_slowly(server):
+    """Of two clients that have 20 MiB to read, the one that reads on is served, and the one that reads nothing is closed."""
+    limited = Server(server.program, server.port + 1, "stalled_seconds = 2\n")
+    try:
+        slow, silent = (limited.connect(LOGIN, buffer=4096) for _ in range(2))
+        slow.sendall(b"set big 0 0 1048576\r\n" + b"x" * MIB + b"\r\n")
+        assert read(slow, 8) == b"STORED\r\n"
+        for link in (slow, silent):
+            link.sendall(b"get big\r\n" * 20)
+        came, end = 0, time.time() + 7
+        while time.time() < end:
+            came += len(slow.recv(8000))
+            time.sleep(0.1)
+        return came + len(read(slow, TWENTY - came)) == TWENTY > len(read_all(silent))
+    finally:
+        limited.end()
 
 
 def resets(server):
@@ -213,7 +241,7 @@ def one_more_than_most(server):
 
 
 CASES = [byte_by_byte, half_a_line, half_a_block, garbage, a_line_without_end, a_huge_block, closes_its_half,
-         never_reads, resets, guesses_tokens, another_users_key, three_thousand_connections, one_more_than_most]
+         never_reads, reads_slowly, resets, guesses_tokens, another_users_key, three_thousand_connections, one_more_than_most]
 
 
 def is_answered(server):
@@ -249,8 +277,7 @@ def main():
             print(f"the server ended with status {server.process.returncode}")
             wrong += 1
     finally:
-        server.process.kill()
-        server.process.wait()
+        server.end()
     sys.exit(wrong > 0)
 
 

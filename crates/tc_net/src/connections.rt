@@ -24,6 +24,8 @@ struct Place {
     holder: AtomicU64,
     /// The number of its user; 0 before it is known.
     user: AtomicU64,
+    /// The number of the user among whose open connections it is counted; 0 where it is nobody's.
+    counted: AtomicU64,
     /// The second in which it came.
     came: AtomicU64,
     /// The second in which bytes of it last came.
@@ -39,6 +41,7 @@ impl Place {
         Place {
             holder: AtomicU64::new(0),
             user: AtomicU64::new(0),
+            counted: AtomicU64::new(0),
             came: AtomicU64::new(0),
             heard: AtomicU64::new(0),
             stuck: AtomicU64::new(0),
@@ -83,6 +86,11 @@ impl Place {
         }
     }
 
+    /// Whether a connection has it, is not to go, and nothing of what waits for it is taken.
+    fn is_stuck(&self) -> bool {
+        self.staying().is_some() && self.stuck.load(SeqCst) != 0
+    }
+
     fn stay(&self) -> Stay {
         let stuck = self.stuck.load(SeqCst);
         Stay {
@@ -100,6 +108,8 @@ pub(crate) struct Connections {
     places: Vec<Place>,
     limits: ConnectionLimits,
     user_limits: LimitsByUser,
+    /// How many connections each user has that are not to go, in the order of the users' numbers.
+    open: Vec<AtomicU64>,
     /// The second that it is, counted from 1 at the server's start.
     second: AtomicU64,
     closed: AtomicU64,
@@ -109,10 +119,24 @@ pub(crate) struct Connections {
     refused_logins: AtomicU64,
     /// How often one was told to go.
     ousts: AtomicU64,
+    /// In how many seconds one was stuck, and is to be tried anew.
+    retries: AtomicU64,
     /// 1 once the server is to end.
     ended: AtomicU64,
     /// What an operator is told next. Where it is full, a further notice is lost.
     notices: ArrayQueue<Notice>,
+}
+
+/// No open connection of each user that has limits.
+fn none_open(alloc: Global, user_limits: &LimitsByUser) -> Result<Vec<AtomicU64>, AllocError> {
+    let mut open = Vec::new(alloc);
+    for number in 1..=u32::MAX {
+        if user_limits.of(UserNo::new(number)).is_none() {
+            break;
+        }
+        open.push(AtomicU64::new(0))?;
+    }
+    Ok(open)
 }
 
 impl Connections {
@@ -125,15 +149,18 @@ impl Connections {
         for _ in 0..MOST_OPEN {
             places.push(Place::new())?;
         }
+        let open = none_open(alloc, &user_limits)?;
         Ok(Connections {
             places,
             limits,
             user_limits,
+            open,
             second: AtomicU64::new(1),
             closed: AtomicU64::new(0),
             limited: AtomicU64::new(0),
             refused_logins: AtomicU64::new(0),
             ousts: AtomicU64::new(0),
+            retries: AtomicU64::new(0),
             ended: AtomicU64::new(0),
             notices: ArrayQueue::new(alloc, MOST_NOTICES)?,
         })
@@ -156,6 +183,7 @@ impl Connections {
     /// Gives a place up.
     pub(crate) fn leave(&self, at: usize) {
         if let Some(place) = self.places.get(at) {
+            self.count_out(place);
             place.holder.store(0, SeqCst);
         }
         self.closed.fetch_add(1, SeqCst);
@@ -210,6 +238,7 @@ impl Connections {
             return false;
         };
         place.ousted.store(number, SeqCst);
+        self.count_out(place);
         self.limited.fetch_add(1, SeqCst);
         self.ousts.fetch_add(1, SeqCst);
         true
@@ -221,31 +250,45 @@ impl Connections {
             return;
         };
         place.user.store(u64::from(user.number()), SeqCst);
-        if self.has_too_many(user) {
+        let others = self.count_in(place, user);
+        if self.is_too_many(user, others) {
             self.oust(at);
         }
     }
 
-    /// Whether a user has more connections than it may have.
-    fn has_too_many(&self, user: UserNo) -> bool {
-        let Some(limits) = self.user_limits.of(user) else {
-            return false;
+    /// The word that counts a user's open connections.
+    fn open_of(&self, user: u64) -> Option<&AtomicU64> {
+        self.open.get(user.checked_sub(1)? as usize)
+    }
+
+    /// Counts a connection among its user's, in one step, so that of two that come at once one is the first. How
+    /// many others the user has.
+    fn count_in(&self, place: &Place, user: UserNo) -> u64 {
+        let number = u64::from(user.number());
+        let Some(open) = self.open_of(number) else {
+            return 0;
         };
-        match limits.connections {
-            Some(most) => self.count_of(user) > u64::from(most),
-            None => false,
+        let others = open.fetch_add(1, SeqCst);
+        place.counted.store(number, SeqCst);
+        others
+    }
+
+    /// Counts a connection no more, where it is counted.
+    fn count_out(&self, place: &Place) {
+        if let Some(open) = self.open_of(place.counted.swap(0, SeqCst)) {
+            open.fetch_sub(1, SeqCst);
         }
     }
 
-    /// How many connections a user has.
-    fn count_of(&self, user: UserNo) -> u64 {
-        let mut count = 0u64;
-        for place in &self.places {
-            if place.user() == Some(user) {
-                count = count.saturating_add(1);
-            }
+    /// Whether a connection is one more than a user may have, which has so many others.
+    fn is_too_many(&self, user: UserNo, others: u64) -> bool {
+        match self.user_limits.of(user) {
+            Some(limits) => match limits.connections {
+                Some(most) => others >= u64::from(most),
+                None => false,
+            },
+            None => false,
         }
-        count
     }
 
     /// Whether the connection that has a place has stayed too long.
@@ -266,13 +309,17 @@ impl Connections {
         }
     }
 
-    /// Notes the second that it is, and has each connection go that has stayed too long. Whether it is
-    /// another second than before.
+    /// Notes the second that it is, has each connection go that has stayed too long, and each that is stuck tried
+    /// anew: a poll says that a socket may be written only once a third of its room is free, and a client that reads
+    /// slowly may take longer for that than it may be stuck. Whether it is another second than before.
     pub(crate) fn note_second(&self, second: u64) -> bool {
         if self.second.swap(second, SeqCst) == second {
             return false;
         }
         self.oust_overdue(second);
+        if self.places.iter().any(|place| place.is_stuck()) {
+            self.retries.fetch_add(1, SeqCst);
+        }
         true
     }
 
@@ -315,6 +362,19 @@ impl Connections {
     /// How often a connection was told to go.
     pub(crate) fn ousts(&self) -> u64 {
         self.ousts.load(SeqCst)
+    }
+
+    /// In how many seconds a connection was stuck.
+    pub(crate) fn retries(&self) -> u64 {
+        self.retries.load(SeqCst)
+    }
+
+    /// Whether nothing is taken of what waits for the connection that has a place.
+    pub(crate) fn is_stuck(&self, at: usize) -> bool {
+        match self.places.get(at) {
+            Some(place) => place.is_stuck(),
+            None => false,
+        }
     }
 
     /// How many connections were closed, those among them that might not stay.

@@ -56,6 +56,8 @@ pub(crate) struct EventLoop<R: Wait + Clock + Drop> {
     unpolled: u32,
     /// How often a connection had been told to go when it was last looked who was.
     ousts: u64,
+    /// In how many seconds a connection had been stuck when it was last looked which is.
+    retries: u64,
     /// All sockets were woken, since the server is to end.
     is_ending: bool,
 }
@@ -126,6 +128,7 @@ impl<R: Wait + Clock + Drop> EventLoop<R> {
             brought: false,
             unpolled: 0,
             ousts: 0,
+            retries: 0,
             is_ending: false,
         };
         Ok((event_loop, outlet))
@@ -163,6 +166,24 @@ impl<R: Wait + Clock + Drop> EventLoop<R> {
         self.unpolled = 0;
         self.listen(patience);
         self.wake_ousted();
+        self.wake_stuck();
+    }
+
+    /// Wakes the sockets of connections that are stuck, once a second, as if they could be written.
+    fn wake_stuck(&mut self) {
+        let retries = self.connections.retries();
+        if retries == self.retries {
+            return;
+        }
+        self.retries = retries;
+        for at in 0..self.readiness.len() {
+            if let Some(place) = self.readiness.connection(at)
+                && self.connections.is_stuck(place)
+            {
+                self.readiness.set(at, WRITABLE);
+                self.name(at);
+            }
+        }
     }
 
     /// Wakes the sockets of connections that are to go.
