@@ -2,7 +2,7 @@
 use std::fmt::Style;
 use std::net::SocketAddr;
 use std::{io, str};
-use tc_users::{Address, Field, Limit, Settings, UserSpec, Users};
+use tc_users::{Address, Field, Limit, MOST_CONNECTIONS, Settings, UserNo, UserSpec, Users};
 use toml::{Table, Value};
 
 /// The bytes of a MiB.
@@ -223,6 +223,31 @@ fn print_metrics(rt: &HostRuntime, metrics: &Address) -> io::Result<()> {
     Ok(())
 }
 
+/// How many connections the limits let be open: of all that have not logged in, and of each user. `None` where
+/// one of these has no limit.
+fn most_open(settings: &Settings) -> Option<u64> {
+    let mut most = u64::from(settings.limits.unbound_connections?);
+    for place in 0..settings.users.rows().len() {
+        let user = UserNo::new(u32::try_from(place).ok()?.checked_add(1)?);
+        let limits = settings.user_limits.of(user)?;
+        most = most.saturating_add(u64::from(limits.connections?));
+    }
+    Some(most)
+}
+
+/// Warns where some connections can leave a user without a place.
+fn warn_of_places(rt: &HostRuntime, settings: &Settings) -> io::Result<()> {
+    match most_open(settings) {
+        Some(most) if most <= u64::from(MOST_CONNECTIONS) => Ok(()),
+        Some(most) => println!(rt;
+            "warning: `unbound_connections` and all `connections` come to {most} of {MOST_CONNECTIONS}, so others can leave a user without a place"
+        ),
+        None => println!(rt;
+            "warning: without `unbound_connections` and each user's `connections` others can leave a user without a place"
+        ),
+    }
+}
+
 /// Prints what good settings come to.
 pub fn print_settings(rt: &HostRuntime, settings: &Settings) -> io::Result<()> {
     let listen = settings.listen.as_str();
@@ -234,6 +259,7 @@ pub fn print_settings(rt: &HostRuntime, settings: &Settings) -> io::Result<()> {
     if let Some(metrics) = &settings.metrics {
         print_metrics(rt, metrics)?;
     }
+    warn_of_places(rt, settings)?;
     print_users(rt, &settings.users, journal)?;
     println!(rt;
         "budget in bytes; then MiB resident with budgets full of items of {SMALL} and of {LARGE} bytes,"

@@ -10,10 +10,11 @@ may\n\
 # Where the server listens: an IP address and a port. Names are not resolved.\n\
 listen = \"127.0.0.1:11211\"\n\n\
 # How many threads serve connections: 1 to 64. Users are dealt out to them in the order below, so\n\
-# that one thread serves all connections of a user; `serve --spread` has all threads serve each user.\n\
+# that one thread serves all connections of a user, and others that have time help where it has none\n\
+# left (docs/OPERATING.md, \"Serving\").\n\
 workers = 4\n\n\
-# How many of a user's last commands `serve --audit` keeps with their outcomes, so that an audit can\n\
-# replay them: 16 to 65536, and 16 where it is left out.\n\
+# How many of a user's last commands `serve --until N --audit` keeps with their outcomes, so that an\n\
+# audit can replay them: 16 to 65536, and 16 where it is left out.\n\
 # journal = 16\n\n\
 # Limits on connections. Each may be left out, and is no limit then. Seconds are 1 to 86400, and\n\
 # connections 1 to 1024.\n\n\
@@ -48,7 +49,9 @@ token = \"change-me-2\"\n\
 token2 = \"change-me-3\"\n\
 budget = 1048576\n\
 # The most data bytes of one item: 1 to 1048576. It may be left out, and is the latter then.\n\
-largest = 65536\n";
+largest = 65536\n\
+# With alice's 512 and `unbound_connections` this comes to 1024: so neither user takes the other's places.\n\
+connections = 256\n";
 
 /// The first lines of a good text.
 pub const TOP: &str = "listen = \"127.0.0.1:11211\"\nworkers = 4\njournal = 4096\n";
