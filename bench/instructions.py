@@ -2,13 +2,15 @@
 """How many instructions a request takes in the server, outside the kernel: in all, under the user's lock, and by
 function. A busy host does not change them, so they tell of changes that times are too unsteady for.
 
-usage: bench/instructions.py PROGRAM [PROGRAM ..] [--loads NAMES] [--functions N]
+usage: bench/instructions.py PROGRAM [PROGRAM ..] [--loads NAMES] [--functions N] [--bar LOAD<=N] [--bar LOAD>=N]
 
 It starts each `PROGRAM serve` under valgrind's callgrind, as bench/serve.py starts it, with one worker. Ten
 connections of one user ask for what `LOADS` says, over 20,000 items that were all set before the count begins. Numbers
 are instructions a request; those of several programs stand side by side, and ratios are to the first. Two runs of one
 program come to the same within one per cent. Under the lock is what calls of a user's book take: not what is read
 ahead for several connections, nor what stands between two calls.
+
+A bar on what the first program takes under the lock, as --bar 'many<=24800', ends a run that misses it with status 2.
 
 What is zeroed and copied is read off the instructions: a store of a register of 16 bytes that was cleared just
 before, or of a zero, and other moves of such registers to and from memory. A function begins by zeroing all places
@@ -36,6 +38,7 @@ LOADS = {
 # a call of a user's book
 CALL = "HallBook::call"
 CLEARED = re.compile(r"(%xmm\d+),\1$")
+BAR = re.compile(r"(\w+)(<=|>=)(\d+)")
 STORED = re.compile(r"(%xmm\d+),.*\(")
 ZERO = re.compile(r"\$0x0,.*\(")
 
@@ -136,22 +139,42 @@ def measured(program, load, asked):
             {name: cost / requests for name, cost in functions.items()})
 
 
+def bar(text):
+    found = BAR.fullmatch(text)
+    if not found or found[1] not in LOADS:
+        raise argparse.ArgumentTypeError(f"no bar: {text}")
+    return found[1], found[2], int(found[3])
+
+
+def missed(load, count, bars):
+    """Tells which bars of a load what is taken under the lock misses; whether it does any."""
+    missed = [f"{sign}{limit}" for name, sign, limit in bars
+              if name == load and (count > limit if sign == "<=" else count < limit)]
+    for words in missed:
+        print(f"missed: {load}{words}, it is {count:,.0f}", flush=True)
+    return bool(missed)
+
+
 def main():
     words = argparse.ArgumentParser(description=__doc__, formatter_class=argparse.RawDescriptionHelpFormatter)
     words.add_argument("programs", nargs="+", metavar="PROGRAM", help="crates/partcached/out/partcached, as `rt run` leaves it")
     words.add_argument("--loads", default=",".join(LOADS), help="default: %(default)s")
     words.add_argument("--functions", type=int, default=20, help="so many functions are shown; default: %(default)s")
+    words.add_argument("--bar", type=bar, action="append", default=[], help="as many<=24800, for what is under the lock")
     asked = words.parse_args()
     for load in asked.loads.split(","):
         if load not in LOADS:
             words.error(f"no such load: {load}")
     asked.budget, asked.workers, asked.threads = 256 << 20, 1, 1
+    is_missed = False
     with tempfile.TemporaryDirectory() as asked.folder:
         asked.load = str(Path(asked.folder, "load"))
         subprocess.run(["cc", "-O2", "-pthread", "-o", asked.load, str(BENCH / "load.c"), "-lm"], check=True)
         for load in asked.loads.split(","):
             told = [measured(program, load, asked) for program in asked.programs]
             show(load, asked.programs, told, asked.functions)
+            is_missed |= missed(load, told[0][0]["under the lock"], asked.bar)
+    return 2 if is_missed else 0
 
 
 def show(load, programs, told, most):
