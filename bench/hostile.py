@@ -168,14 +168,14 @@ def never_reads(server):
 
 def reads_slowly(server):
     """Of two clients that have 20 MiB to read, the one that reads on is served, and the one that reads nothing is closed."""
-    limited = Server(server.program, server.port + 1, "stalled_seconds = 2\n")
+    limited = Server(server.program, server.port + 1, "stalled_seconds = 4\n")
     try:
         slow, silent = (limited.connect(LOGIN, buffer=4096) for _ in range(2))
         slow.sendall(b"set big 0 0 1048576\r\n" + b"x" * MIB + b"\r\n")
         assert read(slow, 8) == b"STORED\r\n"
         for link in (slow, silent):
             link.sendall(b"get big\r\n" * 20)
-        came, end = 0, time.time() + 7
+        came, end = 0, time.time() + 9
         while time.time() < end:
             came += len(slow.recv(8000))
             time.sleep(0.1)
