@@ -14,6 +14,7 @@ import subprocess
 import sys
 import tempfile
 import time
+from pathlib import Path
 
 LOGIN = b"set login 0 0 9\r\nalice one\r\n"
 MIB = 1024 * 1024
@@ -22,14 +23,17 @@ TWENTY = 20 * (len(b"VALUE big 0 1048576\r\n") + MIB + len(b"\r\nEND\r\n"))
 
 
 class Server:
-    def __init__(self, program, port, limits=""):
+    """A server with these limits on connections, and these on alice's."""
+
+    def __init__(self, program, port, limits="", alices=""):
         self.program, self.port = program, port
         self.file = tempfile.NamedTemporaryFile("w", suffix=".toml")
         self.file.write(f'listen = "127.0.0.1:{port}"\nworkers = 2\njournal = 4096\n{limits}'
-                        '[[user]]\nname = "alice"\ntoken = "one"\nbudget = 67108864\n'
+                        f'[[user]]\nname = "alice"\ntoken = "one"\nbudget = 67108864\n{alices}'
                         '[[user]]\nname = "bob"\ntoken = "two"\nbudget = 1048576\n')
         self.file.flush()
-        self.process = subprocess.Popen([program, "serve", "--config", self.file.name], stdout=subprocess.DEVNULL)
+        self.said = tempfile.NamedTemporaryFile()
+        self.process = subprocess.Popen([program, "serve", "--config", self.file.name], stdout=self.said)
         for _ in range(100):
             try:
                 self.connect().close()
@@ -40,6 +44,14 @@ class Server:
     def end(self):
         self.process.kill()
         self.process.wait()
+
+    def says(self, line):
+        """Whether it comes to print this line, in five seconds."""
+        for _ in range(100):
+            if line in Path(self.said.name).read_text().splitlines():
+                return True
+            time.sleep(0.05)
+        return False
 
     def connect(self, login=None, buffer=None):
         link = socket.socket()
@@ -179,7 +191,26 @@ def reads_slowly(server):
         while time.time() < end:
             came += len(slow.recv(8000))
             time.sleep(0.1)
-        return came + len(read(slow, TWENTY - came)) == TWENTY > len(read_all(silent))
+        number = silent.getsockname()[1]
+        return (came + len(read(slow, TWENTY - came)) == TWENTY > len(read_all(silent)) and limited.says(
+            f"127.0.0.1:{number} of alice read nothing of its replies for `stalled_seconds`: closed"))
+    finally:
+        limited.end()
+
+
+def stays_too_long(server):
+    """One that does not log in, one that asks for nothing and one that is too many are closed, and an operator told."""
+    limited = Server(server.program, server.port + 1, "login_seconds = 1\n", "connections = 1\nidle_seconds = 1\n")
+    try:
+        stranger, alice = limited.connect(), limited.connect(LOGIN)
+        another = limited.connect()
+        another.sendall(LOGIN)
+        if read_all(another) not in (b"", b"STORED\r\n") or read_all(stranger) + read_all(alice):
+            return False
+        numbers = [link.getsockname()[1] for link in (stranger, alice)]
+        return (limited.says("alice has as many connections as it may: closed 1 more")
+                and limited.says(f"127.0.0.1:{numbers[0]} did not log in within `login_seconds`: closed")
+                and limited.says(f"127.0.0.1:{numbers[1]} of alice sent nothing for `idle_seconds`: closed"))
     finally:
         limited.end()
 
@@ -241,7 +272,8 @@ def one_more_than_most(server):
 
 
 CASES = [byte_by_byte, half_a_line, half_a_block, garbage, a_line_without_end, a_huge_block, closes_its_half,
-         never_reads, reads_slowly, resets, guesses_tokens, another_users_key, three_thousand_connections, one_more_than_most]
+         never_reads, reads_slowly, stays_too_long, resets, guesses_tokens, another_users_key, three_thousand_connections,
+         one_more_than_most]
 
 
 def is_answered(server):

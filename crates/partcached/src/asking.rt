@@ -184,7 +184,7 @@ fn check_command<'a>(alloc: Global) -> Result<Command<'a>, AllocError> {
 /// The program's name, version and purpose.
 fn root_command<'a>(alloc: Global) -> Command<'a> {
     Command::new(alloc, "partcached")
-        .version("1.14.12")
+        .version("1.14.13")
         .about("A memcached server in which each user has a partition of its own")
         .subcommand_required(true)
 }

@@ -2,7 +2,7 @@
 use std::fmt::Style;
 use std::net::SocketAddr;
 use std::{io, str};
-use tc_users::{Address, Field, Limit, MOST_CONNECTIONS, Settings, UserNo, UserSpec, Users};
+use tc_users::{Address, Field, Limit, MOST_CONNECTIONS, Settings, Text, UserNo, UserSpec, Users};
 use toml::{Table, Value};
 
 /// The bytes of a MiB.
@@ -248,6 +248,22 @@ fn warn_of_places(rt: &HostRuntime, settings: &Settings) -> io::Result<()> {
     }
 }
 
+/// Whether a token is one of those in examples/partcached.toml.
+fn is_example(token: &Text) -> bool {
+    token.as_bytes().starts_with(b"change-me")
+}
+
+/// Warns of each user who has one of the example's tokens.
+fn warn_of_tokens(rt: &HostRuntime, users: &Users) -> io::Result<()> {
+    for row in users.rows() {
+        if is_example(&row.token) || row.second.as_ref().is_some_and(is_example) {
+            let name = name_of(row);
+            println!(rt; "warning: {name} has a token of the example, which anyone can read")?;
+        }
+    }
+    Ok(())
+}
+
 /// Prints what good settings come to.
 pub fn print_settings(rt: &HostRuntime, settings: &Settings) -> io::Result<()> {
     let listen = settings.listen.as_str();
@@ -260,6 +276,7 @@ pub fn print_settings(rt: &HostRuntime, settings: &Settings) -> io::Result<()> {
         print_metrics(rt, metrics)?;
     }
     warn_of_places(rt, settings)?;
+    warn_of_tokens(rt, &settings.users)?;
     print_users(rt, &settings.users, journal)?;
     println!(rt;
         "budget in bytes; then MiB resident with budgets full of items of {SMALL} and of {LARGE} bytes,"

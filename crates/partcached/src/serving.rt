@@ -8,7 +8,7 @@ use std::alloc::{AllocError, Global};
 use std::io;
 use std::net::SocketAddr;
 use tc_locked::Audit;
-use tc_net::{Audience, Beginning, Notice};
+use tc_net::{Audience, Beginning, Notice, Timeout};
 use tc_partition::Fast;
 use tc_users::{Settings, UserNo, Users};
 
@@ -91,7 +91,37 @@ impl Printing<'_> {
             Notice::HoldsUp { peer } => println!(self.rt;
                 "{peer} sent half a block and no more, and held up others of its user: closed"
             ),
+            Notice::TimedOut {
+                peer,
+                user,
+                timeout,
+            } => self.print_timed_out(peer, *user, *timeout),
+            Notice::UserFull { user, count } => {
+                let name = self.name_of(*user);
+                println!(self.rt; "{name} has as many connections as it may: closed {count} more")
+            }
             Notice::NoMemory { peer } => println!(self.rt; "out of memory for a command of {peer}"),
+        }
+    }
+
+    /// The line of a connection whose time ran out.
+    fn print_timed_out(
+        &self,
+        peer: &SocketAddr,
+        user: Option<UserNo>,
+        timeout: Timeout,
+    ) -> io::Result<()> {
+        let did_not = match timeout {
+            Timeout::Login => "did not log in within `login_seconds`",
+            Timeout::Idle => "sent nothing for `idle_seconds`",
+            Timeout::Stalled => "read nothing of its replies for `stalled_seconds`",
+        };
+        match user {
+            None => println!(self.rt; "{peer} {did_not}: closed"),
+            Some(user) => {
+                let name = self.name_of(user);
+                println!(self.rt; "{peer} of {name} {did_not}: closed")
+            }
         }
     }
 

@@ -1,9 +1,11 @@
 -- When a connection has stayed too long. Source: docs/OPERATING.md, 'Settings': `login_seconds`, `stalled_seconds` and
 -- `idle_seconds`. Seconds are counted from the server's start, and a second that began is not a whole one.
-use Rattle.std.specs.Prelude.{ℕ, ◌+◌, Bool, false, nat_lt, ◌||◌, Option, Some, None}
+use Rattle.std.specs.Prelude.{ℕ, ◌+◌, Bool, false, nat_lt, if◌then◌else◌, Option, Some, None}
 use Rattle.tc_users.specs.declared.limits.ConnectionLimits.{ConnectionLimits}
 use Rattle.tc_users.specs.declared.limits.UserLimits.{UserLimits}
 use Rattle.tc_net.specs.declared.overdue.Stay.{Stay}
+use Rattle.tc_net.specs.declared.overdue.Timeout.{Timeout}
+use Rattle.tc_net.specs.declared.overdue.Timeout.TheVariants.{Login, Idle, Stalled}
 
 -- more seconds than the limit went by since a moment; never where there is no limit
 abbrev pub is_past : Option ℕ → ℕ → ℕ → Bool
@@ -20,6 +22,13 @@ abbrev pub is_silent : ConnectionLimits → Option UserLimits → Stay → ℕ �
 is_silent limits None stay now = is_past limits.login_seconds stay.came now
 is_silent limits (Some own) stay now = is_past own.idle_seconds stay.heard now
 
--- either
-abbrev pub is_overdue : ConnectionLimits → Option UserLimits → Stay → ℕ → Bool
-is_overdue limits own stay now = is_silent limits own stay now || is_stalled limits.stalled_seconds stay.stuck now
+-- which time runs out for one that is silent, of a user where its limits are given
+abbrev pub silence_of : Option UserLimits → Timeout
+silence_of None = Login
+silence_of (Some own) = Idle
+
+-- which time ran out for a connection, if one did; that for its silence comes first
+abbrev pub overdue : ConnectionLimits → Option UserLimits → Stay → ℕ → Option Timeout
+overdue limits own stay now =
+    if is_silent limits own stay now then Some (silence_of own)
+    else (if is_stalled limits.stalled_seconds stay.stuck now then Some Stalled else None)

@@ -109,7 +109,7 @@ impl<'a, C: Cache, R: Clock + Drop, N: Naming, A: Audience> Source<C, N> for Tic
     fn attend<W: Wait>(&mut self, rt: &W, hall: &Hall<C, N>, clock: &Moments) {
         self.deal_out();
         let second = self.second();
-        if self.connections.note_second(second) {
+        if self.connections.note_second(rt, second) {
             self.tell(rt);
         }
         let Some(mut scraping) = self.scraping.take() else {

@@ -1,6 +1,8 @@
 //! Who is in: what the listener, the inlets, the wires and the keeper of a server share.
+use crate::atomic_addr::AtomicAddr;
 use crate::notice::Notice;
-use crate::overdue::{Stay, is_overdue};
+use crate::overdue::{Stay, overdue};
+use crate::tallies::Tallies;
 use crossbeam_queue::ArrayQueue;
 use std::alloc::{AllocError, Global};
 use std::net::SocketAddr;
@@ -24,6 +26,8 @@ struct Place {
     holder: AtomicU64,
     /// The number of its user; 0 before it is known.
     user: AtomicU64,
+    /// Where it comes from.
+    peer: AtomicAddr,
     /// The number of the user among whose open connections it is counted; 0 where it is nobody's.
     counted: AtomicU64,
     /// The second in which it came.
@@ -41,6 +45,7 @@ impl Place {
         Place {
             holder: AtomicU64::new(0),
             user: AtomicU64::new(0),
+            peer: AtomicAddr::new(),
             counted: AtomicU64::new(0),
             came: AtomicU64::new(0),
             heard: AtomicU64::new(0),
@@ -49,9 +54,10 @@ impl Place {
         }
     }
 
-    /// Gives it to a connection.
-    fn give(&self, number: u64, second: u64) {
+    /// Gives it to a connection from there.
+    fn give(&self, number: u64, peer: SocketAddr, second: u64) {
         self.user.store(0, SeqCst);
+        self.peer.store(peer);
         self.came.store(second, SeqCst);
         self.heard.store(second, SeqCst);
         self.stuck.store(0, SeqCst);
@@ -108,8 +114,8 @@ pub(crate) struct Connections {
     places: Vec<Place>,
     limits: ConnectionLimits,
     user_limits: LimitsByUser,
-    /// How many connections each user has that are not to go, in the order of the users' numbers.
-    open: Vec<AtomicU64>,
+    /// How many each user has.
+    tallies: Tallies,
     /// The second that it is, counted from 1 at the server's start.
     second: AtomicU64,
     closed: AtomicU64,
@@ -127,18 +133,6 @@ pub(crate) struct Connections {
     notices: ArrayQueue<Notice>,
 }
 
-/// No open connection of each user that has limits.
-fn none_open(alloc: Global, user_limits: &LimitsByUser) -> Result<Vec<AtomicU64>, AllocError> {
-    let mut open = Vec::new(alloc);
-    for number in 1..=u32::MAX {
-        if user_limits.of(UserNo::new(number)).is_none() {
-            break;
-        }
-        open.push(AtomicU64::new(0))?;
-    }
-    Ok(open)
-}
-
 impl Connections {
     pub(crate) fn new(
         alloc: Global,
@@ -149,12 +143,12 @@ impl Connections {
         for _ in 0..MOST_OPEN {
             places.push(Place::new())?;
         }
-        let open = none_open(alloc, &user_limits)?;
+        let tallies = Tallies::new(alloc, &user_limits)?;
         Ok(Connections {
             places,
             limits,
             user_limits,
-            open,
+            tallies,
             second: AtomicU64::new(1),
             closed: AtomicU64::new(0),
             limited: AtomicU64::new(0),
@@ -166,12 +160,12 @@ impl Connections {
         })
     }
 
-    /// The place of a connection that came, whose number is counted from 1. Where there is none, the
+    /// The place of a connection that came from there, whose number is counted from 1. Where there is none, the
     /// connection was counted as closed.
-    pub(crate) fn enter(&self, number: u64) -> Option<usize> {
+    pub(crate) fn enter(&self, number: u64, peer: SocketAddr) -> Option<usize> {
         for (at, place) in self.places.iter().enumerate() {
             if place.holder.load(SeqCst) == 0 {
-                place.give(number, self.second.load(SeqCst));
+                place.give(number, peer, self.second.load(SeqCst));
                 return Some(at);
             }
         }
@@ -251,33 +245,22 @@ impl Connections {
         };
         place.user.store(u64::from(user.number()), SeqCst);
         let others = self.count_in(place, user);
-        if self.is_too_many(user, others) {
-            self.oust(at);
+        if self.is_too_many(user, others) && self.oust(at) {
+            self.tallies.count_untold(u64::from(user.number()));
         }
     }
 
-    /// The word that counts a user's open connections.
-    fn open_of(&self, user: u64) -> Option<&AtomicU64> {
-        self.open.get(user.checked_sub(1)? as usize)
-    }
-
-    /// Counts a connection among its user's, in one step, so that of two that come at once one is the first. How
-    /// many others the user has.
+    /// Counts a connection among its user's. How many others the user has.
     fn count_in(&self, place: &Place, user: UserNo) -> u64 {
         let number = u64::from(user.number());
-        let Some(open) = self.open_of(number) else {
-            return 0;
-        };
-        let others = open.fetch_add(1, SeqCst);
+        let others = self.tallies.count_in(number);
         place.counted.store(number, SeqCst);
         others
     }
 
     /// Counts a connection no more, where it is counted.
     fn count_out(&self, place: &Place) {
-        if let Some(open) = self.open_of(place.counted.swap(0, SeqCst)) {
-            open.fetch_sub(1, SeqCst);
-        }
+        self.tallies.count_out(place.counted.swap(0, SeqCst));
     }
 
     /// Whether a connection is one more than a user may have, which has so many others.
@@ -291,20 +274,39 @@ impl Connections {
         }
     }
 
-    /// Whether the connection that has a place has stayed too long.
-    fn has_overstayed(&self, place: &Place, second: u64) -> bool {
-        let own = match place.user() {
+    /// What an operator is told of the connection that has a place, where it has stayed too long.
+    fn overdue_at(&self, place: &Place, second: u64) -> Option<Notice> {
+        let _ = place.staying()?;
+        let user = place.user();
+        let own = match user {
             Some(user) => self.user_limits.of(user),
             None => None,
         };
-        is_overdue(self.limits, own, place.stay(), second)
+        let timeout = overdue(self.limits, own, place.stay(), second)?;
+        Some(Notice::TimedOut {
+            peer: place.peer.load(),
+            user,
+            timeout,
+        })
     }
 
-    /// Has each connection go that has stayed too long.
-    fn oust_overdue(&self, second: u64) {
+    /// Has each connection go that has stayed too long, and an operator told of it.
+    fn oust_overdue<R: Wait>(&self, rt: &R, second: u64) {
         for (at, place) in self.places.iter().enumerate() {
-            if place.staying().is_some() && self.has_overstayed(place, second) {
-                self.oust(at);
+            if let Some(notice) = self.overdue_at(place, second)
+                && self.oust(at)
+            {
+                self.note(rt, notice);
+            }
+        }
+    }
+
+    /// Has an operator told of each user some of whose connections were too many.
+    fn note_too_many<R: Wait>(&self, rt: &R) {
+        for tally in self.tallies.as_slice() {
+            let (user, count) = (tally.user(), tally.take_untold());
+            if count > 0 {
+                self.note(rt, Notice::UserFull { user, count });
             }
         }
     }
@@ -312,11 +314,12 @@ impl Connections {
     /// Notes the second that it is, has each connection go that has stayed too long, and each that is stuck tried
     /// anew: a poll says that a socket may be written only once a third of its room is free, and a client that reads
     /// slowly may take longer for that than it may be stuck. Whether it is another second than before.
-    pub(crate) fn note_second(&self, second: u64) -> bool {
+    pub(crate) fn note_second<R: Wait>(&self, rt: &R, second: u64) -> bool {
         if self.second.swap(second, SeqCst) == second {
             return false;
         }
-        self.oust_overdue(second);
+        self.oust_overdue(rt, second);
+        self.note_too_many(rt);
         if self.places.iter().any(|place| place.is_stuck()) {
             self.retries.fetch_add(1, SeqCst);
         }

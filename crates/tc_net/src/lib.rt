@@ -41,6 +41,7 @@
 #![tactic(auto)]
 
 mod at_end;
+mod atomic_addr;
 mod audience;
 mod auditing;
 mod beginning;
@@ -58,10 +59,12 @@ mod readiness;
 mod scraping;
 mod serving;
 mod socket;
+mod tallies;
 
 pub use at_end::AtEnd;
 pub use audience::Audience;
 pub use auditing::Found;
 pub use beginning::Beginning;
 pub use notice::Notice;
+pub use overdue::Timeout;
 pub use serving::{Affinity, Unserved, serve};

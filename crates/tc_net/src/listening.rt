@@ -94,7 +94,7 @@ impl Listening {
         }
         let number = self.number;
         self.number = number.wrapping_add(1);
-        let Some(place) = self.connections.enter(number.saturating_add(1)) else {
+        let Some(place) = self.connections.enter(number.saturating_add(1), peer) else {
             self.connections.note(rt, Notice::NoPlace { peer });
             return;
         };

@@ -1,4 +1,5 @@
 //! What an operator is told while a server serves.
+use crate::overdue::Timeout;
 use std::net::SocketAddr;
 use tc_users::UserNo;
 
@@ -29,6 +30,17 @@ pub enum Notice {
     /// A connection from there sent half a block and no more, while others of its user waited, and goes.
     HoldsUp {
         peer: SocketAddr,
+    },
+    /// This time ran out for a connection from there, of this user where it has logged in, and it goes.
+    TimedOut {
+        peer: SocketAddr,
+        user: Option<UserNo>,
+        timeout: Timeout,
+    },
+    /// So many connections of a user go behind their logins, since it had as many as it may.
+    UserFull {
+        user: UserNo,
+        count: u64,
     },
     /// Memory was refused to a command from there, or to its reply.
     NoMemory {

@@ -1,8 +1,19 @@
 //! When a connection has stayed too long.
 ghost use Rattle.std.specs.Prelude.{◌≡◌};
-ghost use Rattle.tc_net.specs.Deadlines.{is_past, is_stalled, is_silent, is_overdue};
+ghost use Rattle.tc_net.specs.Deadlines.{is_past, is_stalled, is_silent, silence_of, overdue};
 
 use tc_users::{ConnectionLimits, UserLimits};
+
+/// Which time ran out for a connection.
+#[derive(Clone, Copy, Debug, PartialEq, Eq)]
+pub enum Timeout {
+    /// That to log in: `login_seconds`.
+    Login,
+    /// That in which a user's connection sends a byte: `idle_seconds`.
+    Idle,
+    /// That in which a byte of what waits for it is taken: `stalled_seconds`.
+    Stalled,
+}
 
 /// What a connection's stay is judged by, in seconds of the server.
 #[derive(Clone, Copy, PartialEq, Eq)]
@@ -48,14 +59,30 @@ fn is_silent(limits: ConnectionLimits, own: Option<UserLimits>, stay: Stay, now:
     }
 }
 
-/// Whether a connection has stayed too long, under these limits and those of its user.
-pub(crate) fn is_overdue(
+/// Which time runs out for a connection that is silent, of a user whose limits are given where it has one.
+fn silence_of(own: Option<UserLimits>) -> Timeout
+    ensures { result ≡ silence_of own }
+{
+    match own {
+        None => Timeout::Login,
+        Some(_) => Timeout::Idle,
+    }
+}
+
+/// Which time ran out for a connection, under these limits and those of its user; `None` where none did.
+pub(crate) fn overdue(
     limits: ConnectionLimits,
     own: Option<UserLimits>,
     stay: Stay,
     now: u64,
-) -> bool
-    ensures { result ≡ is_overdue limits own stay now }
+) -> Option<Timeout>
+    ensures { result ≡ overdue limits own stay now }
 {
-    is_silent(limits, own, stay, now) || is_stalled(limits.stalled_seconds, stay.stuck, now)
+    if is_silent(limits, own, stay, now) {
+        return Some(silence_of(own));
+    }
+    if is_stalled(limits.stalled_seconds, stay.stuck, now) {
+        return Some(Timeout::Stalled);
+    }
+    None
 }
