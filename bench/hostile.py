@@ -200,7 +200,7 @@ def reads_slowly(server):
 
 def stays_too_long(server):
     """One that does not log in, one that asks for nothing and one that is too many are closed, and an operator told."""
-    limited = Server(server.program, server.port + 1, "login_seconds = 1\n", "connections = 1\nidle_seconds = 1\n")
+    limited = Server(server.program, server.port + 1, "login_seconds = 1\n", "connections = 1\nidle_seconds = 4\n")
     try:
         stranger, alice = limited.connect(), limited.connect(LOGIN)
         another = limited.connect()
