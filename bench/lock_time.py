@@ -37,7 +37,7 @@ from pathlib import Path
 from serve import BENCH, LOADS, Server, ask, fill
 
 # functions that calls of a user's book run, and nothing else but what reads ahead for several connections
-CALLS = ("tc_partition::", "tc_slots::", "tc_slru::", "tc_ring::", "tc_past::", "tc_sketch::", "tc_index::", "tc_wheel::",
+CALLS = ("tc_partition::", "tc_slots::", "tc_slru::", "tc_ring::", "tc_sketch::", "tc_index::", "tc_wheel::",
          "tc_readbuf::", "tc_plain::", "tc_locked::hall_book::", "tc_locked::book::", "tc_item::blob::Blob::copy",
          "tc_item::key::KeyPartialEq::eq", "tc_stats::counters::")
 # for how long a load runs before perf looks and after it

@@ -146,8 +146,8 @@ class Server(Refusing):
         line = f"listening on 127.0.0.1:{PORT}, {self.workers} worker{several}, 1 user\n"
         said = {line: "listening", "out of memory\n": "out of memory",
                 f"cannot listen on 127.0.0.1:{PORT}: out of memory\n": "cannot listen"}
-        # A refused command is told of at the clock's next second, where the server is still there.
-        left_out = ("audit of ", "out of memory for a command of ")
+        # A refused command has a line in the clock's next second, if the server is still there; several share one.
+        left_out = ("audit of ", "out of memory for a command of ", "left out ", "warning: ")
         told = "".join(line for line in out.decode().splitlines(True) if not line.startswith(left_out))
         return status, err, said.get(told, told)
 

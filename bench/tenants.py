@@ -36,11 +36,14 @@ import time
 from pathlib import Path
 
 EXAMPLE = Path(__file__).resolve().parent.parent / "examples/partcached.toml"
+UNIT = EXAMPLE.with_suffix(".service")
 MIB = 1 << 20
 O = None
 CHECKS = []
 P99, LONGEST = 25, 150           # the bar of a quiet tenant's gets, ms
 NEW_P99 = 250                    # the same of a new connection with its login and a get
+SHORT = 25                       # the longest of them where a user's tables grow
+FLUSH = 10                       # the longest of them, and of the flusher's own, beside a flush, and the flush itself
 GROWTH = 64                      # MiB that a tenant may take beside its budget
 # what is no matter of time
 QUICK = ("tables_mostly_empty", "tables_at_rest", "reply_memory", "reply_unlimited", "reply_refused_room",
@@ -70,7 +73,7 @@ def avail():
 class Server:
     """budget and largest are of u1, the attacker; the others have 64 MiB and no limit"""
 
-    def __init__(s, journal=None, budget=64 * MIB, largest=None, limit=None):
+    def __init__(s, journal=None, budget=64 * MIB, largest=None, limit=None, env=None):
         with socket.socket() as so:
             so.bind(("127.0.0.1", 0))
             s.port = so.getsockname()[1]
@@ -96,7 +99,7 @@ class Server:
             resource.setrlimit(resource.RLIMIT_NOFILE, (4096, 4096))
             if limit:
                 resource.setrlimit(resource.RLIMIT_AS, (limit, limit))
-        s.p = subprocess.Popen(cmd, preexec_fn=pre, stdout=subprocess.DEVNULL, stderr=open(s.dir + "/err", "w"))
+        s.p = subprocess.Popen(cmd, preexec_fn=pre, env=env, stdout=subprocess.DEVNULL, stderr=open(s.dir + "/err", "w"))
         s.pid, s.killed, s.over = s.p.pid, False, False
         for _ in range(250):
             try:
@@ -709,26 +712,42 @@ def emptied(c):
     c.ask(b"flush_all\r\n")
 
 
+def both(s, seconds, act=lambda: None):
+    """what another connection of u1 and one of u5, on its worker, see while something is done, and how long that takes"""
+    vs = {}
+    ths = [threading.Thread(target=lambda u=u: vs.update({u: Victim(s, u, seconds)})) for u in ("u1", "u5")]
+    for th in ths:
+        th.start()
+    time.sleep(0.5)
+    t = time.perf_counter()
+    act()
+    t = time.perf_counter() - t
+    for th in ths:
+        th.join()
+    return vs["u1"], vs["u5"], t
+
+
+@check
+def growth():
+    """1,100,000 items come to u1's empty partition"""
+    with Server(budget=128 * MIB) as s:
+        with Attack(fill, Conn(s.port, timeout=50), 1100000, b"", 0, 0, 2000):
+            own, v, _ = both(s, 8)
+        n = int(Conn(s.port).stats()["curr_items"])
+        return pct(v.lat, 1) <= SHORT and v.fair(), "%s; %s; %d items [%s, longest <= %d]" % (v, own, n, FAIR, SHORT)
+
+
 @check
 def flush_cost():
-    """what a flush_all costs once the cache is empty that held 900,000 items"""
+    """what a flush_all of 200,000 items costs, the median of three"""
     with Server() as s:
-        c = Conn(s.port, timeout=50)
-        emptied(c)
-        a = []
-        for _ in range(30):
-            t = time.perf_counter()
-            c.ask(b"flush_all\r\n")
-            a.append(time.perf_counter() - t)
-        turn = []
-        for _ in range(2):
-            b = []
-            for _ in range(4100):
-                t = time.perf_counter()
-                c.get(b"x")
-                b.append(time.perf_counter() - t)
-            turn.append(pct(b, 1))
-        return pct(a, .5) <= 1, "%.2f ms; the longest get of the first page behind the flush %.0f ms, of the next %.0f [<= 1]" % (pct(a, .5), turn[0], turn[1])
+        c, a = Conn(s.port, timeout=50), []
+        for _ in range(3):
+            fill(c, 200000)
+            own, v, t = both(s, 1, lambda: c.ask(b"flush_all\r\n"))
+            a.append((t, max(own.lat), max(v.lat)))
+        t, own, other = (pct(b, .5) for b in zip(*a))
+        return max(t, own, other) <= FLUSH, "%.1f ms; longest get of u1 %.1f, of u5 %.1f [<= %d]" % (t, own, other, FLUSH)
 
 
 @check
@@ -750,16 +769,21 @@ def tables_mostly_empty():
 
 @check
 def tables_at_rest():
-    """400,000 items without data, of which all but 60,000 are deleted, and a rest of some seconds"""
-    with Server() as s:
+    """400,000 items without data, of which all but 60,000 are deleted, and a rest of a minute at most, where the C
+    library has the unit's threshold: by its own it keeps the tables' memory"""
+    threshold = re.search(r"glibc\.malloc\.mmap_threshold=\d+", UNIT.read_text())[0]
+    with Server(env=dict(os.environ, GLIBC_TUNABLES=threshold)) as s:
         c = Conn(s.port, timeout=50)
         fill(c, 400000)
         full = s.rss()
         for b in range(60000, 400000, 20000):
             c.send(b"".join(b"delete %s noreply\r\n" % key(i) for i in range(b, min(b + 20000, 400000))))
             c.get(b"nothere")
-        time.sleep(8)
-        left = s.rss()
+        for _ in range(60):
+            time.sleep(1)
+            left = s.rss()
+            if left <= full / 2:
+                break
         held = sum(c.get(key(i)) is not None for i in range(0, 60000, 600))
         return left <= full / 2 and held == 100, "%.0f MiB with all, %.0f with the rest, which is held: %d of 100 [half]" % (full, left, held)
 
@@ -796,21 +820,12 @@ def turns_4096():
 def expiry():
     """900,000 items of u1 are due in one second"""
     with Server() as s:
-        c, t, took = Conn(s.port, timeout=50), int(time.time()) + (22 if not O.memcached else 16), []
+        c, t = Conn(s.port, timeout=50), int(time.time()) + (22 if not O.memcached else 16)
         fill(c, 900000, exp=t)
         late = time.time() - t
         time.sleep(max(0, t - 0.7 - time.time()))
-
-        def own():
-            time.sleep(max(0, t + 1.3 - time.time()))
-            t0 = time.perf_counter()
-            c.ask(b"touch x 0\r\n")
-            took.append(time.perf_counter() - t0)
-        th = threading.Thread(target=own)
-        th.start()
-        v = Victim(s, "u5", 3.5)
-        th.join()
-        return late < 0 and v.fair(), "%s; the call that does it %.0f ms [%s]" % (v, took[0] * 1e3, FAIR)
+        own, v, _ = both(s, 3.5)
+        return late < 0 and v.fair(), "%s; %s [%s]" % (v, own, FAIR)
 
 
 # ---- hashes ----

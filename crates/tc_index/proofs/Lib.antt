@@ -1,6 +1,3 @@
-pub mod Writes
-pub mod Chained
-pub mod Walked
-pub mod Placed
-pub mod Filled
-pub mod Lengthened
+pub mod Fresh
+pub mod Sought
+pub mod Again

@@ -1,3 +1,2 @@
 pub mod Tags
-pub mod Links
-pub mod Chains
+pub mod Shards

@@ -1,130 +1,110 @@
 //! The index.
-ghost use Rattle.std.specs.Prelude.{◌≡◌, ℕ, ◌<◌, ◌-◌, ◌^◌, Bool, length, slice_set, Some, None};
-ghost use Rattle.std.specs.Prelude.{[], IsSome, option_map, IfOk, is_ok, ◌≤◌, if◌then◌else◌, replicate};
-ghost use Rattle.tc_index.specs.Tags.{Tells, FindsRight, tag_in, grown};
+ghost use Rattle.std.specs.Prelude.{◌≡◌, ℕ, ◌+◌, ◌<◌, ◌≤◌, ◌^◌, Bool, true, IfOk, OnOk, OnErr, length};
+ghost use Rattle.tc_index.specs.Tags.{Tells, FindsRight, stands, one_at, shard_of};
 
-use crate::links::{FREE, Link, Tag};
-use crate::{chains, links};
+use crate::shard::{Shard, Tag};
 use std::alloc::Global;
 use std::marker::Model;
+use std::vec::IntoIter;
 use tc_item::{NoMemory, Slot};
 
-/// The most slots, so that 32 bits count them and have two numbers over.
-const MOST_SLOTS: usize = 4_294_967_294;
+/// The most slots: 32 bits number them.
+const MOST_SLOTS: usize = 4_294_967_296;
+
+/// The most shards: eight bits of a tag name one.
+const MOST_SHARDS: usize = 256;
 
 /// Slots under tags.
 #[derive(Drop)]
 pub struct Index {
-    heads: Vec<u32>,
-    links: Vec<Link>,
+    shards: Vec<Shard>,
+    slots: usize,
+    /// The shard that the last slot came to. Every other one has room for a slot more.
+    last: usize,
 }
 
 impl Model for Index {
-    ghost use Rattle.std.specs.Prelude.{ℕ, List, Option};
+    ghost use Rattle.tc_index.specs.Tags.{Tagged};
 
-    ghost Value = { List (Option ℕ) };
+    ghost Value = { Tagged };
 
-    ghost use Rattle.tc_index.specs.Chains.{tags_in, IsIndex};
+    ghost use Rattle.tc_index.specs.Shards.{tagged_of, IsIndex};
 
-    ghost view = { tags_in };
+    ghost view = { tagged_of };
 
     ghost invariant = { IsIndex };
 }
 
+/// The shard of a tag.
+fn shard(shards: usize, tag: Tag) -> usize
+    requires { 0 < shards }
+    ensures value { result ≡ shard_of shards tag.0 }
+    ensures within { result < shards }
+{
+    (tag.0 >> 16) as usize & (shards - 1)
+}
+
 impl Index {
-    /// An index with room for no slot.
-    pub fn new(alloc: Global) -> Index
-        ensures { result ≡ [] }
+    /// An index in which no slot stands, in so many shards: the next power of two, and 256 at most. Takes some 450
+    /// bytes for each.
+    pub fn new(alloc: Global, shards: usize) -> Result<Index, NoMemory>
+        ensures none { IfOk result (λ i. (tag slot : ℕ) → stands i tag slot ≡ 0) }
     {
-        Index {
-            heads: Vec::new(alloc),
-            links: Vec::new(alloc),
+        let count = shards.min(MOST_SHARDS).next_power_of_two();
+        let mut made = Vec::with_capacity(alloc, count)?;
+        for _ in 0..count {
+            made.push_reserved(Shard::new(alloc)?);
         }
+        Ok(Index {
+            shards: made,
+            slots: 0,
+            last: 0,
+        })
     }
 
-    /// An index with room for all slots below this, none of which stands anywhere.
-    fn with_room(alloc: Global, slots: usize) -> Result<Index, NoMemory>
-        requires { slots < 2 ^ 32 - 1 }
-        ensures { IfOk result (λ index. index ≡ replicate slots None) }
+    /// An index in which no slot stands, in as many shards as this one.
+    pub fn fresh(&self, alloc: Global) -> Result<Index, NoMemory>
+        ensures none { IfOk result (λ i. (tag slot : ℕ) → stands i tag slot ≡ 0) }
     {
-        let buckets = slots.next_power_of_two();
-        let mut heads = Vec::with_capacity(alloc, buckets)?;
-        heads.resize(buckets, 0)?;
-        let mut links = Vec::with_capacity(alloc, slots)?;
-        links.resize(slots, FREE)?;
-        Ok(Index { heads, links })
+        Index::new(alloc, self.shards.len())
     }
 
-    /// The tag under which a slot stands.
-    pub fn tag(&self, slot: Slot) -> Option<Tag>
-        requires { slot.0 < length self.now }
-        ensures { option_map (λ tag. tag.0) result ≡ tag_in self.now slot.0 }
-    {
-        links::under(&self.links, slot.0)
+    /// The shards, of an index that is done with: each gives its memory back by itself.
+    pub fn into_shards(self) -> IntoIter<Shard, Global> {
+        self.shards.into_iter()
     }
 
-    /// Puts the slots of another index under their tags here, where none stands.
-    fn fill_from(&mut self, other: &Index)
-        requires empty { self.old ≡ replicate (length self.old) None }
-        requires room { length other.now ≤ length self.old }
-        ensures { self.new ≡ grown (length self.old) other.now }
-    {
-        for slot in 0..other.slots() {
-            if let Some(tag) = other.tag(Slot(slot)) {
-                self.insert(Slot(slot), tag);
-            }
-        }
-    }
-
-    /// The same slots under their tags, in chains that are made anew, with room for all slots below this. A
-    /// refusal changes nothing.
-    fn widen(&mut self, slots: usize) -> Result<(), NoMemory>
-        requires more { length self.old ≤ slots }
-        requires few { slots < 2 ^ 32 - 1 }
-        ensures { self.new ≡ (if is_ok result then grown slots self.old else self.old) }
-    {
-        let mut wider = Index::with_room(self.allocator(), slots)?;
-        wider.fill_from(self);
-        *self = wider;
-        Ok(())
-    }
-
-    /// Room for all slots below this, which is refused beyond 2^32 - 2. Chains are made anew only where there
-    /// would be more slots than buckets. A refusal changes nothing.
+    /// Room for one more slot, whichever its tag, and numbers for all slots below this, which is refused beyond
+    /// 2^32. One shard grows at most. A refusal changes nothing.
     pub fn reserve(&mut self, slots: usize) -> Result<(), NoMemory>
-        ensures { self.new ≡ (if is_ok result then grown slots self.old else self.old) }
+        ensures stands { (tag slot : ℕ) → stands self.new tag slot ≡ stands self.old tag slot }
+        ensures kept { self.old.slots ≤ self.new.slots }
+        ensures slots { OnOk result (slots ≤ self.new.slots) }
+        ensures room { OnOk result (self.new.has_room ≡ true) }
+        ensures slots_on_err { OnErr result (self.new.slots ≡ self.old.slots) }
     {
-        if slots <= self.slots() {
-            return Ok(());
-        }
         if slots > MOST_SLOTS {
             return Err(NoMemory);
         }
-        if slots > self.heads.len() {
-            return self.widen(slots);
-        }
-        links::lengthen(&mut self.links, slots)?;
+        self.shards[self.last].reserve()?;
+        self.slots = self.slots.max(slots);
         Ok(())
     }
 
     /// Takes all slots from under their tags.
     pub fn clear(&mut self)
-        ensures { self.new ≡ replicate (length self.old) None }
+        ensures none { (tag slot : ℕ) → stands self.new tag slot ≡ 0 }
+        ensures slots { self.new.slots ≡ self.old.slots }
+        ensures room { self.old.has_room ≡ true → self.new.has_room ≡ true }
     {
-        self.heads.fill(0);
-        self.links.fill(FREE);
+        for shard in self.shards.iter_mut() {
+            shard.clear();
+        }
     }
 
     /// The allocator that its memory is of.
     pub fn allocator(&self) -> Global {
-        *self.heads.allocator()
-    }
-
-    /// For how many slots there is room: all below this.
-    pub fn slots(&self) -> usize
-        ensures { result ≡ length self.now }
-    {
-        self.links.len()
+        *self.shards.allocator()
     }
 
     /// A right slot under this tag, if there is one.
@@ -133,23 +113,29 @@ impl Index {
         ensures { (right : ℕ → Bool) → Tells (F.post is_right) right
             → FindsRight result tag.0 right self.now }
     {
-        chains::find(&self.heads, &self.links, tag, &is_right)
+        self.shards[shard(self.shards.len(), tag)].find(tag, &is_right)
     }
 
-    /// Puts a slot that stands nowhere under a tag.
+    /// Puts a slot under a tag.
     pub fn insert(&mut self, slot: Slot, tag: Tag)
-        requires room { slot.0 < length self.old }
-        requires free { tag_in self.old slot.0 ≡ None }
-        ensures { self.new ≡ slice_set self.old slot.0 (Some tag.0) }
+        requires room { self.old.has_room ≡ true }
+        requires within { slot.0 < self.old.slots }
+        ensures stands { (t s : ℕ) → stands self.new t s ≡ stands self.old t s + one_at tag.0 slot.0 t s }
+        ensures slots { self.new.slots ≡ self.old.slots }
     {
-        chains::insert(&mut self.heads, &mut self.links, slot.0, tag);
+        let at = shard(self.shards.len(), tag);
+        self.shards[at].insert(tag, slot);
+        self.last = at;
     }
 
     /// Takes a slot from under its tag.
-    pub fn remove(&mut self, slot: Slot)
-        requires { IsSome (tag_in self.old slot.0) }
-        ensures { self.new ≡ slice_set self.old slot.0 None }
+    pub fn remove(&mut self, slot: Slot, tag: Tag)
+        requires { 0 < stands self.old tag.0 slot.0 }
+        ensures stands { (t s : ℕ) → stands self.new t s + one_at tag.0 slot.0 t s ≡ stands self.old t s }
+        ensures slots { self.new.slots ≡ self.old.slots }
+        ensures room { self.old.has_room ≡ true → self.new.has_room ≡ true }
     {
-        chains::remove(&mut self.heads, &mut self.links, slot.0);
+        let at = shard(self.shards.len(), tag);
+        self.shards[at].remove(tag, slot);
     }
 }

@@ -1,20 +1,19 @@
-//! Slots under tags, in chains: an index that holds no keys.
+//! Slots under tags, in shards of maps: an index that holds no keys.
 //!
-//! Terms: a slot is a number, and a tag is 32 bits of a hash. A slot stands under one tag, or nowhere. Who looks
-//! for a key asks for its tag, and is asked which of the slots under it is the right one. So an index takes 12 to
-//! 16 bytes a slot, and to take a slot out needs no hash.
+//! Terms: a slot is a number, and a tag is 32 bits of a hash. Who looks for a key asks for its tag, and is asked
+//! which of the slots under it is the right one. Who takes a slot out names its tag.
 //!
-//! Callers see the tag under which each slot stands (`specs/Tags.antt`). `reserve` alone takes memory.
+//! Callers see how often each slot stands under each tag (`specs/Tags.antt`): once or not at all, where they put
+//! none twice. `new`, `fresh` and `reserve` alone take memory.
 //!
-//! Each tag has a bucket, and a bucket has a chain: its head and the links of its slots lead from slot to slot
-//! (`specs/Chains.antt`). A chain goes from high slots to low ones, so that the place of a slot in it is where all
-//! before it are higher, and a walk ends.
+//! Each tag has a shard, and a shard has a map from tags to slots. A further slot under a tag that the map has lies
+//! beside it in a list, which is nearly always empty. A shard grows by itself, so no growth costs more than to make
+//! one shard anew.
 #![tactic(auto)]
 
-mod chains;
 mod index;
-mod links;
+mod shard;
 
 pub use index::Index;
-pub use links::Tag;
+pub use shard::{Shard, Tag};
 pub use tc_item::Slot;

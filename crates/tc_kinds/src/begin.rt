@@ -6,7 +6,6 @@ use crate::kind::Kind;
 use std::alloc::Global;
 use std::hash::RandomState;
 use tc_item::NoMemory;
-use tc_partition::Journal;
 use tc_users::Users;
 
 /// An empty cache of the kind for each user, in the order of the users' numbers.
@@ -14,14 +13,13 @@ pub fn begin_all<C: Kind>(
     alloc: Global,
     users: &Users,
     hasher: RandomState,
-    journal: Journal,
 ) -> Result<Vec<C>, NoMemory>
     ensures caches { IfOk result (λ caches. map C.settled caches.items
         ≡ map fresh_cache users.now) }
 {
     let mut caches = Vec::with_capacity(alloc, users.len())?;
     for row in users.rows() {
-        caches.push(C::begin(alloc, row.budget, row.largest, hasher, journal)?)?;
+        caches.push(C::begin(alloc, row.budget, row.largest, hasher)?)?;
     }
     Ok(caches)
 }

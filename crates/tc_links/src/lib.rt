@@ -32,7 +32,7 @@
 //! what is said at them, which calls the seat notes for them and which the hall refused.
 //!
 //! What a wire may answer is `specs/Wires.antt`. One that knows what bytes it gave and took says so; of
-//! one that knows none, as a socket, nothing is said of bytes.
+//! one that knows none, as a socket of the system, nothing is said of bytes.
 //!
 //! No clause says that a worker gets the connection that another passed on, that a hall refuses only for
 //! want of memory, or that memory suffices.

@@ -1,16 +1,18 @@
 -- What calls, maintenance and page turns keep of a book.
 use Rattle.std.proofs.Common.{zero, suc, ◌≡◌, ℕ, ◌+◌, ◌<◌, ◌≤◌, max, List, [], ◌∷◌, ◌++◌, length, refl, sym, ap, ◌∙◌}
-use Rattle.std.proofs.Common.{subst, arith, replicate, length-append}
+use Rattle.std.proofs.Common.{subst, arith, replicate, length-append, Option, Some, None}
 use Rattle.std.specs.Prelude.{slice_index, slice_set}
 use Rattle.std.proofs.lemmas.List.{length-set, length-replicate, get_or-set_same, get_or-set_other}
 use mathlib.Core.Logic.{dite}
 use native.Mathlib.Decide.{ℕ_discrete}
 use Rattle.tc_model.specs.Caching.{Replays, state_after}
 use Rattle.tc_grammar.specs.declared.command.Command.{Command}
-use Rattle.tc_past.specs.declared.journal.Journal.{Journal}
+use Rattle.tc_plain.specs.declared.shared.journal.Journal.{Journal}
+use Rattle.tc_plain.specs.declared.shared.journal.Journal.TheVariants.{On, Off}
 use Rattle.tc_stats.specs.declared.outcome.Outcome.{Outcome}
 use Rattle.tc_plain.specs.UserCache.{UserCache, advance}
 use Rattle.tc_plain.specs.Doing.{act}
+use Rattle.tc_plain.specs.Keeping.{kept_by}
 use Rattle.tc_plain.specs.Laws.{user_caching}
 use Rattle.tc_locked.specs.declared.call_entry.CallEntry.{CallEntry}
 use Rattle.tc_fresh.specs.Beginning.{IsEmptyCache}
@@ -191,6 +193,16 @@ pub turned_call : (b : BookState) (seat now conn : ℕ) (command : Command) → 
 turned_call b seat now conn command some lt h = book_call (page_turned b) seat now conn command lt (book_turn b some h)
 
 -- ---- the page
+-- what is kept as lists is the state, and where nothing is kept the journal is off
+pub kept_is : (journal : Journal) (k p : UserCache) (lists : Option UserCache) → lists ≡ kept_by journal k → lists ≡ Some p → p ≡ k
+kept_is On k p lists e h = cc
+kept_is Off k p lists e h = absurd (cc)
+
+pub none_kept : (journal : Journal) (k : UserCache) (lists : Option UserCache) → lists ≡ kept_by journal k → lists ≡ None
+    → journal ≡ Off
+none_kept On k lists e h = absurd (cc)
+none_kept Off k lists e h = refl
+
 replays_from_zero : (from : ℕ) (k : UserCache) (es : List CallEntry) → Replays user_caching from k (events_of es)
     → Replays user_caching 0 k (events_of es)
 replays_from_zero from k [] h = tt

@@ -1,3 +1,4 @@
+pub mod Sent
 pub mod Books
 pub mod TableSteps
 pub mod HallBooks

@@ -3,7 +3,7 @@ use Rattle.std.specs.Prelude.{◌≡◌, ◌≢◌, cond, leb, ℕ, ◌+◌, ◌
 use Rattle.std.specs.Prelude.{slice_set, replicate}
 use Rattle.tc_model.specs.Caching.{Event, Replays, state_after}
 use Rattle.tc_grammar.specs.declared.command.Command.{Command}
-use Rattle.tc_past.specs.declared.journal.Journal.{Journal}
+use Rattle.tc_plain.specs.declared.shared.journal.Journal.{Journal}
 use Rattle.tc_stats.specs.declared.outcome.Outcome.{Outcome}
 use Rattle.tc_plain.specs.UserCache.{UserCache, advance}
 use Rattle.tc_plain.specs.Doing.{act}

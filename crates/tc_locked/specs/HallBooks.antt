@@ -3,8 +3,8 @@ use Rattle.std.specs.Prelude.{◌≡◌, ℕ, zero, suc, ◌≤◌, List, [], �
 use Rattle.atomic_table.specs.Seated.{TableId}
 use Rattle.tc_model.specs.Connection.{user_at}
 use Rattle.tc_grammar.specs.declared.command.Command.{Command}
-use Rattle.tc_past.specs.declared.journal.Journal.{Journal}
-use Rattle.tc_past.specs.declared.journal.Journal.TheVariants.{Off}
+use Rattle.tc_plain.specs.declared.shared.journal.Journal.{Journal}
+use Rattle.tc_plain.specs.declared.shared.journal.Journal.TheVariants.{Off}
 use Rattle.tc_plain.specs.UserCache.{UserCache}
 use Rattle.tc_locked.specs.declared.call_entry.CallEntry.{CallEntry}
 use Rattle.tc_locked.specs.declared.view.Note.{Note}

@@ -1,6 +1,6 @@
 -- A page: its entries in proofs, and in memory where they are kept. Source: this project's own.
 use Rattle.std.specs.Prelude.{◌≡◌, ◌<◌, ◌≤◌, List, length, map, take, vec_len, vec_capacity}
-use Rattle.tc_past.specs.declared.journal.Journal.TheVariants.{On}
+use Rattle.tc_plain.specs.declared.shared.journal.Journal.TheVariants.{On}
 use Rattle.tc_locked.specs.declared.call_entry.CallEntry.{CallEntry}
 use Rattle.tc_locked.specs.declared.page.Page.{Page}
 

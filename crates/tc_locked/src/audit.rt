@@ -6,8 +6,7 @@ ghost use Rattle.tc_locked.specs.Audits.{IsAuditOf};
 use crate::call_entry::CallEntry;
 use std::alloc::Global;
 use tc_item::NoMemory;
-use tc_past::Journal;
-use tc_plain::{Plain, act};
+use tc_plain::{Journal, Plain, act};
 use tc_stats::Outcome;
 
 /// A call that comes to another outcome when it is done again.

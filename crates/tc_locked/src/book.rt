@@ -1,9 +1,10 @@
 //! A user's book.
 ghost use Rattle.std.specs.Prelude.{◌≡◌, ◌≢◌, ℕ, ◌+◌, ◌-◌, ◌^◌, ◌<◌, ◌≤◌, ◌++◌, ◌∷◌, [], length, IfOk, OnOk, IfErr, OnErr, slice_get};
-ghost use Rattle.std.specs.Prelude.{slice_index, slice_set, vec_len, vec_capacity, Some, IfSome, IfNone};
-ghost use Rattle.tc_past.specs.declared.journal.Journal.TheVariants.{Off as IsOff};
+ghost use Rattle.std.specs.Prelude.{slice_index, slice_set, Some, None, IfSome, IfNone};
+ghost use Rattle.tc_plain.specs.declared.shared.journal.Journal.TheVariants.{Off as IsOff};
 ghost use Rattle.tc_plain.specs.Keeping.{kept_by, IsActed};
 ghost use Rattle.tc_locked.specs.declared.call_entry.CallEntry.{CallEntry};
+ghost use Rattle.tc_locked.specs.declared.unread.Unread.TheVariants.{Off};
 ghost use Rattle.tc_locked.specs.Pages.{entries_on, IsPage, HasRoom};
 ghost use Rattle.tc_fresh.specs.Beginning.{IsEmptyCache};
 ghost use Rattle.tc_plain.specs.Doing.{act};
@@ -20,10 +21,11 @@ use crate::unread::Unread;
 use crate::witness::Witness;
 use std::alloc::Global;
 use std::marker::Model;
+use std::mem;
+use std::snapshot::Snapshot;
 use tc_grammar::Command;
 use tc_item::{Moment, NoMemory};
-use tc_past::Journal;
-use tc_plain::{Acted, Cache, LeftOver, Plain, Progress};
+use tc_plain::{Acted, Cache, Journal, Plain, Progress};
 
 /// The calls of a book.
 #[derive(Drop)]
@@ -38,23 +40,29 @@ struct Register {
     counts: Vec<u64>,
 }
 
-/// A cache, which knows what it stood for when its page began, and the calls that it did since, seen as
-/// its state. It is always legal.
+/// A cache, what it stood for when its page began, and the calls that it did since, seen as its state. It
+/// is always legal.
 #[derive(Drop)]
 pub struct Book<C: Cache> {
     cache: C,
+    /// The cache as it was when the page began, in proofs alone.
+    began: Snapshot<C>,
+    /// What it stood for then, as lists, where the journal is on.
+    lists: Option<Plain>,
     moment: Moment,
     register: Register,
 }
 
 impl<C: Cache> Model for Book<C> {
+    ghost use Rattle.std.specs.Prelude.{◌≡◌};
+    ghost use Rattle.tc_plain.specs.Keeping.{kept_by};
     ghost use Rattle.tc_locked.specs.Books.{BookState, IsBook};
     ghost use Rattle.tc_locked.specs.Pages.{entries_on, IsPage};
 
     ghost Value = { BookState };
 
     ghost view = { λ b. record {
-      opening = C.opened b.cache;
+      opening = C.settled b.began.value;
       entries = entries_on b.register.page;
       settled = C.settled b.cache;
       moment = b.moment;
@@ -65,7 +73,7 @@ impl<C: Cache> Model for Book<C> {
     } };
 
     ghost invariant = { λ b. IsBook (record {
-      opening = C.opened b.cache;
+      opening = C.settled b.began.value;
       entries = entries_on b.register.page;
       settled = C.settled b.cache;
       moment = b.moment;
@@ -73,7 +81,8 @@ impl<C: Cache> Model for Book<C> {
       number = b.register.number;
       counts = b.register.counts.items;
       keeps = b.register.page.journal;
-    }) × IsPage b.register.page };
+    }) × IsPage b.register.page
+        × (b.lists ≡ kept_by b.register.page.journal (C.settled b.began.value)) };
 }
 
 /// Which seat calls, at which moment, and on which connection.
@@ -175,35 +184,46 @@ fn make_ready(page: &mut Page, number: u64) -> Result<(), CallFault>
     Ok(())
 }
 
-/// What can fail of a call on a new page: the next opening is prepared, there is room for what the turn
-/// leaves over, and the cache does the command. Its outcome is given once more to keep where `keep` says
-/// so.
-fn act_on_next<C: Cache>(
+/// What a cache stands for, as lists, where the journal is on.
+fn freeze_to_keep<C: Cache>(
     alloc: Global,
-    cache: &mut C,
-    left: &mut Vec<LeftOver>,
+    cache: &C,
+    journal: Journal,
+) -> Result<Option<Plain>, NoMemory>
+    ensures { IfOk result (λ lists. lists ≡ kept_by journal (C.settled cache.now)) }
+{
+    match journal {
+        Journal::On => Ok(Some(cache.freeze(alloc)?)),
+        Journal::Off => Ok(None),
+    }
+}
+
+/// What can fail of a turn of the page: a number for the entry to come, and what the next page begins with.
+fn open_next<C: Cache>(
+    alloc: Global,
+    cache: &C,
     number: u64,
-    moment: Moment,
-    command: &Command,
-    keep: Journal,
-) -> Result<Acted, CallFault>
-    ensures acted { IfOk result (λ r. IsActed keep
-        (act (C.settled cache.old) moment command.now) r (C.settled cache.new)) }
-    ensures opening { C.opened cache.new ≡ C.opened cache.old }
-    ensures next { OnOk result (C.next cache.new ≡ C.settled cache.old) }
-    ensures room { OnOk result (vec_len left.new < vec_capacity left.new) }
+    journal: Journal,
+) -> Result<Option<Plain>, CallFault>
+    ensures lists { IfOk result (λ lists. lists ≡ kept_by journal (C.settled cache.now)) }
     ensures number { OnOk result (number + 1 < 2 ^ 64) }
     ensures fault { IfErr result (IsBookFault number) }
-    ensures unchanged_on_err { OnErr result (C.settled cache.new ≡ C.settled cache.old) }
 {
     if number == u64::MAX {
         return Err(CallFault::Worn);
     }
-    let Ok(()) = left.reserve(1) else {
-        return Err(CallFault::NoMemory);
-    };
-    cache.prepare(alloc)?;
-    Ok(cache.act(alloc, moment, command, keep)?)
+    Ok(freeze_to_keep(alloc, cache, journal)?)
+}
+
+/// A copy of lists that are kept; an error where memory is refused, or where they are not kept.
+fn copy_kept(alloc: Global, lists: &Option<Plain>) -> Result<Plain, Unread>
+    ensures kept { IfOk result (λ plain. lists.now ≡ Some plain) }
+    ensures off { IfErr result (λ fault. fault ≡ Off → lists.now ≡ None) }
+{
+    match lists {
+        Some(lists) => Ok(lists.copy(alloc)?),
+        None => Err(Unread::Off),
+    }
 }
 
 impl<C: Cache> Book<C> {
@@ -211,7 +231,7 @@ impl<C: Cache> Book<C> {
     /// where the journal is on.
     pub fn open(
         alloc: Global,
-        mut cache: C,
+        cache: C,
         seats: usize,
         journal: Journal,
     ) -> Result<Book<C>, NoMemory>
@@ -219,10 +239,12 @@ impl<C: Cache> Book<C> {
         ensures { IfOk result (λ book. book ≡ fresh_book (C.settled cache) seats journal) }
     {
         let counts = vec![in alloc; 0u64; seats]?;
-        cache.prepare(alloc)?;
-        drop(cache.turn());
+        let lists = freeze_to_keep(alloc, &cache, journal)?;
+        let began = Snapshot::of(&cache);
         Ok(Book {
             cache,
+            began,
+            lists,
             moment: Moment::FIRST,
             register: Register {
                 page: Page::new(alloc, journal),
@@ -278,13 +300,14 @@ impl<C: Cache> Book<C> {
         self.cache.maintain(now, limit)
     }
 
-    /// `call` on a new page, which begins at what the cache stands for. The turn's memory is taken before
-    /// the call, and the page is turned after it, so a refusal changes nothing. The entries of the page
-    /// before stay until new ones take their places, one a call. What the turn leaves over goes to `left`.
+    /// `call` on a new page, which begins at what the cache stands for: the cache is frozen before the call
+    /// where the journal is on, and the page is turned after it, so a refusal of either changes nothing. The
+    /// entries of the page before stay until new ones take their places, one a call. What that page began
+    /// with goes to `left`.
     fn call_turning(
         &mut self,
         alloc: Global,
-        left: &mut Vec<LeftOver>,
+        left: &mut Option<Plain>,
         seat_no: usize,
         now: Moment,
         conn: u32,
@@ -309,16 +332,12 @@ impl<C: Cache> Book<C> {
             moment,
             conn,
         };
-        let acted = act_on_next(
-            alloc,
-            &mut self.cache,
-            left,
-            self.register.number,
-            moment,
-            command,
-            self.register.page.journal,
-        )?;
-        left.push_reserved(self.cache.turn());
+        let journal = self.register.page.journal;
+        let lists = open_next(alloc, &self.cache, self.register.number, journal)?;
+        let began = Snapshot::of(&self.cache);
+        let acted = self.cache.act(alloc, moment, command, journal)?;
+        self.began = began;
+        *left = mem::replace(&mut self.lists, lists);
         self.register.turns += 1;
         self.register.page.clear();
         let (slip, entry) = self.register.enter(by, command, copy, acted);
@@ -326,12 +345,12 @@ impl<C: Cache> Book<C> {
         Ok(Called { slip, entry })
     }
 
-    /// `call`, after a turn of the page where it has `journal` entries: what the turn leaves over goes to
+    /// `call`, after a turn of the page where it has `journal` entries: what that page began with goes to
     /// `left`. A refusal of either changes nothing.
     pub fn call_paged(
         &mut self,
         alloc: Global,
-        left: &mut Vec<LeftOver>,
+        left: &mut Option<Plain>,
         journal: usize,
         seat_no: usize,
         now: Moment,
@@ -405,12 +424,14 @@ impl<C: Cache> Book<C> {
         self.register.turns
     }
 
-    /// What the page began with, as lists. From there the commands of its entries give their outcomes.
-    pub fn opening(&self, alloc: Global) -> Result<Plain, NoMemory>
+    /// What the page began with, as lists. From there the commands of its entries give their outcomes. An
+    /// error where memory is refused, or where they are not kept.
+    pub fn opening(&self, alloc: Global) -> Result<Plain, Unread>
         ensures opening { IfOk result (λ plain. plain ≡ self.now.opening) }
+        ensures off { IfErr result (λ fault. fault ≡ Off → self.now.keeps ≡ IsOff) }
         ensures legal { HasLegalPage self.now }
     {
-        self.cache.opening(alloc)
+        copy_kept(alloc, &self.lists)
     }
 
     /// The entries of the page, in order; an error only where they are not kept.

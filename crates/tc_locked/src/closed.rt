@@ -1,6 +1,6 @@
 //! A hall that has ended.
 ghost use Rattle.std.specs.Prelude.{◌≡◌, ◌<◌, length, IfOk, IfErr, IfSome, IfNone, option_map, option_copied};
-ghost use Rattle.tc_past.specs.declared.journal.Journal.TheVariants.{Off as IsOff};
+ghost use Rattle.tc_plain.specs.declared.shared.journal.Journal.TheVariants.{Off as IsOff};
 ghost use Rattle.tc_locked.specs.declared.unread.Unread.TheVariants.{Off};
 ghost use Rattle.tc_locked.specs.Calls.{IsUser};
 ghost use Rattle.tc_locked.specs.Closing.{IsBookOf, AreHallBooks, AllTied, IsCountOf, HasNote, IsNoteOf, OnPage, TurnedPage, book_of};
@@ -17,7 +17,6 @@ use crate::seat::Seat;
 use crate::unread::Unread;
 use std::alloc::Global;
 use std::marker::{Model, PhantomData};
-use tc_item::NoMemory;
 use tc_plain::{Cache, Plain};
 use tc_users::UserNo;
 
@@ -105,14 +104,15 @@ impl<C: Cache, N: Naming> Closed<C, N> {
     }
 
     /// What the last page of a user's book began with, as lists; `None` exactly where there is no such
-    /// user.
-    pub fn opening(&self, alloc: Global, user: UserNo) -> Result<Option<Plain>, NoMemory>
+    /// user, and an error where memory for it is refused, or where the hall's journal is off.
+    pub fn opening(&self, alloc: Global, user: UserNo) -> Result<Option<Plain>, Unread>
         ensures opening { IfOk result (λ opening. opening
             ≡ option_map (λ book. book.opening) (book_of user self.now.books)) }
         ensures known { IfOk result (λ opening. IfSome opening
             (λ _. IsUser (length N.terms.begins) user)) }
         ensures unknown { IfOk result (λ opening. IfNone opening
             (IsUser (length N.terms.begins) user → ⊥)) }
+        ensures off { IfErr result (λ fault. fault ≡ Off → N.terms.keeps ≡ IsOff) }
         ensures legal { IfSome (book_of user self.now.books) HasLegalPage }
     {
         match self.find(user) {

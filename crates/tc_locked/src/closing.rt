@@ -3,7 +3,7 @@ ghost use Rattle.std.specs.Prelude.{◌≡◌, ◌≢◌, ◌+◌, slice_get, So
 ghost use Rattle.std.specs.Prelude.{slice_index, map, vec_len, vec_capacity, IfOk, IfErr, IfSome, IfNone};
 ghost use Rattle.tc_locked.specs.Views.{both_of, seat_view, book_view};
 ghost use Rattle.tc_locked.specs.Rule.{Tied, Apart};
-ghost use Rattle.tc_past.specs.declared.journal.Journal.TheVariants.{Off as IsOff};
+ghost use Rattle.tc_plain.specs.declared.shared.journal.Journal.TheVariants.{Off as IsOff};
 ghost use Rattle.tc_locked.specs.declared.unread.Unread.TheVariants.{Off};
 ghost use Rattle.tc_locked.specs.HallBooks.{IsHallBook};
 ghost use Rattle.tc_locked.specs.declared.call_entry.CallEntry.{CallEntry};
@@ -21,7 +21,6 @@ use crate::view::{Compared, Together};
 use std::alloc::Global;
 use std::marker::{Model, PhantomData};
 use std::sync::Mutex;
-use tc_item::NoMemory;
 use tc_plain::{Cache, Plain};
 use tc_users::UserNo;
 
@@ -73,8 +72,9 @@ impl<C: Cache> Shut<C> {
     }
 
     /// What the page began with, as lists.
-    pub fn opening(&self, alloc: Global) -> Result<Plain, NoMemory>
+    pub fn opening(&self, alloc: Global) -> Result<Plain, Unread>
         ensures opening { IfOk result (λ plain. plain ≡ self.now.book.opening) }
+        ensures off { IfErr result (λ fault. fault ≡ Off → self.now.book.keeps ≡ IsOff) }
         ensures legal { HasLegalPage self.now.book }
     {
         self.book.opening(alloc)

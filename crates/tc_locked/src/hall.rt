@@ -23,8 +23,7 @@ use std::marker::{Model, PhantomData};
 use std::sync::{Mutex, Wait};
 use tc_grammar::Command;
 use tc_item::Moment;
-use tc_past::Journal;
-use tc_plain::{Cache, Progress};
+use tc_plain::{Cache, Journal, Progress};
 use tc_users::UserNo;
 
 /// The books of all users of the hall N. Contracts see how many there are.
@@ -167,7 +166,7 @@ impl<C: Cache, N: Naming> Hall<C, N> {
             command,
             copy,
         )?;
-        lease.keep(alloc, number, guard, command);
+        lease.keep(number, guard, command);
         Ok(Receipt {
             user,
             slip,
@@ -192,7 +191,7 @@ impl<C: Cache, N: Naming> Hall<C, N> {
         ensures unknown { IfErr result (λ fault. (fault ≡ NoUser) ↔ (IsUser self.now user → ⊥)) }
         ensures unchanged_on_err { OnErr result (seat.new ≡ seat.old) }
     {
-        let mut lease = Lease::none(alloc);
+        let mut lease = Lease::none();
         self.try_call(rt, alloc, seat, &mut lease, user, now, conn, command, || ())
     }
 

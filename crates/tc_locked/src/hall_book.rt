@@ -19,7 +19,7 @@ use std::marker::{Model, PhantomData};
 use std::mem;
 use tc_grammar::Command;
 use tc_item::Moment;
-use tc_plain::{Cache, LeftOver, Progress};
+use tc_plain::{Cache, Plain, Progress};
 use tc_users::UserNo;
 
 /// A book of the hall N, seen as its user, its state and the notes of all its pages.
@@ -47,11 +47,11 @@ impl<C: Cache, N: Naming> Model for HallBook<C, N> {
 
 impl<C: Cache, N: Naming> HallBook<C, N> {
     /// One call of a seat: the book's paged call, and the notes of both seats. It waits for nobody, and
-    /// a refusal changes nothing. What a turn of the page leaves over goes to `left`.
+    /// a refusal changes nothing. What a turned page began with goes to `left`.
     pub fn call(
         &mut self,
         alloc: Global,
-        left: &mut Vec<LeftOver>,
+        left: &mut Option<Plain>,
         table: &Shared,
         seat: &mut Seat<N>,
         journal: usize,

@@ -2,10 +2,9 @@
 use crate::hall_book::HallBook;
 use crate::locking::lock_soon;
 use crate::naming::Naming;
-use std::alloc::Global;
 use std::sync::{Mutex, MutexGuard, Wait};
 use tc_grammar::Command;
-use tc_plain::{Cache, LeftOver};
+use tc_plain::{Cache, Plain};
 
 /// Once commands of this cost were done under a lock that is kept, it is given back, after some tenths
 /// of a millisecond, or later where one command is long: others who wait have their turn.
@@ -30,27 +29,27 @@ pub struct Lease<'a, C: Cache, N: Naming> {
     user: u32,
     /// What was done since the lock was got.
     done: usize,
-    /// What the turn of a page under it left over. That may be much memory, and others wait for the lock, so it
-    /// is let go of once none is held.
-    pub(crate) left: Vec<LeftOver>,
+    /// What a page that was turned under it began with, if that was kept. It may be much memory, and others wait
+    /// for the lock, so it is let go of once none is held.
+    pub(crate) left: Option<Plain>,
 }
 
 impl<'a, C: Cache, N: Naming> Lease<'a, C, N> {
     /// No lock.
-    pub fn none(alloc: Global) -> Lease<'a, C, N> {
+    pub fn none() -> Lease<'a, C, N> {
         Lease {
             guard: None,
             user: 0,
             done: 0,
-            left: Vec::new(alloc),
+            left: None,
         }
     }
 
     /// Gives the lock back, if there is one, and lets go of what calls under it left over.
-    pub fn release(&mut self, alloc: Global) {
+    pub fn release(&mut self) {
         drop(self.guard.take());
         self.done = 0;
-        self.left = Vec::new(alloc);
+        self.left = None;
     }
 
     /// The lock of this user: the one that is kept, or the user's once it is got.
@@ -80,7 +79,6 @@ impl<'a, C: Cache, N: Naming> Lease<'a, C, N> {
     /// page was turned, so that no more is left over than one turn leaves.
     pub(crate) fn keep(
         &mut self,
-        alloc: Global,
         user: u32,
         guard: MutexGuard<'a, HallBook<C, N>>,
         command: &Command,
@@ -88,8 +86,8 @@ impl<'a, C: Cache, N: Naming> Lease<'a, C, N> {
         self.user = user;
         self.done = self.done.saturating_add(cost_of(command));
         self.guard = Some(guard);
-        if self.done >= MOST || !self.left.is_empty() {
-            self.release(alloc);
+        if self.done >= MOST || self.left.is_some() {
+            self.release();
         }
     }
 }

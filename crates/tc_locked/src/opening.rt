@@ -17,8 +17,7 @@ use std::alloc::Global;
 use std::marker::{Model, PhantomData};
 use std::sync::Mutex;
 use tc_item::NoMemory;
-use tc_past::Journal;
-use tc_plain::Cache;
+use tc_plain::{Cache, Journal};
 use tc_users::{UserNo, Users};
 
 /// A hall's table, which has no name yet. Contracts see which table it is.

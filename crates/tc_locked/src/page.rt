@@ -1,7 +1,7 @@
 //! The entries of a page: in proofs always, and in memory where they are kept.
 ghost use Rattle.std.specs.Prelude.{◌≡◌, ◌+◌, ◌^◌, ◌<◌, ◌≤◌, ◌++◌, ◌∷◌, [], length, take, vec_len, vec_capacity};
 ghost use Rattle.std.specs.Prelude.{IfOk, OnOk, IfErr};
-ghost use Rattle.tc_past.specs.declared.journal.Journal.TheVariants.{On, Off as IsOff};
+ghost use Rattle.tc_plain.specs.declared.shared.journal.Journal.TheVariants.{On, Off as IsOff};
 ghost use Rattle.tc_plain.specs.Keeping.{kept_by};
 ghost use Rattle.tc_locked.specs.Witnesses.{entry_from};
 ghost use Rattle.tc_locked.specs.Pages.{entries_on, IsPage, HasRoom};
@@ -15,8 +15,7 @@ use http_server::Log;
 use std::alloc::Global;
 use tc_grammar::Command;
 use tc_item::NoMemory;
-use tc_past::Journal;
-use tc_plain::KeptOutcome;
+use tc_plain::{Journal, KeptOutcome};
 use tc_stats::Outcome;
 
 /// The entries of a page. Where the journal is off, nobody can read them, and they take no memory.

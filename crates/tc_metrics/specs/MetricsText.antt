@@ -8,7 +8,7 @@ use Rattle.tc_metrics.specs.declared.server.ServerFigures.{ServerFigures}
 use Rattle.tc_metrics.specs.declared.metric.Metric.{Metric}
 use Rattle.tc_metrics.specs.declared.server.OwnMetric.{OwnMetric}
 use Rattle.tc_metrics.specs.declared.server.OwnMetric.TheVariants.{UnboundConnections, RefusedLogins, LimitedConnections}
-use Rattle.tc_metrics.specs.declared.server.OwnMetric.TheVariants.{ResidentMemory, Uptime}
+use Rattle.tc_metrics.specs.declared.server.OwnMetric.TheVariants.{LeftOutLines, ResidentMemory, CpuSeconds, OpenFds, MaxFds, Uptime}
 use Rattle.tc_metrics.specs.declared.metric.Metric.TheVariants.{Connections, JournalCalls, JournalBytes, CurrItems, TotalItems, Bytes, CmdGet}
 use Rattle.tc_metrics.specs.declared.metric.Metric.TheVariants.{CmdSet, CmdFlush, CmdTouch, GetHits, GetMisses, DeleteMisses, DeleteHits, IncrMisses}
 use Rattle.tc_metrics.specs.declared.metric.Metric.TheVariants.{IncrHits, DecrMisses, DecrHits, CasMisses, CasHits, CasBadval, TouchHits}
@@ -43,6 +43,36 @@ metric_name Evictions = codes "partcached_evictions_total"
 metric_name LimitMaxbytes = codes "partcached_limit_maxbytes"
 metric_name ItemSizeMax = codes "partcached_item_size_max"
 metric_name StoreTooLarge = codes "partcached_store_too_large_total"
+
+-- what a metric is, in a line
+abbrev pub metric_help : Metric → List ℕ
+metric_help Connections = codes "Open connections of the user."
+metric_help JournalCalls = codes "Calls of the user's cache, those of the metrics among them."
+metric_help JournalBytes = codes "Bytes that the entries of the user's page keep."
+metric_help CurrItems = codes "Items that the user holds."
+metric_help TotalItems = codes "Items that the user stored."
+metric_help Bytes = codes "Bytes that the user's items take of its budget."
+metric_help CmdGet = codes "Keys that were looked up."
+metric_help CmdSet = codes "Commands that store."
+metric_help CmdFlush = codes "Commands flush_all."
+metric_help CmdTouch = codes "Keys that were touched."
+metric_help GetHits = codes "Keys that were looked up and found."
+metric_help GetMisses = codes "Keys that were looked up and not found."
+metric_help DeleteMisses = codes "Keys that were to be deleted and not found."
+metric_help DeleteHits = codes "Keys that were deleted."
+metric_help IncrMisses = codes "Keys that were to be incremented and not found."
+metric_help IncrHits = codes "Keys that were incremented."
+metric_help DecrMisses = codes "Keys that were to be decremented and not found."
+metric_help DecrHits = codes "Keys that were decremented."
+metric_help CasMisses = codes "Keys that were to be stored by cas and not found."
+metric_help CasHits = codes "Keys that were stored by cas."
+metric_help CasBadval = codes "Keys that were to be stored by cas and had changed."
+metric_help TouchHits = codes "Keys that were touched and found."
+metric_help TouchMisses = codes "Keys that were to be touched and not found."
+metric_help Evictions = codes "Items that were dropped for others."
+metric_help LimitMaxbytes = codes "The user's budget in bytes."
+metric_help ItemSizeMax = codes "The most data bytes of one item."
+metric_help StoreTooLarge = codes "Items that were too large to be stored."
 
 -- whether it may go down
 abbrev pub is_gauge : Metric → Bool
@@ -98,35 +128,58 @@ all_metrics =
 abbrev pub kind_word : Bool → List ℕ
 kind_word gauge = if gauge then codes "gauge" else codes "counter"
 
+-- the line that says what a metric is
+unfoldable pub help_line : List ℕ → List ℕ → List ℕ
+help_line name help = codes "# HELP " ++ (name ++ (32 ∷ help ++ (10 ∷ [])))
+
 -- the line that says of what kind a metric is
 unfoldable pub type_line : List ℕ → Bool → List ℕ
 type_line name gauge = codes "# TYPE " ++ (name ++ (32 ∷ kind_word gauge ++ (10 ∷ [])))
+
+-- the lines in front of a metric's own: what it is, and its kind
+unfoldable pub head_lines : List ℕ → List ℕ → Bool → List ℕ
+head_lines name help gauge = help_line name help ++ type_line name gauge
 
 -- a line of a user's: the name, {user="..."}, a space and the number
 unfoldable pub user_line : Metric → UserFigures → List ℕ
 user_line metric user =
     metric_name metric ++ (codes "{user=\"" ++ (user.name.items ++ (codes "\"} " ++ (decimal (metric_number metric user) ++ (10 ∷ [])))))
 
--- a metric: its kind, and its lines, user by user
+-- a metric: what it is, its kind, and its lines, user by user
 unfoldable pub metric_text : List UserFigures → Metric → List ℕ
-metric_text users metric = type_line (metric_name metric) (is_gauge metric) ++ flat_map (user_line metric) users
-
--- a metric of the server's: its kind, and its line
-unfoldable pub server_line : List ℕ → Bool → ℕ → List ℕ
-server_line name gauge number = type_line name gauge ++ (name ++ (32 ∷ decimal number ++ (10 ∷ [])))
+metric_text users metric =
+    head_lines (metric_name metric) (metric_help metric) (is_gauge metric) ++ flat_map (user_line metric) users
 
 -- the name of a metric of the server's
 abbrev pub own_name : OwnMetric → List ℕ
 own_name UnboundConnections = codes "partcached_unbound_connections"
 own_name RefusedLogins = codes "partcached_refused_logins_total"
 own_name LimitedConnections = codes "partcached_limited_connections_total"
+own_name LeftOutLines = codes "partcached_left_out_lines_total"
 own_name ResidentMemory = codes "process_resident_memory_bytes"
+own_name CpuSeconds = codes "process_cpu_seconds_total"
+own_name OpenFds = codes "process_open_fds"
+own_name MaxFds = codes "process_max_fds"
 own_name Uptime = codes "partcached_uptime_seconds"
+
+-- what it is, in a line
+abbrev pub own_help : OwnMetric → List ℕ
+own_help UnboundConnections = codes "Open connections that have not logged in."
+own_help RefusedLogins = codes "Logins that were refused."
+own_help LimitedConnections = codes "Connections that were closed, or not let in, for a limit."
+own_help LeftOutLines = codes "Lines that were left out of the log."
+own_help ResidentMemory = codes "Resident memory in bytes."
+own_help CpuSeconds = codes "Processor time in seconds."
+own_help OpenFds = codes "Open descriptors."
+own_help MaxFds = codes "Descriptors that may be open."
+own_help Uptime = codes "Seconds since the start."
 
 -- whether it may go down
 abbrev pub own_is_gauge : OwnMetric → Bool
 own_is_gauge RefusedLogins = false
 own_is_gauge LimitedConnections = false
+own_is_gauge LeftOutLines = false
+own_is_gauge CpuSeconds = false
 own_is_gauge other = true
 
 -- its number
@@ -134,17 +187,49 @@ abbrev pub own_number : OwnMetric → ServerFigures → ℕ
 own_number UnboundConnections s = s.unbound
 own_number RefusedLogins s = s.refused_logins
 own_number LimitedConnections s = s.limited
+own_number LeftOutLines s = s.left_out
 own_number ResidentMemory s = s.resident
+own_number CpuSeconds s = s.cpu_millis
+own_number OpenFds s = s.open_fds
+own_number MaxFds s = s.max_fds
 own_number Uptime s = s.uptime
+
+-- what stands behind its number: 12345e-3 are 12.345 seconds
+abbrev pub own_unit : OwnMetric → List ℕ
+own_unit CpuSeconds = codes "e-3"
+own_unit other = []
 
 -- all metrics of the server's, in the order in which they are told
 unfoldable pub own_metrics : List OwnMetric
-own_metrics = UnboundConnections ∷ RefusedLogins ∷ LimitedConnections ∷ ResidentMemory ∷ Uptime ∷ []
+own_metrics =
+    UnboundConnections ∷ RefusedLogins ∷ LimitedConnections ∷ LeftOutLines ∷ ResidentMemory ∷ CpuSeconds ∷ OpenFds ∷ MaxFds
+    ∷ Uptime ∷ []
 
--- the text of a metric of the server's
-abbrev pub own_text : ServerFigures → OwnMetric → List ℕ
-own_text s metric = server_line (own_name metric) (own_is_gauge metric) (own_number metric s)
+-- its line
+unfoldable pub own_line : ServerFigures → OwnMetric → List ℕ
+own_line s metric = own_name metric ++ (32 ∷ decimal (own_number metric s) ++ (own_unit metric ++ (10 ∷ [])))
+
+-- a metric of the server's: what it is, its kind, and its line
+unfoldable pub own_text : ServerFigures → OwnMetric → List ℕ
+own_text s metric = head_lines (own_name metric) (own_help metric) (own_is_gauge metric) ++ own_line s metric
+
+-- the name of the metric that tells the release
+abbrev pub build_name : List ℕ
+build_name = codes "partcached_build_info"
+
+-- what it is, in a line
+abbrev pub build_help : List ℕ
+build_help = codes "The release that runs."
+
+-- its line: this release, as the label of a 1
+unfoldable pub build_line : List ℕ → List ℕ
+build_line version = build_name ++ (codes "{version=\"" ++ (version ++ codes "\"} 1\n"))
+
+-- what it is, its kind, and its line
+unfoldable pub build_text : List ℕ → List ℕ
+build_text version = head_lines build_name build_help true ++ build_line version
 
 -- all that a scraper reads
-abbrev pub metrics_text : List UserFigures → ServerFigures → List ℕ
-metrics_text users server = flat_map (metric_text users) all_metrics ++ flat_map (own_text server) own_metrics
+abbrev pub metrics_text : List UserFigures → List ℕ → ServerFigures → List ℕ
+metrics_text users version server =
+    flat_map (metric_text users) all_metrics ++ (build_text version ++ flat_map (own_text server) own_metrics)

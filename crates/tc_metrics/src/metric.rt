@@ -1,6 +1,7 @@
 //! The metrics of each user.
 ghost use Rattle.std.specs.Prelude.{◌≡◌};
-ghost use Rattle.tc_metrics.specs.MetricsText.{metric_name, is_gauge, metric_number, all_metrics};
+ghost use Rattle.tc_metrics.specs.MetricsText.{metric_name, metric_help, is_gauge, metric_number};
+ghost use Rattle.tc_metrics.specs.MetricsText.{all_metrics};
 
 use tc_stats::Counters;
 
@@ -120,6 +121,41 @@ impl Metric {
             Metric::LimitMaxbytes => "partcached_limit_maxbytes",
             Metric::ItemSizeMax => "partcached_item_size_max",
             Metric::StoreTooLarge => "partcached_store_too_large_total",
+        }
+    }
+
+    /// What it is, in a line.
+    pub fn help(self) -> &'static str
+        ensures { result.now ≡ metric_help self }
+    {
+        match self {
+            Metric::Connections => "Open connections of the user.",
+            Metric::JournalCalls => "Calls of the user's cache, those of the metrics among them.",
+            Metric::JournalBytes => "Bytes that the entries of the user's page keep.",
+            Metric::CurrItems => "Items that the user holds.",
+            Metric::TotalItems => "Items that the user stored.",
+            Metric::Bytes => "Bytes that the user's items take of its budget.",
+            Metric::CmdGet => "Keys that were looked up.",
+            Metric::CmdSet => "Commands that store.",
+            Metric::CmdFlush => "Commands flush_all.",
+            Metric::CmdTouch => "Keys that were touched.",
+            Metric::GetHits => "Keys that were looked up and found.",
+            Metric::GetMisses => "Keys that were looked up and not found.",
+            Metric::DeleteMisses => "Keys that were to be deleted and not found.",
+            Metric::DeleteHits => "Keys that were deleted.",
+            Metric::IncrMisses => "Keys that were to be incremented and not found.",
+            Metric::IncrHits => "Keys that were incremented.",
+            Metric::DecrMisses => "Keys that were to be decremented and not found.",
+            Metric::DecrHits => "Keys that were decremented.",
+            Metric::CasMisses => "Keys that were to be stored by cas and not found.",
+            Metric::CasHits => "Keys that were stored by cas.",
+            Metric::CasBadval => "Keys that were to be stored by cas and had changed.",
+            Metric::TouchHits => "Keys that were touched and found.",
+            Metric::TouchMisses => "Keys that were to be touched and not found.",
+            Metric::Evictions => "Items that were dropped for others.",
+            Metric::LimitMaxbytes => "The user's budget in bytes.",
+            Metric::ItemSizeMax => "The most data bytes of one item.",
+            Metric::StoreTooLarge => "Items that were too large to be stored.",
         }
     }
 

@@ -1,8 +1,8 @@
 //! What a scraper asks, and how it is answered.
 ghost use Rattle.std.specs.Prelude.{◌≡◌, ◌≤◌, ◌++◌, ℕ, List, length, Some, None, OnOk, IfOk, IsNone};
 ghost use Rattle.httparse.specs.Grammar.{RequestHead, ReadsRequest, HasNoRequest};
-ghost use Rattle.tc_metrics.specs.Replies.{status_of, answer_to, status_line, common_lines, header_lines};
-ghost use Rattle.tc_metrics.specs.Replies.{reply_of};
+ghost use Rattle.tc_metrics.specs.Replies.{status_of, is_metrics, answer_to, status_line, common_lines};
+ghost use Rattle.tc_metrics.specs.Replies.{header_lines, body_of, reply_of};
 
 use crate::text::write;
 use httparse::spans::{EMPTY_HEADER_SPAN, parse_request};
@@ -22,11 +22,13 @@ const MOST_HEADERS: usize = 64;
 pub enum Answer {
     /// The metrics are told.
     Told,
+    /// The metrics' reply is told without its text, as it's asked for.
+    Headed,
     /// The request is none.
     Malformed,
     /// Another path is asked for.
     NotFound,
-    /// The metrics are asked for by another method than GET.
+    /// The metrics are asked for by another method than GET and HEAD.
     NotAllowed,
     /// The request's head is too long, or has too many lines.
     TooLong,
@@ -40,7 +42,7 @@ impl Answer {
         ensures { result.now ≡ status_of self }
     {
         match self {
-            Answer::Told => "200 OK",
+            Answer::Told | Answer::Headed => "200 OK",
             Answer::Malformed => "400 Bad Request",
             Answer::NotFound => "404 Not Found",
             Answer::NotAllowed => "405 Method Not Allowed",
@@ -50,17 +52,27 @@ impl Answer {
     }
 }
 
-/// How a request for this path by this method is answered.
+/// Whether the metrics are asked for: by their path, with a query or without.
+fn is_metrics(target: &[u8]) -> bool
+    ensures { result ≡ is_metrics target.now }
+{
+    target == b"/metrics".as_slice() || target.starts_with(b"/metrics?".as_slice())
+}
+
+/// How a request for this target by this method is answered.
 fn answer_to(method: &[u8], target: &[u8]) -> Answer
     ensures { result ≡ answer_to method.now target.now }
 {
-    if target != b"/metrics".as_slice() {
+    if !is_metrics(target) {
         return Answer::NotFound;
     }
-    if method != b"GET".as_slice() {
-        return Answer::NotAllowed;
+    if method == b"GET".as_slice() {
+        return Answer::Told;
     }
-    Answer::Told
+    if method == b"HEAD".as_slice() {
+        return Answer::Headed;
+    }
+    Answer::NotAllowed
 }
 
 /// How the request that came is answered, once its head is whole or can be none; `None` while more is to
@@ -94,7 +106,7 @@ fn write_status(out: &mut Vec<u8>, answer: Answer) -> Result<(), NoMemory>
 fn common_lines() -> &'static str
     ensures { result.now ≡ common_lines }
 {
-    "Content-Type: text/plain; version=0.0.4\r\nAllow: GET\r\nConnection: close\r\nContent-Length: "
+    "Content-Type: text/plain; version=0.0.4\r\nAllow: GET, HEAD\r\nConnection: close\r\nContent-Length: "
 }
 
 /// Puts the other lines of a reply at the end, and the empty line.
@@ -108,7 +120,17 @@ fn write_headers(out: &mut Vec<u8>, length: usize) -> Result<(), NoMemory>
     write(out, b"\r\n\r\n")
 }
 
-/// The reply with this text.
+/// What is sent of a text.
+fn body_of(answer: Answer, text: &[u8]) -> &[u8]
+    ensures { result.now ≡ body_of answer text.now }
+{
+    match answer {
+        Answer::Headed => b"",
+        _ => text,
+    }
+}
+
+/// The reply with this text, or with its length alone.
 #[tactic(auto, unfolding(crate::specs::Replies::reply_of))]
 pub fn reply(alloc: Global, answer: Answer, text: &[u8]) -> Result<Vec<u8>, NoMemory>
     ensures { IfOk result (λ reply. reply.items ≡ reply_of answer text.now) }
@@ -116,6 +138,6 @@ pub fn reply(alloc: Global, answer: Answer, text: &[u8]) -> Result<Vec<u8>, NoMe
     let mut reply = Vec::new(alloc);
     write_status(&mut reply, answer)?;
     write_headers(&mut reply, text.len())?;
-    write(&mut reply, text)?;
+    write(&mut reply, body_of(answer, text))?;
     Ok(reply)
 }

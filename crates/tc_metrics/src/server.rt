@@ -1,6 +1,7 @@
 //! The metrics of the server itself.
 ghost use Rattle.std.specs.Prelude.{◌≡◌};
-ghost use Rattle.tc_metrics.specs.MetricsText.{own_name, own_is_gauge, own_number, own_metrics};
+ghost use Rattle.tc_metrics.specs.MetricsText.{own_name, own_help, own_is_gauge, own_number, own_unit};
+ghost use Rattle.tc_metrics.specs.MetricsText.{own_metrics};
 
 /// What is told of the server.
 #[derive(Clone, Copy, PartialEq, Eq)]
@@ -11,8 +12,16 @@ pub struct ServerFigures {
     pub refused_logins: u64,
     /// Connections that were closed, or not let in, for a limit on connections.
     pub limited: u64,
+    /// Lines that were left out of the log.
+    pub left_out: u64,
     /// How many bytes of memory it holds; 0 where that is not known.
     pub resident: u64,
+    /// How many milliseconds of processors it used; 0 where that is not known.
+    pub cpu_millis: u64,
+    /// How many descriptors it has open; 0 where that is not known.
+    pub open_fds: u64,
+    /// How many it may have open; 0 where that is not known.
+    pub max_fds: u64,
     /// How many seconds it has served.
     pub uptime: u64,
 }
@@ -23,21 +32,29 @@ pub enum OwnMetric {
     UnboundConnections,
     RefusedLogins,
     LimitedConnections,
+    LeftOutLines,
     ResidentMemory,
+    CpuSeconds,
+    OpenFds,
+    MaxFds,
     Uptime,
 }
 
 impl OwnMetric {
     /// All of them, in the order in which they are told.
     #[tactic(auto, unfolding(crate::specs::MetricsText::own_metrics))]
-    pub fn all() -> [OwnMetric; 5]
+    pub fn all() -> [OwnMetric; 9]
         ensures { result ≡ own_metrics }
     {
         [
             OwnMetric::UnboundConnections,
             OwnMetric::RefusedLogins,
             OwnMetric::LimitedConnections,
+            OwnMetric::LeftOutLines,
             OwnMetric::ResidentMemory,
+            OwnMetric::CpuSeconds,
+            OwnMetric::OpenFds,
+            OwnMetric::MaxFds,
             OwnMetric::Uptime,
         ]
     }
@@ -50,8 +67,30 @@ impl OwnMetric {
             OwnMetric::UnboundConnections => "partcached_unbound_connections",
             OwnMetric::RefusedLogins => "partcached_refused_logins_total",
             OwnMetric::LimitedConnections => "partcached_limited_connections_total",
+            OwnMetric::LeftOutLines => "partcached_left_out_lines_total",
             OwnMetric::ResidentMemory => "process_resident_memory_bytes",
+            OwnMetric::CpuSeconds => "process_cpu_seconds_total",
+            OwnMetric::OpenFds => "process_open_fds",
+            OwnMetric::MaxFds => "process_max_fds",
             OwnMetric::Uptime => "partcached_uptime_seconds",
+        }
+    }
+
+    /// What it is, in a line.
+    pub fn help(self) -> &'static str
+        ensures { result.now ≡ own_help self }
+    {
+        match self {
+            OwnMetric::UnboundConnections => "Open connections that have not logged in.",
+            OwnMetric::RefusedLogins => "Logins that were refused.",
+            OwnMetric::LimitedConnections =>
+                "Connections that were closed, or not let in, for a limit.",
+            OwnMetric::LeftOutLines => "Lines that were left out of the log.",
+            OwnMetric::ResidentMemory => "Resident memory in bytes.",
+            OwnMetric::CpuSeconds => "Processor time in seconds.",
+            OwnMetric::OpenFds => "Open descriptors.",
+            OwnMetric::MaxFds => "Descriptors that may be open.",
+            OwnMetric::Uptime => "Seconds since the start.",
         }
     }
 
@@ -61,7 +100,10 @@ impl OwnMetric {
     {
         !matches!(
             self,
-            OwnMetric::RefusedLogins | OwnMetric::LimitedConnections
+            OwnMetric::RefusedLogins
+                | OwnMetric::LimitedConnections
+                | OwnMetric::LeftOutLines
+                | OwnMetric::CpuSeconds
         )
     }
 
@@ -73,8 +115,22 @@ impl OwnMetric {
             OwnMetric::UnboundConnections => server.unbound,
             OwnMetric::RefusedLogins => server.refused_logins,
             OwnMetric::LimitedConnections => server.limited,
+            OwnMetric::LeftOutLines => server.left_out,
             OwnMetric::ResidentMemory => server.resident,
+            OwnMetric::CpuSeconds => server.cpu_millis,
+            OwnMetric::OpenFds => server.open_fds,
+            OwnMetric::MaxFds => server.max_fds,
             OwnMetric::Uptime => server.uptime,
+        }
+    }
+
+    /// What stands behind its number: the exponent of one that counts thousandths.
+    pub fn unit(self) -> &'static str
+        ensures { result.now ≡ own_unit self }
+    {
+        match self {
+            OwnMetric::CpuSeconds => "e-3",
+            _ => "",
         }
     }
 }

@@ -1,7 +1,7 @@
 -- What a server keeps for its end. Source: this project's own.
 use Rattle.std.specs.Prelude.{ℕ}
-use Rattle.tc_past.specs.declared.journal.Journal.{Journal}
-use Rattle.tc_past.specs.declared.journal.Journal.TheVariants.{On, Off}
+use Rattle.tc_plain.specs.declared.shared.journal.Journal.{Journal}
+use Rattle.tc_plain.specs.declared.shared.journal.Journal.TheVariants.{On, Off}
 use Rattle.tc_net.specs.declared.at_end.AtEnd.{AtEnd}
 use Rattle.tc_net.specs.declared.at_end.AtEnd.TheVariants.{Leaves, Audits}
 

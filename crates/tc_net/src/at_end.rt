@@ -2,7 +2,7 @@
 ghost use Rattle.std.specs.Prelude.{◌≡◌, ◌<◌};
 ghost use Rattle.tc_net.specs.Ends.{journal_of, page_length};
 
-use tc_past::Journal;
+use tc_plain::Journal;
 
 /// What a server does once so many connections were closed.
 #[derive(Clone, Copy, PartialEq, Eq)]

@@ -2,15 +2,35 @@
 ghost use Rattle.std.specs.Prelude.{◌≡◌, ◌<◌, map};
 ghost use Rattle.tc_fresh.specs.Beginning.{fresh_cache};
 
+use tc_limits::{Address, ConnectionLimits, LimitsByUser};
 use tc_locked::Opened;
 use tc_plain::Cache;
-use tc_users::Settings;
+use tc_users::Users;
+
+/// What a server goes by, wherever it was read.
+#[derive(Drop)]
+pub struct ServerSettings {
+    /// Where it listens.
+    pub listen: Address,
+    /// How many threads serve connections.
+    pub workers: usize,
+    /// How many entries a journal's page has.
+    pub journal: usize,
+    /// The limits on all connections.
+    pub limits: ConnectionLimits,
+    /// Where the metrics are told, if they are.
+    pub metrics: Option<Address>,
+    /// Who may log in.
+    pub users: Users,
+    /// The limits on each user's connections.
+    pub user_limits: LimitsByUser,
+}
 
 /// A server's settings, a table for its hall, and a fresh cache for each user, in the order of their
 /// numbers.
 #[derive(Drop)]
 pub struct Beginning<C: Cache> {
-    pub settings: Settings,
+    pub settings: ServerSettings,
     pub opened: Opened,
     pub caches: Vec<C>,
     ghost fresh: { map C.settled caches.items ≡ map fresh_cache settings.users },

@@ -1,12 +1,12 @@
 //! The machine's clock, as the keeper reads it, and what its thread does besides.
 use crate::audience::Audience;
-use crate::connections::{Connections, MOST_NOTICES};
 use crate::counting::Counting;
 use crate::scraping::{Scraping, Sources};
 use std::alloc::Global;
 use std::sync::{Arc, Wait};
 use std::thread;
 use std::time::{Clock, Duration, Instant, SystemTime, UNIX_EPOCH};
+use tc_connections::{Connections, Notice};
 use tc_item::Moment;
 use tc_locked::{Clock as Moments, Hall, Naming, Seat};
 use tc_plain::Cache;
@@ -24,6 +24,8 @@ pub(crate) struct Ticking<'a, R: Clock + Drop, N: Naming, A: Audience> {
     pub(crate) begun: Option<Instant>,
     pub(crate) connections: Arc<Connections, Global>,
     pub(crate) audience: &'a A,
+    /// What the audience is told in a second.
+    pub(crate) notices: Vec<Notice>,
     /// By which the hall is asked for the metrics.
     pub(crate) seat: Seat<N>,
     pub(crate) scraping: Option<Scraping>,
@@ -76,12 +78,10 @@ impl<'a, R: Clock + Drop, N: Naming, A: Audience> Ticking<'a, R, N, A> {
     }
 
     /// Tells the audience what there is to be told.
-    fn tell<W: Wait>(&self, rt: &W) {
-        for _ in 0..MOST_NOTICES {
-            let Some(notice) = self.connections.next_notice(rt) else {
-                return;
-            };
-            self.audience.notes(&notice);
+    fn tell<W: Wait>(&mut self, rt: &W) {
+        self.connections.take_notices(rt, &mut self.notices);
+        for notice in &self.notices {
+            self.audience.notes(notice);
         }
     }
 
@@ -92,6 +92,7 @@ impl<'a, R: Clock + Drop, N: Naming, A: Audience> Ticking<'a, R, N, A> {
             begun: _,
             connections: _,
             audience: _,
+            notices: _,
             seat,
             scraping: _,
             counting: _,

@@ -1,7 +1,7 @@
 //! Looks at what the workers did, and has the policy deal the work out.
-use crate::readiness::Readiness;
 use std::alloc::{AllocError, Global};
 use std::sync::Arc;
+use tc_connections::{Counts, Readiness};
 use tc_fairness::{Balance, Did, Shares, Traffic};
 
 /// How many microseconds lie between two looks at least.
@@ -19,6 +19,14 @@ pub(crate) struct Counting {
     /// What each worker had done for each home then, worker by worker.
     traffic: Vec<Traffic>,
     did: Did,
+}
+
+/// What a worker did for the users of a home.
+fn traffic_on(counts: &Counts, home: usize) -> Traffic {
+    Traffic {
+        calls: counts.calls(home),
+        bytes: counts.bytes(home),
+    }
 }
 
 impl Counting {
@@ -56,7 +64,7 @@ impl Counting {
     /// Looks at one worker.
     fn count(&mut self, worker: usize, now: u64, passed: u64) {
         let waited = match self.counted.get(worker) {
-            Some(readiness) => readiness.counts.waited(now),
+            Some(readiness) => readiness.counts().waited(now),
             None => return,
         };
         if let Some(before) = self.waited.get_mut(worker) {
@@ -76,7 +84,7 @@ impl Counting {
             .saturating_mul(self.counted.len())
             .saturating_add(home);
         let traffic = match self.counted.get(worker) {
-            Some(readiness) => readiness.counts.traffic(home),
+            Some(readiness) => traffic_on(readiness.counts(), home),
             None => return,
         };
         if let Some(before) = self.traffic.get_mut(at) {

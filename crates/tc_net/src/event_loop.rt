@@ -3,9 +3,7 @@
 ghost use Rattle.std.specs.Prelude.{◌≡◌};
 
 use crate::clocking::micros_since;
-use crate::connections::Connections;
 use crate::handover::{Arrival, Intake, Outlet, handover};
-use crate::readiness::{ENDING, READABLE, Readiness, WRITABLE};
 use crate::socket::{Join, Leave, Socket};
 use mio::event::Event;
 use mio::net::TcpStream;
@@ -16,6 +14,7 @@ use std::io::ErrorKind;
 use std::net::Net;
 use std::sync::{Arc, Wait};
 use std::time::{Clock, Duration, Instant};
+use tc_connections::{Connections, ENDING, READABLE, Readiness, WRITABLE};
 use tc_links::{Change, Inlet, Patience, Taken, Talk};
 
 /// The most events of one wait.
@@ -217,7 +216,7 @@ impl<R: Wait + Clock + Drop> EventLoop<R> {
         if wait > 0
             && let Some(now) = self.now()
         {
-            self.readiness.counts.wait_from(now);
+            self.readiness.counts().wait_from(now);
         }
         let _ = self
             .poll
@@ -225,7 +224,7 @@ impl<R: Wait + Clock + Drop> EventLoop<R> {
         if wait > 0
             && let Some(now) = self.now()
         {
-            self.readiness.counts.wait_until(now);
+            self.readiness.counts().wait_until(now);
         }
     }
 

@@ -2,17 +2,20 @@
 //! `serve`, which runs them all.
 //!
 //! Each worker waits in a poll of its own. What the poll said of a socket stands on that worker's
-//! `Readiness`, so that a `Socket`, which is a wire, asks the system only where there is something; an
-//! `EventLoop`, which is an inlet, names the wires of which the poll said something. The listener has a
-//! thread and a poll of its own; it hands connections over by channels, and wakes the worker. By the
-//! same channels workers pass connections on to the worker of their user, or to one that helps it: each
+//! `Readiness` (tc_connections), so that a `Socket`, which is a wire, asks the system only where there is
+//! something; an `EventLoop`, which is an inlet, names the wires of which the poll said something. The
+//! listener has a thread and a poll of its own; it hands connections over by channels, and wakes the worker.
+//! By the same channels workers pass connections on to the worker of their user, or to one that helps it: each
 //! counts what it did (`Counts`), and the keeper's thread deals the work out by that (`Counting`).
 //!
-//! Each connection has a place among the `Connections`, which are counted by user and told which are to go: the
-//! oldest that has not logged in where too many have not, a user's one too many, and one that stayed too
-//! long (`specs/Deadlines.antt`). A wire whose connection is to go fails. The keeper's thread looks each
-//! second who is overdue, and answers between its turns who asks for the metrics (`Scraping`): each user's
-//! `stats` is one call of the hall by a seat of its own.
+//! A `Socket` reads and writes a `Stream`, by default the system's, of whose bytes nothing is said. Over one that
+//! knows them it gives what the stream gave, and the stream takes what the socket is handed. `unpolled` makes one
+//! that no poll watches.
+//!
+//! Each connection has a place among the `Connections` (tc_connections), where it is told to go. A wire whose
+//! connection is to go fails. The keeper's thread looks each second who is overdue, and answers between its
+//! turns who asks for the metrics (`Scraping`): each user's `stats` is one call of the hall by a seat of its
+//! own.
 //!
 //! # Who waits, who wakes, who writes
 //!
@@ -36,35 +39,35 @@
 //! `serve` goes over any cache. A `Beginning` holds what `Hall::new` asks of its caller. An `Audience` is
 //! told where the server listens, and what is found where the hall is audited at the end.
 //!
-//! No clause says what a socket, a poll or a channel does, that a thread gets on, or that memory
+//! No clause says what the system's stream, a poll or a channel does, that a thread gets on, or that memory
 //! suffices.
 #![tactic(auto)]
 
 mod at_end;
-mod atomic_addr;
 mod audience;
 mod auditing;
 mod beginning;
 mod clocking;
-mod connections;
 mod counting;
-mod counts;
+mod descriptors;
 mod event_loop;
 mod handover;
 mod listening;
-mod notice;
-mod overdue;
 mod peer;
-mod readiness;
+mod remarks;
+mod rouser;
 mod scraping;
 mod serving;
 mod socket;
-mod tallies;
+mod stream;
 
 pub use at_end::AtEnd;
 pub use audience::Audience;
 pub use auditing::Found;
-pub use beginning::Beginning;
-pub use notice::Notice;
-pub use overdue::Timeout;
+pub use beginning::{Beginning, ServerSettings};
+pub use descriptors::Descriptors;
+pub use rouser::{Rouser, unpolled};
 pub use serving::{Affinity, Unserved, serve};
+pub use socket::Socket;
+pub use stream::Stream;
+pub use tc_connections::{Cause, Notice, Timeout};

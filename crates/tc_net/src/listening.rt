@@ -1,7 +1,5 @@
 //! The listener: it takes connections and hands them to the workers in turn.
-use crate::connections::Connections;
 use crate::handover::{Arrival, Outlet};
-use crate::notice::Notice;
 use mio::net::{TcpListener, TcpStream};
 use mio::{Events, Interest, Poll, Token};
 use std::alloc::Global;
@@ -9,6 +7,7 @@ use std::io;
 use std::net::{Net, SocketAddr};
 use std::sync::{Arc, Wait};
 use std::time::Duration;
+use tc_connections::{Connections, Notice, canonical};
 
 /// The most events of one wait.
 const EVENTS: usize = 16;
@@ -22,6 +21,11 @@ const LONG_WAIT: u64 = 500;
 /// The most connections that are taken before it looks whether it is done.
 const BURST: u32 = 1_024;
 
+/// The system's numbers for a process, and a system, that has no descriptor left (errno(3)).
+const EMFILE: i32 = 24;
+
+const ENFILE: i32 = 23;
+
 /// The listener, before its thread starts.
 #[derive(Drop)]
 pub(crate) struct Listening {
@@ -34,6 +38,12 @@ pub(crate) struct Listening {
     until: Option<u64>,
     /// The number of the next connection, from 0.
     number: u64,
+    /// How many connections the process has descriptors for.
+    room: u64,
+    /// One that came beyond these, and from where: it is let in once another closes.
+    held: Option<(TcpStream, SocketAddr)>,
+    /// Connections wait for descriptors, and an operator was told.
+    is_short: bool,
 }
 
 impl Listening {
@@ -57,7 +67,15 @@ impl Listening {
             connections,
             until,
             number: 0,
+            room: u64::MAX,
+            held: None,
+            is_short: false,
         })
+    }
+
+    /// Learns how many connections the process has descriptors for.
+    pub(crate) fn set_room(&mut self, room: u64) {
+        self.room = room;
     }
 
     /// Where it listens; the port is the one that the system gave where port 0 was asked for.
@@ -76,12 +94,55 @@ impl Listening {
         }
     }
 
-    /// Takes connections until none waits, or the system has no room for one now.
+    /// How many connections were let in and are open.
+    fn open(&self) -> u64 {
+        self.number.saturating_sub(self.connections.closed())
+    }
+
+    /// Has an operator told, once for all that wait, that there is no descriptor for a further connection.
+    fn note_shortage<R: Wait>(&mut self, rt: &R) {
+        if !self.is_short {
+            self.is_short = true;
+            self.connections
+                .note(rt, Notice::NoDescriptor { open: self.open() });
+        }
+    }
+
+    /// The system gave no connection: for want of descriptors, or else since none waits.
+    fn note_refusal<R: Wait>(&mut self, rt: &R, error: &io::Error) {
+        let number = error.raw_os_error().unwrap_or(0);
+        if number == EMFILE || number == ENFILE {
+            self.note_shortage(rt);
+        } else {
+            self.is_short = false;
+        }
+    }
+
+    /// A connection that waits, and from where: that which is held back, or the system's next.
+    fn next<R: Wait>(&mut self, rt: &R) -> Option<(TcpStream, SocketAddr)> {
+        if self.held.is_some() {
+            return self.held.take();
+        }
+        match self.listener.accept() {
+            Ok((stream, address)) => Some((stream, canonical(address))),
+            Err(error) => {
+                self.note_refusal(rt, &error);
+                None
+            }
+        }
+    }
+
+    /// Takes connections until none waits, or there is no descriptor for one now.
     fn take_all<R: Wait>(&mut self, rt: &R) {
         for _ in 0..BURST {
-            let Ok((stream, peer)) = self.listener.accept() else {
+            let Some((stream, peer)) = self.next(rt) else {
                 return;
             };
+            if self.open() >= self.room {
+                self.held = Some((stream, peer));
+                self.note_shortage(rt);
+                return;
+            }
             self.let_in(rt, stream, peer);
         }
     }
@@ -160,6 +221,9 @@ impl Listening {
             connections: _,
             until: _,
             number: _,
+            room: _,
+            held: _,
+            is_short: _,
         } = self;
         outlets
     }

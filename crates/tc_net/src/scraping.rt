@@ -1,12 +1,12 @@
 //! The metrics' listener, which the keeper's thread looks at between its turns.
 use crate::audience::Audience;
-use crate::connections::Connections;
 use crate::peer::{Peer, Stage};
 use mio::net::TcpListener;
 use std::alloc::{AllocError, Global};
 use std::io;
 use std::net::{Net, SocketAddr};
 use std::sync::Wait;
+use tc_connections::Connections;
 use tc_grammar::Command;
 use tc_item::NoMemory;
 use tc_locked::{CallFault, Clock, Hall, Naming, Seat};
@@ -55,6 +55,25 @@ fn first_figures(alloc: Global, users: &Users) -> Result<Vec<UserFigures>, NoMem
         })?;
     }
     Ok(figures)
+}
+
+/// The server's own figures.
+fn figures_of<A: Audience>(connections: &Connections, audience: &A) -> ServerFigures {
+    let (open_fds, max_fds) = match audience.descriptors() {
+        Some(now) => (now.open, now.allowed),
+        None => (0, 0),
+    };
+    ServerFigures {
+        unbound: connections.count_unbound(),
+        refused_logins: connections.refused_logins(),
+        limited: connections.limited(),
+        left_out: connections.left_out(),
+        resident: audience.resident(),
+        cpu_millis: audience.cpu_millis(),
+        open_fds,
+        max_fds,
+        uptime: connections.second().saturating_sub(1),
+    }
 }
 
 /// Counts each user's open connections.
@@ -152,14 +171,9 @@ impl Scraping {
     ) -> Result<Vec<u8>, CallFault> {
         count_connections(&mut self.figures, from.connections);
         ask_all(from, self.alloc, seat, &mut self.figures)?;
-        let server = ServerFigures {
-            unbound: from.connections.count_unbound(),
-            refused_logins: from.connections.refused_logins(),
-            limited: from.connections.limited(),
-            resident: from.audience.resident(),
-            uptime: from.connections.second().saturating_sub(1),
-        };
-        Ok(render(self.alloc, &self.figures, &server)?)
+        let server = figures_of(from.connections, from.audience);
+        let version = from.audience.version();
+        Ok(render(self.alloc, &self.figures, version, &server)?)
     }
 
     /// The reply to a request that is answered so; without a text where memory for it is refused.
@@ -169,11 +183,11 @@ impl Scraping {
         seat: &mut Seat<N>,
         answer: Answer,
     ) -> Result<Vec<u8>, NoMemory> {
-        if answer != Answer::Told {
+        if answer != Answer::Told && answer != Answer::Headed {
             return reply(self.alloc, answer, b"");
         }
         match self.tell(from, seat) {
-            Ok(text) => reply(self.alloc, Answer::Told, &text),
+            Ok(text) => reply(self.alloc, answer, &text),
             Err(_) => reply(self.alloc, Answer::Refused, b""),
         }
     }

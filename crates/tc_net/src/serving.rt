@@ -6,10 +6,10 @@ ghost use Rattle.tc_net.specs.Ends.{journal_of, page_length};
 use crate::at_end::AtEnd;
 use crate::audience::Audience;
 use crate::auditing::{Found, audit_hall};
-use crate::beginning::Beginning;
+use crate::beginning::{Beginning, ServerSettings};
 use crate::clocking::{Ticking, moment_now};
-use crate::connections::Connections;
 use crate::counting::Counting;
+use crate::descriptors::room_by;
 use crate::event_loop::EventLoop;
 use crate::handover::Outlet;
 use crate::listening::Listening;
@@ -22,12 +22,14 @@ use std::sync::{Arc, Wait};
 use std::thread::Threads;
 use std::time::{Clock as Time, Instant};
 use std::{io, mem, thread};
+use tc_connections::Connections;
 use tc_fairness::Shares;
 use tc_item::NoMemory;
+use tc_limits::{Address, LimitsByUser};
 use tc_links::{Homes, Open};
 use tc_locked::{Clock, Hall, Naming, Seat};
 use tc_plain::Cache;
-use tc_users::{Address, LimitsByUser, Settings, Users};
+use tc_users::Users;
 use tc_workers::{Keeper, Returned, Worker, run_crew};
 
 /// Why a server doesn't serve.
@@ -335,7 +337,7 @@ struct Opening {
 
 /// How a server of these settings is to listen and serve.
 fn opening_of(
-    settings: &Settings,
+    settings: &ServerSettings,
     affinity: Affinity,
     until: Option<u64>,
 ) -> Result<Opening, Unserved>
@@ -359,7 +361,7 @@ fn opening_of(
 /// of it.
 fn share_connections(
     alloc: Global,
-    settings: &mut Settings,
+    settings: &mut ServerSettings,
 ) -> Result<Arc<Connections, Global>, Unserved>
     ensures { settings.new.workers ≡ settings.old.workers }
 {
@@ -388,7 +390,7 @@ fn stand<'a, N: Naming, R: Wait + Net + Time + AllocGlobal + Copy + Drop, A: Aud
     alloc: Global,
     connections: &Arc<Connections, Global>,
     seats: Vec<Seat<N>>,
-    settings: &Settings,
+    settings: &ServerSettings,
     opening: Opening,
     audience: &'a A,
 ) -> Result<Standing<'a, N, R, A>, Unserved>
@@ -398,8 +400,10 @@ fn stand<'a, N: Naming, R: Wait + Net + Time + AllocGlobal + Copy + Drop, A: Aud
     let workers = settings.workers;
     let affinity = opening.affinity;
     let (hiring, outlets) = hire_staff(rt, alloc, connections, begun, seats, affinity, workers)?;
-    let listening = open_listener(rt, opening, outlets, connections, audience)?;
+    let mut listening = open_listener(rt, opening, outlets, connections, audience)?;
     let scraping = listen_for_metrics(rt, &settings.metrics, &settings.users, audience)?;
+    // All else that stays open is open now.
+    listening.set_room(room_by(audience.descriptors()));
     audience.listens(listening.address().unwrap_or(opening.address));
     let Hiring {
         crew,
@@ -412,6 +416,7 @@ fn stand<'a, N: Naming, R: Wait + Net + Time + AllocGlobal + Copy + Drop, A: Aud
         begun,
         connections,
         audience,
+        notices: Vec::new(alloc),
         seat: own,
         scraping,
         counting,
@@ -443,7 +448,7 @@ impl<
     fn serve(
         &self,
         seats: Vec<Seat<N>>,
-        mut settings: Settings,
+        mut settings: ServerSettings,
         opening: Opening,
     ) -> Result<Vec<Seat<N>>, Unserved>
         requires { 0 < settings.workers }

@@ -1,16 +1,18 @@
 //! A wire over a socket.
-ghost use Rattle.std.specs.Prelude.{None};
+ghost use Rattle.std.specs.Prelude.{◌≡◌};
 ghost use Rattle.std.specs.Io.{WritesAtMost};
+ghost use Rattle.std.specs.Io.KnownBytes.{WriteAppends};
 
-use crate::connections::Connections;
-use crate::readiness::{ENDING, READABLE, Readiness, WRITABLE};
+use crate::remarks::notice_of;
+use crate::stream::Stream;
 use mio::net::TcpStream;
-use mio::{Interest, Registry, Token};
+use mio::{Registry, Token};
 use std::alloc::Global;
-use std::io::{self, ErrorKind, IoSlice, Read, Write};
+use std::io::{self, ErrorKind, IoSlice};
 use std::sync::{Arc, Wait};
+use tc_connections::{Connections, ENDING, READABLE, Readiness, WRITABLE};
 use tc_fairness::Traffic;
-use tc_links::{Change, Got, Parts, Put, Remark, Wire};
+use tc_links::{Change, Got, News, Parts, Put, Remark, Wire, home_of};
 use tc_users::UserNo;
 
 /// After so many reads on end what a socket's worker did is noted.
@@ -35,10 +37,18 @@ impl Drop for Watch {
     }
 }
 
+/// The home of a user among those that a worker counts by; `None` where there is none.
+fn home_of_user(readiness: &Readiness, user: UserNo) -> Option<usize> {
+    match readiness.counts().homes() {
+        0 => None,
+        homes => Some(home_of(user, homes)),
+    }
+}
+
 /// A socket that asks the system only where the poll said that there is something. It has a place at
-/// the connections until it is dropped.
-pub(crate) struct Socket {
-    stream: TcpStream,
+/// the connections until it is dropped. What it gives and takes is what its stream gives and takes.
+pub struct Socket<S: Stream = TcpStream> {
+    stream: S,
     /// None while it is on its way to a worker.
     watch: Option<Watch>,
     connections: Arc<Connections, Global>,
@@ -49,7 +59,7 @@ pub(crate) struct Socket {
     done: Traffic,
 }
 
-impl Drop for Socket {
+impl<S: Stream> Drop for Socket<S> {
     fn drop(self) {
         let Socket {
             stream,
@@ -65,13 +75,11 @@ impl Drop for Socket {
     }
 }
 
-impl Socket {
+impl<S: Stream> Socket<S> {
     /// A wire that has this place among the connections, and that no worker has yet.
-    pub(crate) fn new(
-        stream: TcpStream,
-        connections: Arc<Connections, Global>,
-        place: usize,
-    ) -> Socket {
+    pub(crate) fn new(stream: S, connections: Arc<Connections, Global>, place: usize) -> Socket<S>
+        ensures { result.stream ≡ stream }
+    {
         Socket {
             stream,
             watch: None,
@@ -82,52 +90,71 @@ impl Socket {
         }
     }
 
-    /// Takes a place in a worker's readiness, which the worker's poll writes from now on. Whether there was
-    /// one and the poll took it.
-    pub(crate) fn join(&mut self, registry: &Registry, readiness: Arc<Readiness, Global>) -> bool {
+    /// Takes a place in a worker's readiness. Whether there was one.
+    pub(crate) fn claim(&mut self, readiness: Arc<Readiness, Global>) -> bool
+        ensures { self.new.stream ≡ self.old.stream }
+    {
         let Some(at) = readiness.claim(self.place) else {
             return false;
         };
         let home = self.home_on(&readiness);
-        let watch = Watch {
+        self.watch = Some(Watch {
             readiness,
             at,
             home,
-        };
-        let both = Interest::READABLE | Interest::WRITABLE;
-        if registry
-            .register(&mut self.stream, Token(at), both)
-            .is_err()
-        {
+        });
+        true
+    }
+
+    /// Takes a place in a worker's readiness, which the worker's poll writes from now on. Whether there was
+    /// one and the poll took it.
+    pub(crate) fn join(&mut self, registry: &Registry, readiness: Arc<Readiness, Global>) -> bool
+        ensures gives_nothing { S.gave self.new.stream ≡ S.gave self.old.stream }
+        ensures takes_nothing { S.took self.new.stream ≡ S.took self.old.stream }
+    {
+        if !self.claim(readiness) {
             return false;
         }
-        self.watch = Some(watch);
-        true
+        let is_registered = match &self.watch {
+            Some(watch) => self.stream.register(registry, Token(watch.at)),
+            None => false,
+        };
+        if !is_registered {
+            self.watch = None;
+        }
+        is_registered
     }
 
     /// On whose users' account its worker serves it.
     fn home_on(&self, readiness: &Readiness) -> Option<usize> {
-        readiness.counts.home(self.user?)
+        home_of_user(readiness, self.user?)
     }
 
     /// Its worker read or wrote so many bytes.
-    fn count(&mut self, bytes: usize) {
+    fn count(&mut self, bytes: usize)
+        ensures { self.new.stream ≡ self.old.stream }
+    {
         self.done.calls = self.done.calls.saturating_add(1);
         self.done.bytes = self.done.bytes.saturating_add(bytes as u64);
     }
 
     /// Notes what its worker did.
-    fn note_done(&mut self) {
+    fn note_done(&mut self)
+        ensures { self.new.stream ≡ self.old.stream }
+    {
         if let Some(watch) = &self.watch
             && let Some(home) = watch.home
         {
-            watch.readiness.counts.note(home, self.done);
+            let counts = watch.readiness.counts();
+            counts.note(home, self.done.calls, self.done.bytes);
         }
         self.done = Traffic::default();
     }
 
     /// Its worker read so many bytes. Mostly it writes soon, and then both are noted at once.
-    fn count_read(&mut self, bytes: usize) {
+    fn count_read(&mut self, bytes: usize)
+        ensures { self.new.stream ≡ self.old.stream }
+    {
         self.count(bytes);
         if self.done.calls >= MOST_UNNOTED {
             self.note_done();
@@ -135,14 +162,19 @@ impl Socket {
     }
 
     /// Its worker wrote so many bytes.
-    fn count_write(&mut self, bytes: usize) {
+    fn count_write(&mut self, bytes: usize)
+        ensures { self.new.stream ≡ self.old.stream }
+    {
         self.count(bytes);
         self.note_done();
     }
 
     /// Gives its place up, and leaves the worker's poll.
-    pub(crate) fn leave(&mut self, registry: &Registry) {
-        let _ = registry.deregister(&mut self.stream);
+    pub(crate) fn leave(&mut self, registry: &Registry)
+        ensures gives_nothing { S.gave self.new.stream ≡ S.gave self.old.stream }
+        ensures takes_nothing { S.took self.new.stream ≡ S.took self.old.stream }
+    {
+        self.stream.deregister(registry);
         self.watch = None;
     }
 
@@ -173,15 +205,18 @@ impl Socket {
     /// which is as many as the call takes.
     fn send(&mut self, from: &Parts<'_>) -> io::Result<usize>
         ensures within { WritesAtMost result from.now }
+        ensures takes { WriteAppends (S.took self.old.stream) (S.took self.new.stream) result
+            from.now }
+        ensures gives_nothing { S.gave self.new.stream ≡ S.gave self.old.stream }
     {
         let (first, behind) = from.split_first();
         if behind.is_empty() {
-            return self.stream.write(first);
+            return self.stream.send(first);
         }
         let (second, behind) = behind.split_first();
         let (third, behind) = behind.split_first();
         let (fourth, _) = behind.split_first();
-        self.stream.write_vectored(&[
+        self.stream.send_slices(&[
             IoSlice::new(first),
             IoSlice::new(second),
             IoSlice::new(third),
@@ -190,10 +225,10 @@ impl Socket {
     }
 }
 
-impl Wire for Socket {
-    ghost gave = { λ _. None };
+impl<S: Stream> Wire for Socket<S> {
+    ghost gave = { λ s. S.gave s.stream };
 
-    ghost took = { λ _. None };
+    ghost took = { λ s. S.took s.stream };
 
     fn read(&mut self, into: &mut [u8]) -> Got {
         if self.connections.is_over(self.place) {
@@ -202,7 +237,7 @@ impl Wire for Socket {
         if !self.has(READABLE) {
             return Got::Later;
         }
-        match self.stream.read(into) {
+        match self.stream.receive(into) {
             Ok(0) => Got::Ended,
             Ok(n) => {
                 self.connections.note_heard(self.place);
@@ -256,7 +291,7 @@ impl Wire for Socket {
         self.connections.bind(self.place, user);
         self.user = Some(user);
         if let Some(watch) = &mut self.watch {
-            watch.home = watch.readiness.counts.home(user);
+            watch.home = home_of_user(&watch.readiness, user);
         }
     }
 
@@ -264,8 +299,13 @@ impl Wire for Socket {
         if remark == Remark::HoldsUp {
             self.connections.oust(self.place);
         }
-        self.connections
-            .note_remark(rt, self.stream.peer_addr().ok(), remark);
+        if let Remark::News(News::LoginRefused(_)) = remark {
+            self.connections.count_refused_login();
+        }
+        if let Some(peer) = self.connections.peer_at(self.place) {
+            self.connections
+                .note(rt, notice_of(peer, self.user, remark));
+        }
     }
 }
 
@@ -276,8 +316,8 @@ pub(crate) struct Join<'a> {
     pub(crate) readiness: Arc<Readiness, Global>,
 }
 
-impl<'a> Change<Socket> for Join<'a> {
-    fn change(self, wire: &mut Socket) -> bool {
+impl<'a, S: Stream> Change<Socket<S>> for Join<'a> {
+    fn change(self, wire: &mut Socket<S>) -> bool {
         let Join {
             registry,
             readiness,
@@ -292,8 +332,8 @@ pub(crate) struct Leave<'a> {
     pub(crate) registry: &'a Registry,
 }
 
-impl<'a> Change<Socket> for Leave<'a> {
-    fn change(self, wire: &mut Socket) -> bool {
+impl<'a, S: Stream> Change<Socket<S>> for Leave<'a> {
+    fn change(self, wire: &mut Socket<S>) -> bool {
         wire.leave(self.registry);
         true
     }

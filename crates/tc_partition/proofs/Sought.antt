@@ -1,39 +1,30 @@
 -- Places of keys that were sought, one after another.
-use Rattle.std.specs.Prelude.{max, map}
-use Rattle.std.proofs.Common.{◌≡◌, ℕ, zero, suc, ◌<◌, List, [], ◌∷◌, length, get_or, drop, Option, None, sym, ◌∙◌, ap}
+use Rattle.std.proofs.Common.{◌≡◌, ℕ, zero, suc, ◌<◌, List, [], ◌∷◌, length, get_or, Option, None, sym, ◌∙◌, ap, subst}
 use Rattle.std.proofs.Common.{Bool, true, false, cond, Some, refl, arith}
 use Rattle.std.specs.Str.{bytes_eq}
 use Rattle.std.proofs.lemmas.Slice.Eq.{bytes_eq-Decides}
 use Rattle.tc_item.specs.declared.slot.Slot.{Slot}
 use Rattle.tc_plain.specs.declared.shared.entry.Entry.{Entry}
-use Rattle.tc_plain.specs.EvictionState.{EvictionState, held, at_moment, advanced}
-use Rattle.tc_plain.specs.AreaLists.{found_in}
+use Rattle.tc_plain.specs.EvictionState.{EvictionState, held, at_moment}
 use Rattle.tc_item.specs.declared.item.Item.{Item}
 use Rattle.tc_plain.specs.Entries.{lives, with_item}
 use Rattle.tc_plain.specs.Doing.{looked_up}
 use Rattle.tc_plain.specs.Soundness.{AreSound}
 use Rattle.tc_plain.proofs.Asked.{held-used}
 use Rattle.tc_plain.proofs.Used.{held_key}
-use Rattle.tc_partition.specs.Deferred.{Lazy, IsLazy, peeked, settled, raised_to}
 use Rattle.tc_partition.specs.LiveSlots.{live_of}
 use Rattle.tc_partition.specs.declared.live_slots.LiveSlots.{LiveSlots}
-use Rattle.tc_partition.specs.WaitingSlots.{SeeksSlot, AreSought, placed_in}
-use Rattle.tc_partition.proofs.Deferral.{look_answer, raised_settled, raised_lazy}
+use Rattle.tc_partition.specs.WaitingSlots.{SeeksSlot, AreSought}
+use Rattle.tc_partition.specs.Seeking.{SeekSlots}
 
--- what is at a place that was found is what its key will hold
-pub placed_sought : (place : Option Slot) (m : ℕ) (key : List ℕ) (s : LiveSlots) → SeeksSlot place m key s
-    → placed_in s.held.slots place ≡ peeked m key (live_of s)
-placed_sought None m key s h = sym h
-placed_sought (Some slot) m key s h = h.1 ∙ sym h.3
-
--- where what is at each place is what its key holds, a key with no place holds nothing
-pub sought_by : (slots : List (Option Entry)) (m : ℕ) (keys : List (List ℕ)) (places : List (Option Slot)) (l : EvictionState)
-    → map (placed_in slots) places ≡ found_in m keys l → AreSought keys places (at_moment m l)
-sought_by slots m [] [] l h = tt
-sought_by slots m [] (p ∷ places) l h = absurd (cc h)
-sought_by slots m (k ∷ keys) [] l h = absurd (cc h)
-sought_by slots m (k ∷ keys) (p ∷ places) l h =
-    (λ none. ap (λ es. get_or es 0 None) (sym h) ∙ ap (placed_in slots) none, sought_by slots m keys places l (ap (drop 1) h))
+-- where keys were found, one with no place holds nothing
+pub found_sought : (m : ℕ) (keys : List (List ℕ)) (found : List (Option Slot)) (s : LiveSlots) → SeekSlots m keys found s
+    → AreSought keys found (at_moment m (live_of s))
+found_sought m [] [] s h = tt
+found_sought m [] (p ∷ found) s h = absurd h
+found_sought m (k ∷ keys) [] s h = absurd h
+found_sought m (k ∷ keys) (p ∷ found) s h =
+    (λ none. subst (λ o. SeeksSlot o m k s) none h.0, found_sought m keys found s h.1)
 
 -- as many places as keys
 pub sought_long : (keys : List (List ℕ)) (places : List (Option Slot)) (l : EvictionState) → AreSought keys places l
@@ -76,10 +67,3 @@ unheld-looked_up change key q l sound none = go (held key l.areas) refl
             → cond t o (held q l.areas) ≡ None
         at true o same own = absurd (cc (sym none ∙ ap (λ k. held k l.areas) (sym ((bytes_eq-Decides e.key q).0 same)) ∙ own))
         at false o same own = none
-
--- what a key will hold with nothing done first, it will hold once all that waits is done
-pub held_then : (f : Lazy) (now m : ℕ) (q : List ℕ) → IsLazy f → m ≡ max f.moment now
-    → held q (advanced (settled f) now).areas ≡ held q (at_moment m f.base).areas
-held_then f now m q h e =
-    ap (λ (l : EvictionState). held q l.areas) (sym (raised_settled f now h))
-    ∙ look_answer (raised_to f now) q (raised_lazy f now h) ∙ ap (λ t. held q (at_moment t f.base).areas) (sym e)

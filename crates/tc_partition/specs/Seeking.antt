@@ -12,6 +12,12 @@ abbrev pub noted_at : ℕ → Option Slot → LookUp
 noted_at h None = MissNoted h
 noted_at h (Some slot) = HitNoted slot h
 
+-- what is noted of keys of these hashes that were found at these places, at a moment
+abbrev pub all_noted : List ℕ → List (Option Slot) → ℕ → List (LookUp × ℕ)
+all_noted [] found m = []
+all_noted (h ∷ hashes) [] m = []
+all_noted (h ∷ hashes) (place ∷ found) m = (noted_at h place, m) ∷ all_noted hashes found m
+
 -- the hash of each key
 abbrev pub AreHashed : List (List ℕ) → List ℕ → Type 0
 AreHashed [] [] = Unit {0}

@@ -1,13 +1,12 @@
 //! What look-ups touch of one user's cache.
 ghost use Rattle.std.specs.Prelude.{◌≡◌, ℕ, max, false, None, IsSome, slice_index_or, ◌<◌, ◌≤◌, ◌+◌, ◌^◌, true, is_some, length};
 ghost use Rattle.std.specs.Prelude.{Some, IfOk, OnOk, OnErr, MatchOption, List};
-ghost use Rattle.std.specs.Option.{option_copied};
 ghost use Rattle.tc_item.specs.KeyHash.{hash};
 ghost use Rattle.tc_model.specs.Areas.{total, settle};
 ghost use Rattle.tc_stats.specs.UserCounters.{more};
 ghost use Rattle.tc_plain.specs.declared.shared.entry.Entry.{Entry};
 ghost use Rattle.tc_plain.specs.Entries.{weight, lives, with_item};
-ghost use Rattle.tc_plain.specs.EvictionState.{is_flush_due, advanced, held};
+ghost use Rattle.tc_plain.specs.EvictionState.{is_flush_due, advanced, held, no_entries};
 ghost use Rattle.tc_plain.specs.Placing.{frequency, used, without_key};
 ghost use Rattle.tc_plain.specs.Doing.{flushed, looked_up};
 ghost use Rattle.tc_plain.specs.AreaLists.{areas_of, change_of, live_of as lists_live};
@@ -16,19 +15,19 @@ ghost use Rattle.tc_plain.specs.UserCache.{UserCache};
 ghost use Rattle.tc_plain.specs.Plans.{outcome_of, planned, IsLightPlan};
 ghost use Rattle.tc_slots.specs.Held.{IsFound, FindsSlot};
 ghost use Rattle.tc_partition.specs.Deferred.{Miss, hit, do_note, peeked};
-ghost use Rattle.tc_partition.specs.WaitingSlots.{SeeksSlot, IsEntryAt, placed_in, IsPlaced};
+ghost use Rattle.tc_partition.specs.WaitingSlots.{SeeksSlot, IsEntryAt, IsPlaced};
 ghost use Rattle.tc_readbuf.specs.declared.look_up.LookUp.{LookUp};
-ghost use Rattle.tc_partition.specs.LiveSlots.{live_of, then_live, seen_of, plan_of};
+ghost use Rattle.tc_partition.specs.LiveSlots.{live_of, plan_of};
 ghost use Rattle.tc_partition.specs.Working.{is_new, IsAimed};
 
 use crate::hints::Hints;
 use crate::work::Work;
 use std::alloc::Global;
 use tc_item::{Due, Key, Moment, NoMemory, Slot, alive, have_read};
-use tc_plain::{Areas, Change, End, Entry, EvictionState, Limits, is_flush_due};
+use tc_plain::{End, Entry, EvictionState, Limits, is_flush_due};
 use tc_readbuf::LookUp;
-use tc_sketch::PastSketch;
-use tc_slots::{Aside, Slots, Tables, set_aside, shed, turn};
+use tc_sketch::SparingSketch;
+use tc_slots::Slots;
 use tc_slru::Area;
 use tc_stats::Counters;
 
@@ -40,14 +39,10 @@ pub(crate) const TOGETHER: usize = 64;
 pub struct LiveSlots {
     /// The entries held.
     pub held: Slots,
-    /// What the entries were then, where their tables were set aside.
-    pub aside: Aside,
-    /// Tables that are done with.
-    pub gone: Option<Tables>,
     /// Where keys were found last.
     pub hints: Hints,
     /// How often each key was seen of late.
-    pub sketch: PastSketch,
+    pub sketch: SparingSketch,
     /// The second at which all entries go, if that was asked for.
     pub flush: Option<u64>,
     /// The moment that the cache was last advanced to.
@@ -70,6 +65,15 @@ fn lives_on(slots: &Slots, key: &Key, slot: Slot, due: Option<Due>, moment: Mome
 }
 
 impl LiveSlots {
+    /// Takes all entries out, and forgets where they were.
+    fn clear(&mut self)
+        ensures live { live_of self.new ≡ record (live_of self.old) { areas = no_entries } }
+        ensures room { self.old.held.has_room ≡ true → self.new.held.has_room ≡ true }
+    {
+        self.held.clear();
+        self.hints = Hints::new(self.held.allocator());
+    }
+
     /// Brings it to the moment, if that is later than its own.
     pub(crate) fn advance(&mut self, now: Moment)
         ensures live { live_of self.new ≡ advanced (live_of self.old) now }
@@ -78,28 +82,14 @@ impl LiveSlots {
             → lives (max self.old.moment now) e ≡ true
             → slice_index_or self.new.held.slots n None ≡ Some e }
         ensures room { self.old.held.has_room ≡ true → self.new.held.has_room ≡ true }
-        ensures then { then_live self.new ≡ then_live self.old }
-        ensures spare { self.old.held.spare ≤ self.new.held.spare }
     {
         self.moment = self.moment.later(now);
         if is_flush_due(self.flush, self.moment) {
             self.flush = None;
-            self.held.clear();
+            self.clear();
         } else {
             self.held.expire(self.moment);
         }
-    }
-
-    /// The same, with room for so many dues to change behind that. A refusal changes nothing.
-    pub(crate) fn advance_for(&mut self, now: Moment, dues: usize) -> Result<(), NoMemory>
-        ensures live { OnOk result (live_of self.new ≡ advanced (live_of self.old) now) }
-        ensures spare { OnOk result (dues ≤ self.new.held.spare) }
-        ensures unchanged_on_err { OnErr result (live_of self.new ≡ live_of self.old) }
-        ensures then { then_live self.new ≡ then_live self.old }
-    {
-        self.held.make_log_room(dues)?;
-        self.advance(now);
-        Ok(())
     }
 
     /// Reads what look-ups of keys of these hashes are going to read and to change, and does nothing with it.
@@ -107,6 +97,7 @@ impl LiveSlots {
         let mut slots = [Slot(0); TOGETHER];
         for some in hashes.chunks(TOGETHER) {
             self.read_together(some, &mut slots);
+            self.read_changes(some, &slots);
         }
     }
 
@@ -123,19 +114,29 @@ impl LiveSlots {
         slots[place]
     }
 
-    /// Reads what look-ups of keys of these hashes are going to read and to change, as many as `slots` has places,
-    /// and puts down where their hints say that they are. To know where an entry lies is to have read its hint, and
-    /// where data lies its entry, so all hints are looked into first, then all entries are read with their nodes in
-    /// the lists, and then what these lead to.
+    /// Reads what look-ups of keys of these hashes are going to read, as many as `slots` has places, and puts down
+    /// where their hints say that they are. To know where an entry lies is to have read its hint, and where data lies
+    /// its entry, so all hints are looked into first, then all entries are read, and then their data.
     fn read_together(&self, hashes: &[u64], slots: &mut [Slot; TOGETHER]) {
         self.hints.find_all(hashes, slots);
         let mut sum: u64 = 0;
         for (slot, _) in slots.iter().zip(hashes) {
-            sum = sum.wrapping_add(self.held.read_node(*slot));
             sum = sum.wrapping_add(self.held.read_entry(*slot));
         }
-        for (slot, hash) in slots.iter().zip(hashes) {
+        for (slot, _) in slots.iter().zip(hashes) {
             sum = sum.wrapping_add(self.held.read_data(*slot));
+        }
+        have_read(sum);
+    }
+
+    /// Reads what hits in these slots of keys of these hashes are going to change: all nodes in the lists first, and
+    /// then what these lead to.
+    fn read_changes(&self, hashes: &[u64], slots: &[Slot; TOGETHER]) {
+        let mut sum: u64 = 0;
+        for (slot, _) in slots.iter().zip(hashes) {
+            sum = sum.wrapping_add(self.held.read_node(*slot));
+        }
+        for (slot, hash) in slots.iter().zip(hashes) {
             sum = sum.wrapping_add(self.read_changed(*slot, *hash));
         }
         have_read(sum);
@@ -207,8 +208,7 @@ impl LiveSlots {
 
     /// What is held at the place that was found for a key.
     pub(crate) fn held_at(&self, place: Option<Slot>) -> Option<&Entry>
-        ensures placed { option_copied result ≡ placed_in self.now.held.slots place }
-        ensures sought { (moment : ℕ) (key : List ℕ) → SeeksSlot place moment key self.now
+        ensures { (moment : ℕ) (key : List ℕ) → SeeksSlot place moment key self.now
             → MatchOption result (peeked moment key (live_of self.now) ≡ None)
             (λ e. peeked moment key (live_of self.now) ≡ Some e.now) }
     {
@@ -221,13 +221,11 @@ impl LiveSlots {
     /// One look-up of a key: whether it is held. What it holds has this due from now on, if one is
     /// given.
     pub(crate) fn look(&mut self, key: &Key, due: Option<Due>) -> bool
-        requires spare { 1 ≤ self.old.held.spare }
         requires sound { AreSound self.old.held.limits self.old.held.areas }
         requires weight { total weight self.old.held.areas < 2 ^ 32 }
         ensures live { live_of self.new ≡ (looked_up (change_of due) key.now
             (held key.now self.old.held.areas) (live_of self.old)).1 }
         ensures found { result ≡ is_some (held key.now self.old.held.areas) }
-        ensures then { then_live self.new ≡ then_live self.old }
     {
         let place = self.held.find(key);
         self.look_at(place, key, due)
@@ -236,15 +234,12 @@ impl LiveSlots {
     /// One look-up of a key that was found at this place or holds nothing: whether it is held. What
     /// it holds has this due from now on, if one is given.
     pub(crate) fn look_at(&mut self, place: Option<Slot>, key: &Key, due: Option<Due>) -> bool
-        requires spare { 1 ≤ self.old.held.spare }
         requires sound { AreSound self.old.held.limits self.old.held.areas }
         requires weight { total weight self.old.held.areas < 2 ^ 32 }
         requires missed { place ≡ None → held key.now self.old.held.areas ≡ None }
         ensures live { live_of self.new ≡ (looked_up (change_of due) key.now
             (held key.now self.old.held.areas) (live_of self.old)).1 }
         ensures found { result ≡ is_some (held key.now self.old.held.areas) }
-        ensures then { then_live self.new ≡ then_live self.old }
-        ensures spare { self.old.held.spare ≤ self.new.held.spare + 1 }
     {
         self.sketch.record(key.fnv_hash());
         let Some(slot) = self.held.find_again(place, key) else {
@@ -271,7 +266,6 @@ impl LiveSlots {
         ensures live { (e : Entry) → slice_index_or self.old.held.slots slot.0 None ≡ Some e
             → live_of self.new ≡ hit e.key (live_of self.old) }
         ensures slots { self.new.held.slots ≡ self.old.held.slots }
-        ensures then { then_live self.new ≡ then_live self.old }
     {
         self.held.owning();
         self.sketch.record(key_hash);
@@ -282,7 +276,6 @@ impl LiveSlots {
     pub(crate) fn miss(&mut self, hash: u64)
         ensures live { live_of self.new ≡ do_note (Miss hash) (live_of self.old) }
         ensures slots { self.new.held.slots ≡ self.old.held.slots }
-        ensures then { then_live self.new ≡ then_live self.old }
     {
         self.sketch.record(hash);
     }
@@ -290,14 +283,12 @@ impl LiveSlots {
     /// Puts an entry in the place of what its key holds, or into a vacant slot. Where it is not alive, its
     /// key holds nothing from now on.
     fn use_new(&mut self, place: Option<Slot>, key_hash: u64, entry: Entry)
-        requires spare { 2 ≤ self.old.held.spare }
         requires hashed { key_hash ≡ hash entry.key }
         requires place { FindsSlot place entry.key self.old.held }
         requires light { weight entry ≤ self.old.held.limits.main }
         requires weight { total weight self.old.held.areas + weight entry < 2 ^ 64 }
         requires room { place ≡ None → self.old.held.has_room ≡ true }
         ensures live { live_of self.new ≡ used entry (live_of self.old) }
-        ensures then { then_live self.new ≡ then_live self.old }
     {
         self.sketch.record(key_hash);
         let alive = alive(&entry.item, self.moment);
@@ -322,7 +313,6 @@ impl LiveSlots {
     /// Puts an entry in the place of what its key holds, or into a vacant slot, and brings each area within
     /// its limit; each entry that is dropped is counted.
     fn change(&mut self, place: Option<Slot>, key_hash: u64, entry: Entry, evictions: u64) -> u64
-        requires spare { 2 ≤ self.old.held.spare }
         requires hashed { key_hash ≡ hash entry.key }
         requires place { FindsSlot place entry.key self.old.held }
         requires light { weight entry ≤ self.old.held.limits.main }
@@ -336,7 +326,6 @@ impl LiveSlots {
         ensures counted { result ≡ more evictions (length (settle weight (frequency (used entry
             (live_of self.old))) self.old.held.limits (used entry
             (live_of self.old)).areas).dropped) }
-        ensures then { then_live self.new ≡ then_live self.old }
     {
         self.use_new(place, key_hash, entry);
         self.held.settle(&self.sketch, evictions)
@@ -347,24 +336,20 @@ impl LiveSlots {
         ensures live { live_of self.new ≡ live_of self.old }
         ensures slots { self.new.held.slots ≡ self.old.held.slots }
         ensures room { OnOk result (is_new work.now ≡ true → self.new.held.has_room ≡ true) }
-        ensures spare { OnOk result (2 ≤ self.new.held.spare) }
-        ensures then { then_live self.new ≡ then_live self.old }
     {
-        if !work.is_new() {
-            return self.held.make_log_room(2);
+        if work.is_new() {
+            self.held.make_room()?;
+            self.hints.fit(self.held.count());
         }
-        self.held.make_room()?;
-        self.hints.fit(self.held.count());
         Ok(())
     }
 
     /// Takes all entries out, at once or so many seconds from its moment.
     pub(crate) fn flush(&mut self, delay: u32)
         ensures state { live_of self.new ≡ flushed delay (live_of self.old) }
-        ensures then { then_live self.new ≡ then_live self.old }
     {
         if delay == 0 {
-            self.held.clear();
+            self.clear();
             self.flush = None;
         } else {
             self.flush = Some(self.moment.seconds() + u64::from(delay));
@@ -376,7 +361,6 @@ impl LiveSlots {
         ensures held { result ≡ is_some (held key.now self.old.held.areas) }
         ensures live { live_of self.new ≡ record (live_of self.old)
             { areas = without_key key.now self.old.held.areas } }
-        ensures then { then_live self.new ≡ then_live self.old }
     {
         self.held.remove(key)
     }
@@ -389,81 +373,34 @@ impl LiveSlots {
         Ok(EvictionState {
             limits,
             areas: self.held.copy(alloc)?,
-            sketch: self.sketch.copy(alloc)?,
+            sketch: self.sketch.copy()?,
             flush: self.flush,
             moment: self.moment,
         })
     }
 
-    /// The next page begins with what is held now. A refusal changes nothing.
-    pub(crate) fn prepare(&mut self, alloc: Global) -> Result<(), NoMemory>
-        ensures live { live_of self.new ≡ live_of self.old }
-        ensures slots { self.new.held.slots ≡ self.old.held.slots }
-        ensures page { (then_live self.new).page ≡ (then_live self.old).page }
-        ensures next { OnOk result ((then_live self.new).next ≡ seen_of (live_of self.old)) }
-        ensures unchanged_on_err { OnErr result (then_live self.new ≡ then_live self.old) }
-    {
-        self.held.prepare(alloc)?;
-        self.aside.prepare();
-        self.sketch.prepare();
-        Ok(())
-    }
-
-    /// Begins the page at what was prepared, and gives what slots held before its changes.
-    pub(crate) fn turn(&mut self) -> Option<Vec<Change>>
-        ensures live { live_of self.new ≡ live_of self.old }
-        ensures slots { self.new.held.slots ≡ self.old.held.slots }
-        ensures page { (then_live self.new).page ≡ (then_live self.old).next }
-        ensures next { (then_live self.new).next ≡ (then_live self.old).next }
-    {
-        self.sketch.turn();
-        shed(&mut self.gone);
-        turn(&mut self.held, &mut self.aside, &mut self.gone)
-    }
-
-    /// Gives memory back that is done with: of one table, and of at most so many entries that were taken out.
+    /// Gives memory back that is done with, at most so many pieces.
     pub(crate) fn let_go(&mut self, most: usize)
-        ensures { self.new ≡ record self.old { gone = self.new.gone } }
+        ensures { self.new ≡ self.old }
     {
-        shed(&mut self.gone);
         self.held.let_go(most);
     }
 
-    /// Gives the memory of one table back that is done with.
-    pub(crate) fn shed(&mut self)
-        ensures { self.new ≡ record self.old { gone = self.new.gone } }
-    {
-        shed(&mut self.gone);
-    }
-
-    /// Has smaller tables in use in the place of large ones. The limits are those that it has.
-    pub(crate) fn renew(&mut self, alloc: Global, limits: Limits)
-        requires same { limits ≡ self.old.held.limits }
-        requires small { limits.main < 2 ^ 32 }
+    /// Has smaller tables in use in the place of large ones.
+    pub(crate) fn renew(&mut self)
         requires sound { AreSound self.old.held.limits self.old.held.areas }
         requires sum { total weight self.old.held.areas < 2 ^ 64 }
         ensures live { live_of self.new ≡ live_of self.old }
-        ensures then { then_live self.new ≡ then_live self.old }
     {
-        let (held, aside, gone) = (&mut self.held, &mut self.aside, &mut self.gone);
-        if set_aside(alloc, held, aside, gone, limits) {
-            self.hints = Hints::new(alloc);
+        if self.held.renew().is_ok() {
+            self.hints = Hints::new(self.held.allocator());
             self.hints.fit(self.held.count());
         }
-    }
-
-    /// The entries when the page began, in their lists, over the same data. Where the journal is off it is
-    /// refused.
-    pub(crate) fn opened(&self, alloc: Global) -> Result<Areas, NoMemory>
-        ensures { IfOk result (λ areas. areas_of areas ≡ (then_live self.now).page.areas) }
-    {
-        self.aside.opened(alloc, &self.held)
     }
 
     /// Carries work out, for which there is room: a draft gets the next cas number after `last`, and each
     /// entry that is dropped for it is counted.
     pub(crate) fn carry_out(&mut self, work: Work, last: &mut u64, counters: &mut Counters) -> End
-        requires spare { 2 ≤ self.old.held.spare }
         requires weight { total weight self.old.held.areas < 2 ^ 63 }
         requires light { IsLightPlan self.old.held.limits (plan_of work) }
         requires main { self.old.held.limits.main < 2 ^ 63 }
@@ -475,7 +412,6 @@ impl LiveSlots {
             → k.counters ≡ counters.old
             → (planned k (plan_of work)).1
             ≡ record k { live = live_of self.new; last = last.new; counters = counters.new } }
-        ensures then { then_live self.new ≡ then_live self.old }
     {
         let (end, place, hash, key, draft) = match work {
             Work::Ends(end) => return end,

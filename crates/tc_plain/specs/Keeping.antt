@@ -3,8 +3,8 @@ use Rattle.std.specs.Prelude.{◌≡◌, Option, Some, None}
 use Rattle.tc_stats.specs.declared.outcome.Outcome.{Outcome}
 use Rattle.tc_plain.specs.declared.shared.acted.Acted.{Acted}
 use Rattle.tc_plain.specs.UserCache.{UserCache}
-use Rattle.tc_past.specs.declared.journal.Journal.{Journal}
-use Rattle.tc_past.specs.declared.journal.Journal.TheVariants.{On, Off}
+use Rattle.tc_plain.specs.declared.shared.journal.Journal.{Journal}
+use Rattle.tc_plain.specs.declared.shared.journal.Journal.TheVariants.{On, Off}
 
 -- the same once more where the journal is on, and nothing where it is off
 abbrev pub kept_by : {A : Type 0} → Journal → A → Option A

@@ -9,6 +9,5 @@ pub(crate) mod finding;
 pub(crate) mod limits;
 pub(crate) mod lists;
 pub(crate) mod look_ups;
-pub(crate) mod paged_plain;
 pub(crate) mod plain;
 pub(crate) mod settling;

@@ -1,10 +1,9 @@
 -- What a write to one node does to the lists of links.
-use Rattle.std.specs.Prelude.{if◌then◌else◌, map, slice_set, slice_index, slice_index_or, replicate}
-use Rattle.std.proofs.Common.{◌≡◌, Bool, true, false, ℕ, zero, suc, ◌-◌, ◌<◌, List, ◌∷◌, ◌++◌, length, refl, sym, ◌∙◌, ap, arith}
+use Rattle.std.specs.Prelude.{map, slice_set, slice_index, slice_index_or, replicate}
+use Rattle.std.proofs.Common.{◌≡◌, ℕ, zero, suc, ◌-◌, ◌<◌, List, ◌∷◌, ◌++◌, length, refl, sym, ◌∙◌, ap, arith}
 use Rattle.std.proofs.Math.Seq.{map-set_same}
 use Rattle.std.proofs.lemmas.List.{get_or-map, length-map, map-append, map-set}
-use Rattle.tc_past.specs.Told as past
-use Rattle.tc_past.specs.Told.{Told, told_by, lengthened}
+use Rattle.tc_ring.specs.Lengthening.{lengthened}
 use Rattle.tc_ring.specs.Links.{Links, grown, linked_behind, noted, unlinked}
 use Rattle.tc_ring.specs.Nodes.{links}
 use Rattle.tc_ring.specs.declared.ring.Node.{Node}
@@ -21,10 +20,6 @@ map-replicate f (suc n) x = ap (λ t. f x ∷ t) (map-replicate f n x)
 pub grown_field : {A B : Type 0} (f : A → B) (xs : List A) (k : ℕ) (x : A)
     → map f (xs ++ replicate k x) ≡ map f xs ++ replicate k (f x)
 grown_field f xs k x = map-append f xs (replicate k x) ∙ ap (λ t. map f xs ++ t) (map-replicate f k x)
-
-pub same_told : {A : Type 0} (a b c d e f : A) → a ≡ b → c ≡ d → e ≡ f
-    → (let t : Told A = record { live = a; next = c; opened = e } in t) ≡ record { live = b; next = d; opened = f }
-same_told a b c d e f p q r = cc
 
 module _ {N : Type 0} where
   same_links : (a b c d : List ℕ) (e f : List N) → a ≡ b → c ≡ d → e ≡ f
@@ -87,19 +82,6 @@ module _ {N : Type 0} where
       ap (λ j. links (ns ++ replicate j x)) more
       ∙ same_links _ _ _ _ _ _ (grown_field (λ n. n.next) ns k x) (grown_field (λ n. n.prev) ns k x)
       (grown_field (λ n. n.note) ns k x)
-
-  -- now and in the past
-  pub told-grown : (n : ℕ) (free : N) (t : Told (List (Node N)))
-      → told_by links (past.grown n (record { next = 0; prev = 0; note = free }) t)
-      ≡ told_by (grown n free) (told_by links t)
-  told-grown n free t =
-      same_told _ _ _ _ _ _ (links-lengthened n free t.live) (links-lengthened n free t.next) (links-lengthened n free t.opened)
-
-  pub told_grown_if : (b : Bool) (n : ℕ) (free : N) (t : Told (List (Node N)))
-      → told_by links (if b then past.grown n (record { next = 0; prev = 0; note = free }) t else t)
-      ≡ (if b then told_by (grown n free) (told_by links t) else told_by links t)
-  told_grown_if true n free t = told-grown n free t
-  told_grown_if false n free t = refl
 
 -- a field of what is read at a place
 pub field_read : {A B : Type 0} (f : A → B) (xs : List A) (at : ℕ) (x : A) (d : B) → at < length xs

@@ -13,7 +13,7 @@ use std::alloc::Global;
 use std::hash::RandomState;
 use tc_core::{Happening, Outputs, Server, Step};
 use tc_item::NoMemory;
-use tc_kinds::{Journal, Kind, begin_all};
+use tc_kinds::{Kind, begin_all};
 use tc_plain::{Cache, advancing, freshness};
 
 /// A byte so many times over.
@@ -92,7 +92,7 @@ fn play_all<C: Kind>(
     ensures { IfOk result (λ outputs. outputs ≡ outputs_for script) }
 {
     let (users, actions) = script.into_parts();
-    let caches = begin_all::<C>(alloc, &users, hasher, Journal::Off)?;
+    let caches = begin_all::<C>(alloc, &users, hasher)?;
     let mut server = Server::new(alloc, users, caches);
     perform_all(&mut server, alloc, &actions)?;
     server.outputs(alloc)

@@ -4,7 +4,7 @@ use Rattle.std.proofs.Common.{get_or-set_same, get_or-set_other}
 use Rattle.std.proofs.lemmas.Bool.{cases_eq, cases_lt}
 use Rattle.std.proofs.lemmas.List.{get_or_past, length-set}
 use Rattle.tc_sketch.specs.Sketch.{Sketch, place0, place1, place2, place3, raised, aged, recorded, freq}
-use Rattle.tc_sketch.specs.PastSketches.{AreSaturated, counted_in, one_more}
+use Rattle.tc_sketch.specs.Steps.{AreSaturated, counted_in, one_more}
 use Rattle.tc_sketch.proofs.Packed.{raised-below, raised-full}
 
 -- each counter of a hash holds the most

@@ -1,17 +1,17 @@
 -- What clearing makes of index, entries, lists and wheel as they are kept.
 use Rattle.std.specs.Prelude.{is_some, count_by, slice_index_or, replicate}
-use Rattle.std.proofs.Common.{◌≡◌, ℕ, zero, suc, true, false, List}
-use Rattle.std.proofs.Common.{[], length, Option, None, refl, sym, ◌∙◌, ap, subst, arith}
+use Rattle.std.proofs.Common.{◌≡◌, ℕ, zero, suc, true, false}
+use Rattle.std.proofs.Common.{[], length, None, refl, sym, ◌∙◌, ap, subst, arith}
 use Rattle.std.proofs.lemmas.List.{length-replicate}
 use Rattle.slab.specs.Slab.{Slab, get as slab_get, slab_len}
 use Rattle.tc_plain.specs.declared.shared.entry.Entry.{Entry}
 use Rattle.tc_plain.specs.EvictionState.{no_entries}
 use Rattle.tc_slru.specs.SlotLists.{SlotLists, cleared}
 use Rattle.tc_wheel.specs.Dues.{Dues, due_at, cleared as untimed}
-use Rattle.tc_slots.specs.Agreement.{slot_of, tag_by, Agree}
+use Rattle.tc_slots.specs.Agreement.{slot_of, Agree}
 use Rattle.tc_plain.specs.BySlot.{areas_by}
-use Rattle.tc_slots.specs.Held.{room_in, AreWithin, AreTagged}
-use Rattle.tc_index.specs.Tags.{tag_in}
+use Rattle.tc_slots.specs.Held.{room_in, often_by, AreWithin, AreTagged}
+use Rattle.tc_index.specs.Tags.{Tagged, stands}
 use Rattle.std.specs.declared.hash.RandomState.{RandomState}
 use Rattle.tc_slots.proofs.Kept.{fresh_filled}
 use Rattle.tc_slots.proofs.Moves.{room_parts, room_whole}
@@ -22,12 +22,12 @@ due_at-none (suc n) zero = refl
 due_at-none (suc n) (suc i) = due_at-none n i
 
 -- no slot stands where none holds anything
-pub tags_cleared : (hasher : RandomState) (n : ℕ) (j : List (Option ℕ)) (t : Slab Entry) → j ≡ replicate n None → t.slots ≡ []
+pub tags_cleared : (hasher : RandomState) (j : Tagged) (t : Slab Entry) → ((tag n : ℕ) → stands j tag n ≡ 0) → t.slots ≡ []
     → AreTagged hasher j (slab_get t)
-tags_cleared hasher n j t e slots =
-    λ k. ap (λ ts. tag_in ts k) e ∙ due_at-none n k ∙ sym (ap (λ ss. tag_by hasher (slice_index_or ss k None)) slots)
+tags_cleared hasher j t none slots =
+    λ tag n. none tag n ∙ sym (ap (λ ss. often_by hasher tag (slice_index_or ss n None)) slots)
 
-module _ (j : List (Option ℕ)) (t : Slab Entry) (l m : SlotLists) (w x : Dues) (slots : t.slots ≡ [])
+module _ (j : Tagged) (t : Slab Entry) (l m : SlotLists) (w x : Dues) (slots : t.slots ≡ [])
     (em : m ≡ cleared l) (ex : x ≡ untimed w) where
   pub slots_cleared : Agree (slot_of t.slots) (slab_get t) (due_at x.dues) m.areas
   slots_cleared =
@@ -44,15 +44,16 @@ module _ (j : List (Option ℕ)) (t : Slab Entry) (l m : SlotLists) (w x : Dues)
       cc (none, held))
 
   -- the room stays
-  pub room_cleared : (i : List (Option ℕ)) (s : Slab Entry) → length j ≡ length i
+  pub room_cleared : (i : Tagged) (s : Slab Entry) → (i.has_room ≡ true → j.has_room ≡ true) → j.slots ≡ i.slots
       → t.capacity ≡ s.capacity → room_in i s l w ≡ true → room_in j t m x ≡ true
-  room_cleared i s more capacity h =
+  room_cleared i s room numbers capacity h =
       let r = room_parts i s l w h in
       let long : length x.dues ≡ length w.dues = ap (λ (z : Dues). length z.dues) ex ∙ length-replicate (length w.dues) None in
       let none : slab_len t ≡ 0 = ap (λ ss. count_by is_some ss) slots in
       let places : m.slots ≡ l.slots = ap (λ (z : SlotLists). z.slots) em in
       room_whole j t m x (record {
-        index = omega (arith, r.index, more, capacity);
+        index = room r.index;
+        numbers = omega (arith, r.numbers, numbers, capacity);
         entries = omega (arith, r.entries, none, capacity);
         lists = omega (arith, r.lists, places, capacity);
         wheel = omega (arith, r.wheel, long, capacity);

@@ -1,6 +1,7 @@
 -- What a step of settle makes of index, entries, lists and wheel as they are kept.
 use Rattle.std.specs.Prelude.{is_some, IsSome}
-use Rattle.std.proofs.Common.{◌≡◌, ℕ, length, ◌^◌, ◌<◌, true, false, List, [], ◌∷◌, Option, Some, None, sym, ◌∙◌, ap, arith, ◌≤◌}
+use Rattle.std.proofs.Common.{◌≡◌, ℕ, length, ◌^◌, ◌<◌, true, false, [], ◌∷◌, Some, None, sym, ◌∙◌, ap, arith}
+use Rattle.tc_index.specs.Tags.{Tagged}
 use Rattle.slab.specs.Slab.{Slab, get as slab_get}
 use Rattle.tc_item.specs.declared.slot.Slot.{Slot}
 use Rattle.tc_model.specs.Areas.{Settled, settle, and_then}
@@ -20,7 +21,7 @@ use Rattle.tc_slots.proofs.Filling.{gone_from}
 use Rattle.tc_slots.proofs.Settled.{dropped_less, dropped_held, kept_same, reordered, settle_drops, settle_ends}
 use Rattle.tc_slots.proofs.Moves.{fun_same, slots_less}
 
-module _ (i : List (Option ℕ)) (s : Slab Entry) (l : SlotLists) (w : Dues)
+module _ (i : Tagged) (s : Slab Entry) (l : SlotLists) (w : Dues)
     (h : Agree (slot_of s.slots) (slab_get s) (due_at w.dues) l.areas) (sketch : Sketch) (m : SlotLists)
     (kept : m ≡ record l { areas = m.areas }) where
   limits_kept : m.limits ≡ l.limits
@@ -42,7 +43,7 @@ module _ (i : List (Option ℕ)) (s : Slab Entry) (l : SlotLists) (w : Dues)
     pub drop_held : IsSome (slab_get s v.0)
     drop_held = ap is_some drop_one.1
 
-    module _ (j : List (Option ℕ)) (t : Slab Entry) (x : Dues) (gone : IsVacated drop_one.0 v.0 i j s t)
+    module _ (j : Tagged) (t : Slab Entry) (x : Dues) (gone : IsVacated drop_one.0 v.0 i j s t)
         (ex : x ≡ untimed_at v.0 w) where
       pub drop_filled : Agree (slot_of t.slots) (slab_get t) (due_at x.dues) m.areas
       drop_filled = slots_less i s l w h drop_one.0 v j t drop_one.1 gone m.areas x drop_less ex
@@ -79,8 +80,6 @@ pub record IsSettling (s : Sketch) (first now : Held) (m n : ℕ) : Type 0 where
   pub counted : more n (length (settle weight (frequency_in s) now.limits now.areas).dropped)
       ≡ more m (length (settle weight (frequency_in s) first.limits first.areas).dropped)
   pub room : first.has_room ≡ true → now.has_room ≡ true
-  pub then : now.then ≡ first.then
-  pub spare : first.spare ≤ now.spare
   pub small : n < 2 ^ 64
 
 pub settling_ends : (s : Sketch) (first now next : Held) (m n : ℕ) → IsSettling s first now m n → DropsEntry false s now next

@@ -3,6 +3,7 @@ use Rattle.std.specs.Prelude.{◌==◌, slice_index_or}
 use Rattle.std.proofs.Common.{◌≡◌, ℕ, ◌+◌, ◌<◌, ◌≤◌, Bool, true, false, cond, List, [], Option, Some, None, refl, sym, ◌∙◌, ap}
 use Rattle.std.proofs.Common.{arith}
 use Rattle.std.proofs.lemmas.Bool.{eqb-true}
+use Rattle.tc_index.specs.Tags.{Tagged}
 use Rattle.slab.specs.Slab.{Slab, get as slab_get}
 use Rattle.tc_item.specs.Bounds.{moment_limit}
 use Rattle.tc_item.specs.declared.slot.Slot.{Slot}
@@ -33,7 +34,7 @@ due_again w x y v o ex ey k =
     go true = refl
     go false = refl
 
-module _ (i : List (Option ℕ)) (s : Slab Entry) (l : SlotLists) (w : Dues)
+module _ (i : Tagged) (s : Slab Entry) (l : SlotLists) (w : Dues)
     (h : Agree (slot_of s.slots) (slab_get s) (due_at w.dues) l.areas) where
   -- what else weighs something
   pub others_weigh : (e : Entry) (v : Slot) → slab_get s v.0 ≡ Some e
@@ -80,7 +81,7 @@ module _ (i : List (Option ℕ)) (s : Slab Entry) (l : SlotLists) (w : Dues)
         → filtered (lives moment) (areas_by (slab_get s) l.areas) ≡ areas_by (slab_get s) l.areas
     none_due none = kept_all (slot_of s.slots) (slab_get s) (due_at w.dues) l.areas h moment early none
 
-    module _ (e : Entry) (v : Slot) (at : slab_get s v.0 ≡ Some e) (dead : lives moment e ≡ false) (j : List (Option ℕ))
+    module _ (e : Entry) (v : Slot) (at : slab_get s v.0 ≡ Some e) (dead : lives moment e ≡ false) (j : Tagged)
         (t : Slab Entry) (gone : IsVacated e v.0 i j s t) (m : SlotLists) (em : m ≡ removed v.0 l) where
       pub slots_expired : (x : Dues) → x ≡ untimed_at v.0 (advanced moment w)
           → Agree (slot_of t.slots) (slab_get t) (due_at x.dues) m.areas
@@ -120,8 +121,6 @@ pub record IsExpiring (moment : ℕ) (first now : Held) : Type 0 where
   pub slots : (n : ℕ) (e : Entry) → slice_index_or first.slots n None ≡ Some e → lives moment e ≡ true
       → slice_index_or now.slots n None ≡ Some e
   pub room : first.has_room ≡ true → now.has_room ≡ true
-  pub then : now.then ≡ first.then
-  pub spare : first.spare ≤ now.spare
 
 -- a write of what is there already
 pub put_same : (S : ℕ → Option Entry) (v : ℕ) (e : Entry) → S v ≡ Some e → (k : ℕ) → S k ≡ set_at v (Some e) S k

@@ -8,11 +8,8 @@ pub mod Settled
 pub mod Drops
 pub mod Replaced
 pub mod Expired
-pub mod Past
-pub mod FirstChange
 pub mod Kept
 pub mod Cleared
 pub mod Tally
-pub mod Undoing
 pub mod Tagged
 pub mod Sent

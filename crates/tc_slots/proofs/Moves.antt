@@ -1,7 +1,7 @@
 -- What filling and emptying make of index, entries, lists and wheel as they are kept.
 use Rattle.std.specs.Prelude.{◌==◌, map, sum_by, is_some, IsSome, slice_index_or, slice_set}
 use Rattle.std.proofs.Common.{◌≡◌, ℕ, zero, suc, ◌+◌, ◌<◌, Bool, true, false, cond, List, [], ◌∷◌, length, Option, Some}
-use Rattle.std.proofs.Common.{None, refl, sym, ◌∙◌, ap, subst, arith}
+use Rattle.std.proofs.Common.{None, refl, sym, ◌∙◌, ap, subst, arith, eq-eqb}
 use Rattle.std.proofs.lemmas.Bool.{eqb-true, eqb-false}
 use Rattle.std.proofs.lemmas.Bool.Decides.{nat_tests}
 use Rattle.std.proofs.lemmas.List.{get_or-set_same, get_or-set_other}
@@ -14,21 +14,19 @@ use Rattle.tc_plain.specs.declared.shared.entry.Entry.{Entry}
 use Rattle.tc_plain.specs.Entries.{weight}
 use Rattle.tc_plain.specs.EvictionState.{held}
 use Rattle.tc_plain.specs.Placing.{without_key}
-use Rattle.tc_plain.specs.Then.{Then}
 use Rattle.tc_slru.specs.Slots.{Placed, weigh, holds, without_slot}
 use Rattle.tc_slru.specs.SlotLists.{SlotLists, pushed, removed}
 use Rattle.tc_slru.specs.InAreas.{fronted_in}
 use Rattle.tc_slru.specs.declared.area.Area.{Area}
 use Rattle.tc_wheel.specs.Dues.{Dues, due_at, removed as untimed_at}
 use Rattle.tc_slots.specs.Agreement.{set_at, key_of, is_of, due_by, slot_of, tag_of, Agree}
-use Rattle.tc_index.specs.Tags.{tag_in, FindsRight}
+use Rattle.tc_index.specs.Tags.{Tagged, is_first, stands, FindsRight}
 use Rattle.std.specs.Prelude.{option_map}
 use Rattle.std.specs.declared.hash.RandomState.{RandomState}
 use Rattle.tc_slots.proofs.Tagged.{agree_slots, of_key, key_is_of}
 use Rattle.tc_plain.specs.BySlot.{stray, stray_by, entry_at, entry_or, areas_by}
 use Rattle.tc_slots.specs.Held.{Held, room_in, HasRoom, IsVacated, IsTaken}
-use Rattle.tc_slots.specs.Held.{IsFound, FindsSlot, AreWithin, AreTagged, spare_in}
-use Rattle.tc_slots.specs.Undoing.{ChangeLog}
+use Rattle.tc_slots.specs.Held.{IsFound, FindsSlot, AreWithin, AreTagged}
 use Rattle.tc_slots.proofs.Away.{not_held}
 use Rattle.tc_slots.proofs.OneSlot.{IsLess, without_slot_less, is_held}
 use Rattle.tc_slots.proofs.Filling.{some_same, agree_filled, filled_areas, none_at, agree_emptied, emptied_areas}
@@ -103,20 +101,21 @@ total_weighs S a k =
 
 -- what room is
 
-pub room_parts : (i : List (Option ℕ)) (s : Slab Entry) (l : SlotLists) (w : Dues)
+pub room_parts : (i : Tagged) (s : Slab Entry) (l : SlotLists) (w : Dues)
     → room_in i s l w ≡ true → HasRoom i s l w
 room_parts i s l w h = record {
   index = grind (arith, nat_tests);
+  numbers = grind (arith, nat_tests);
   entries = grind (arith, nat_tests);
   lists = grind (arith, nat_tests);
   wheel = grind (arith, nat_tests);
 }
 
-pub room_whole : (i : List (Option ℕ)) (s : Slab Entry) (l : SlotLists) (w : Dues) → HasRoom i s l w
+pub room_whole : (i : Tagged) (s : Slab Entry) (l : SlotLists) (w : Dues) → HasRoom i s l w
     → room_in i s l w ≡ true
-room_whole i s l w h = grind (arith, nat_tests, h.index, h.entries, h.lists, h.wheel)
+room_whole i s l w h = grind (arith, nat_tests, h.index, h.numbers, h.entries, h.lists, h.wheel)
 
-module _ (i : List (Option ℕ)) (s : Slab Entry) (l : SlotLists) (w : Dues)
+module _ (i : Tagged) (s : Slab Entry) (l : SlotLists) (w : Dues)
     (h : Agree (slot_of s.slots) (slab_get s) (due_at w.dues) l.areas) where
   -- a key that holds nothing is not in the index
   pub index_free : (key : List ℕ) → held key (areas_by (slab_get s) l.areas) ≡ None → slot_of s.slots key ≡ None
@@ -135,7 +134,7 @@ module _ (i : List (Option ℕ)) (s : Slab Entry) (l : SlotLists) (w : Dues)
       go None e = e
       go (Some v) e = at v (slab_get s v.0) refl (h.indexed key v e)
 
-  module _ (e : Entry) (v : Slot) (j : List (Option ℕ)) (t : Slab Entry) where
+  module _ (e : Entry) (v : Slot) (j : Tagged) (t : Slab Entry) where
     module _ {hasher : RandomState} (taken : IsTaken hasher e v.0 i j s t)
         (free : held e.key (areas_by (slab_get s) l.areas) ≡ None) where
       pub fill_free : holds v.0 l.areas ≡ false
@@ -190,7 +189,7 @@ entry_of None h = absurd (cc (h))
 entry_of (Some e) h = (e, refl)
 
 -- room stays where an entry leaves
-pub room_vacated : (e : Entry) (v : ℕ) (i j : List (Option ℕ)) (s t : Slab Entry) (l m : SlotLists)
+pub room_vacated : (e : Entry) (v : ℕ) (i j : Tagged) (s t : Slab Entry) (l m : SlotLists)
     (w x : Dues)
     → IsVacated e v i j s t → m.slots ≡ l.slots → x ≡ untimed_at v w
     → room_in i s l w ≡ true → room_in j t m x ≡ true
@@ -198,21 +197,20 @@ room_vacated e v i j s t l m w x gone em ex h =
     let r = room_parts i s l w h in
     let long : length x.dues ≡ length w.dues = ap (λ (z : Dues). length z.dues) ex ∙ length-set w.dues v None in
     room_whole j t m x (record {
-      index = omega (arith, r.index, ap (λ (ts : List (Option ℕ)). length ts) gone.index, length-set i v None, gone.capacity);
+      index = gone.room r.index;
+      numbers = omega (arith, r.numbers, gone.numbers, gone.capacity);
       entries = omega (arith, r.entries, gone.fewer, gone.capacity);
       lists = omega (arith, r.lists, em, gone.capacity);
       wheel = omega (arith, r.wheel, long, gone.capacity);
     })
 
-module _ (i : List (Option ℕ)) (s : Slab Entry) (l : SlotLists) (w : Dues) (past : Then (Areas Entry))
-    (log : ChangeLog) (h : Agree (slot_of s.slots) (slab_get s) (due_at w.dues) l.areas) where
+module _ (i : Tagged) (s : Slab Entry) (l : SlotLists) (w : Dues)
+    (h : Agree (slot_of s.slots) (slab_get s) (due_at w.dues) l.areas) where
   abbrev shown : Held
   shown = record {
     limits = l.limits;
     areas = areas_by (slab_get s) l.areas;
     slots = s.slots;
-    then = past;
-    spare = spare_in log s;
     has_room = room_in i s l w;
   }
 
@@ -245,8 +243,14 @@ module _ (i : List (Option ℕ)) (s : Slab Entry) (l : SlotLists) (w : Dues) (pa
       go None e = e
       go (Some v) e =
           let here : key_of (slab_get s v.0) ≡ Some key = h.indexed key v e in
-          let stands : tag_in i v.0 ≡ Some tag = tagged v.0 ∙ ap (option_map (tag_of hasher)) here ∙ ap Some (sym own) in
-          absurd (cc (f v.0 stands, key_is_of (slab_get s v.0) key here))
+          let once : 0 < stands i tag v.0 =
+          omega (
+            arith,
+            tagged tag v.0,
+            ap (λ o. cond {A = ℕ} (is_first (option_map (tag_of hasher) o) tag) 1 0) here,
+            ap (λ b. cond {A = ℕ} b 1 0) (eq-eqb (tag_of hasher key) tag (sym own)),
+          ) in
+          absurd (cc (f v.0 once, key_is_of (slab_get s v.0) key here))
 
 -- the slots that hold entries stay below a number
 

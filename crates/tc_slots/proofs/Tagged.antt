@@ -1,20 +1,19 @@
 -- Where keys are, by what slots hold, and the tags under which slots stand.
-use Rattle.std.specs.Prelude.{◌==◌, option_map, slice_index_or, slice_set}
+use Rattle.std.specs.Prelude.{◌==◌, option_map, slice_index_or}
 use Rattle.std.specs.List.{position_from}
 use Rattle.std.specs.declared.hash.RandomState.{RandomState}
 use Rattle.std.proofs.Common.{◌≡◌, ℕ, zero, suc, ◌+◌, ◌<◌, Bool, true, false, cond, List}
-use Rattle.std.proofs.Common.{[], ◌∷◌, length, Option, Some, None, refl, sym, ◌∙◌, ap, subst, arith}
+use Rattle.std.proofs.Common.{[], ◌∷◌, Option, Some, None, refl, sym, ◌∙◌, ap, subst, arith, eq-eqb, ◌&&◌}
 use Rattle.std.proofs.lemmas.Bool.{eqb-true, eqb-false}
-use Rattle.std.proofs.lemmas.List.{get_or-set_same, get_or-set_other}
 use Rattle.std.proofs.lemmas.Slice.Eq.{bytes_eq-Decides}
 use Rattle.slab.specs.Slab.{Slab, get as slab_get}
 use Rattle.tc_item.specs.declared.slot.Slot.{Slot}
-use Rattle.tc_index.specs.Tags.{tag_in}
+use Rattle.tc_index.specs.Tags.{Tagged, stands, one_at, is_first}
 use Rattle.tc_model.specs.Areas.{Areas}
 use Rattle.tc_plain.specs.declared.shared.entry.Entry.{Entry}
 use Rattle.tc_slru.specs.Slots.{Placed}
 use Rattle.tc_slots.specs.Agreement.{set_at, key_of, is_of, slot_of, tag_of, tag_by, Agree}
-use Rattle.tc_slots.specs.Held.{AreTagged}
+use Rattle.tc_slots.specs.Held.{AreTagged, Leaves, often_by}
 
 some_same : {A : Type 0} (x y : A) → Some x ≡ Some y → x ≡ y
 some_same x y e = cc
@@ -79,32 +78,71 @@ module _ {I : List ℕ → Option Slot} {D : ℕ → Option ℕ} {a : Areas Plac
   pub agree_slots : Agree (slot_of s.slots) (slab_get s) D a
   agree_slots = subst (λ z. Agree z (slab_get s) D a) (λ i key. where_is key i) h
 
-module _ (hasher : RandomState) (index : List (Option ℕ)) (S T : ℕ → Option Entry) (v : ℕ) (h : AreTagged hasher index S) where
+-- once under its own tag
+one_here : (tag v t s : ℕ) (b : Bool) → (s == v) ≡ b → one_at tag v t s ≡ cond b (cond (tag == t) 1 0) 0
+one_here tag v t s b e = go (tag == t) refl b e
+  where
+    go : (c : Bool) → (tag == t) ≡ c → (b : Bool) → (s == v) ≡ b → cond {A = ℕ} (c && (v == s)) 1 0 ≡ cond b (cond c 1 0) 0
+    go false e true f = refl
+    go false e false f = refl
+    go true e true f = ap (λ d. cond {A = ℕ} d 1 0) (eq-eqb v s (sym (eqb-true s v f)))
+    go true e false f = apart (v == s) refl
+      where
+        apart : (d : Bool) → (v == s) ≡ d → cond {A = ℕ} d 1 0 ≡ 0
+        apart true g = absurd (eqb-false s v f (sym (eqb-true v s g)))
+        apart false g = refl
+
+module _ (hasher : RandomState) (i : Tagged) (S T : ℕ → Option Entry) (v : ℕ) (h : AreTagged hasher i S) where
+  -- what a slot holds stands there
+  pub stands_held : (e : Entry) → S v ≡ Some e → 0 < stands i (tag_of hasher e.key) v
+  stands_held e at =
+      omega (
+        arith,
+        h (tag_of hasher e.key) v,
+        ap (often_by hasher (tag_of hasher e.key)) at,
+        ap (λ b. cond {A = ℕ} b 1 0) (eq-eqb (tag_of hasher e.key) (tag_of hasher e.key) refl),
+      )
+
   -- an entry came
-  pub tagged_taken : (e : Entry) → v < length index → ((k : ℕ) → T k ≡ set_at v (Some e) S k)
-      → AreTagged hasher (slice_set index v (Some (tag_of hasher e.key))) T
-  tagged_taken e lt f = λ n. go n (n == v) refl ∙ ap (tag_by hasher) (sym (f n))
+  pub tagged_taken : (j : Tagged) (e : Entry) → S v ≡ None
+      → ((tag n : ℕ) → stands j tag n ≡ stands i tag n + one_at (tag_of hasher e.key) v tag n)
+      → ((k : ℕ) → T k ≡ set_at v (Some e) S k) → AreTagged hasher j T
+  tagged_taken j e vacant came f = λ tag n. go tag n (n == v) refl ∙ ap (often_by hasher tag) (sym (f n))
     where
-      go : (n : ℕ) → (b : Bool) → (n == v) ≡ b
-          → tag_in (slice_set index v (Some (tag_of hasher e.key))) n ≡ tag_by hasher (cond b (Some e) (S n))
-      go n true t =
-          ap (tag_in (slice_set index v (Some (tag_of hasher e.key)))) (eqb-true n v t)
-          ∙ get_or-set_same index v (Some (tag_of hasher e.key)) None lt
-      go n false t = get_or-set_other index v n (Some (tag_of hasher e.key)) None (eqb-false n v t) ∙ h n
+      go : (tag n : ℕ) (b : Bool) → (n == v) ≡ b → stands j tag n ≡ often_by hasher tag (cond b (Some e) (S n))
+      go tag n true t =
+          omega (
+            arith,
+            came tag n,
+            h tag n,
+            one_here (tag_of hasher e.key) v tag n true t,
+            ap (λ k. often_by hasher tag (S k)) (eqb-true n v t),
+            ap (often_by hasher tag) vacant,
+          )
+      go tag n false t = omega (arith, came tag n, h tag n, one_here (tag_of hasher e.key) v tag n false t)
 
   -- an entry left
-  pub tagged_vacated : ((k : ℕ) → tag_in (slice_set index v None) k ≡ cond (k == v) None (tag_in index k))
-      → ((k : ℕ) → T k ≡ set_at v None S k) → AreTagged hasher (slice_set index v None) T
-  tagged_vacated cleared f = λ n. cleared n ∙ go n (n == v) ∙ ap (tag_by hasher) (sym (f n))
+  pub tagged_vacated : (j : Tagged) (e : Entry) → S v ≡ Some e → Leaves hasher e v i j
+      → ((k : ℕ) → T k ≡ set_at v None S k) → AreTagged hasher j T
+  tagged_vacated j e at left f = λ tag n. go tag n (n == v) refl ∙ ap (often_by hasher tag) (sym (f n))
     where
-      go : (n : ℕ) → (b : Bool) → cond b None (tag_in index n) ≡ tag_by hasher (cond b None (S n))
-      go n true = refl
-      go n false = h n
+      go : (tag n : ℕ) (b : Bool) → (n == v) ≡ b → stands j tag n ≡ often_by hasher tag (cond b None (S n))
+      go tag n true t =
+          omega (
+            arith,
+            left tag n,
+            h tag n,
+            one_here (tag_of hasher e.key) v tag n true t,
+            ap (λ k. often_by hasher tag (S k)) (eqb-true n v t),
+            ap (often_by hasher tag) at,
+          )
+      go tag n false t = omega (arith, left tag n, h tag n, one_here (tag_of hasher e.key) v tag n false t)
 
   -- an entry came in the place of another of its key
   pub tagged_put : (e x : Entry) → S v ≡ Some e → e.key ≡ x.key → ((k : ℕ) → T k ≡ set_at v (Some x) S k)
-      → AreTagged hasher index T
-  tagged_put e x at own f = λ n. h n ∙ go n (n == v) refl ∙ ap (tag_by hasher) (sym (f n))
+      → AreTagged hasher i T
+  tagged_put e x at own f =
+      λ tag n. h tag n ∙ ap (λ o. cond (is_first o tag) 1 0) (go n (n == v) refl ∙ ap (tag_by hasher) (sym (f n)))
     where
       go : (n : ℕ) → (b : Bool) → (n == v) ≡ b → tag_by hasher (S n) ≡ tag_by hasher (cond b (Some x) (S n))
       go n true t =

@@ -1,66 +1,44 @@
 -- What callers see of the entries held by slots. Source: this project's own.
 use Rattle.std.specs.Prelude.{◌≡◌, Bool, true, false, is_some, IsSome, count_by, slice_index_or}
-use Rattle.std.specs.Prelude.{ℕ, [], ◌∷◌, ◌+◌, ◌-◌, ◌<◌, ◌≤◌, ◌&&◌}
-use Rattle.std.specs.Prelude.{nat_lt, nat_le, List, Option, Some, None, length, slice_set}
+use Rattle.std.specs.Prelude.{ℕ, [], ◌∷◌, ◌+◌, ◌<◌, ◌≤◌, ◌&&◌}
+use Rattle.std.specs.Prelude.{cond, nat_lt, nat_le, List, Option, Some, None, length, slice_set}
 use Rattle.slab.specs.Slab.{Slab, get as slab_get, slab_len}
 use Rattle.tc_item.specs.declared.slot.Slot.{Slot}
-use Rattle.tc_model.specs.Areas.{Areas, Limits, total, settle, and_then}
-use Rattle.tc_past.specs.Told.{Told}
+use Rattle.tc_model.specs.Areas.{Areas, Limits, settle, and_then}
 use Rattle.tc_plain.specs.AreaLists.{frequency_in}
 use Rattle.tc_plain.specs.Entries.{weight}
 use Rattle.tc_plain.specs.EvictionState.{held}
-use Rattle.tc_plain.specs.Then.{Then}
 use Rattle.tc_plain.specs.Placing.{without_key}
 use Rattle.tc_item.specs.KeyHash.{hash}
 use Rattle.tc_sketch.specs.Sketch.{Sketch, freq}
 use Rattle.tc_plain.specs.declared.shared.entry.Entry.{Entry}
 use Rattle.tc_slru.specs.SlotLists.{SlotLists}
 use Rattle.tc_wheel.specs.Dues.{Dues, due_at}
-use Rattle.tc_index.specs.Tags.{tag_in}
+use Rattle.tc_index.specs.Tags.{Tagged, stands, one_at, is_first}
 use Rattle.std.specs.declared.hash.RandomState.{RandomState}
 use Rattle.tc_slots.specs.Agreement.{set_at, slot_of, tag_of, tag_by, Agree}
-use Rattle.tc_slots.specs.Undoing.{ChangeLog, then_by, IsLogged}
-use Rattle.tc_plain.specs.BySlot.{entry_or, areas_by, stray}
+use Rattle.tc_plain.specs.BySlot.{entry_or, areas_by}
 use Rattle.tc_slots.specs.declared.slots.Slots.TheInside.{Inside}
 
--- the entries in three lists, what each slot holds, what the lists held at earlier calls, for how many more changes the log has
--- room beside one for each entry, and whether one more entry fits with no memory taken
+-- the entries in three lists, what each slot holds, and whether one more entry fits with no memory taken
 pub record Held : Type 0 where
   pub limits : Limits
   pub areas : Areas Entry
   pub slots : List (Option Entry)
-  pub then : Then (Areas Entry)
-  pub spare : ℕ
   pub has_room : Bool
 
--- the entries then, by what slots held then and by the lists of slots then
-abbrev pub then_areas : Then (ℕ → Option Entry) → Told SlotLists → Then (Areas Entry)
-then_areas t l = record { page = areas_by t.page l.opened.areas; next = areas_by t.next l.next.areas }
-
--- each slot of the lists then held an entry of the weight that is noted there
-pub record AreWeighed (t : Then (ℕ → Option Entry)) (l : Told SlotLists) : Type 0 where
-  pub page : total (stray t.page) l.opened.areas ≡ 0
-  pub next : total (stray t.next) l.next.areas ≡ 0
-
--- the lists then held the same
-pub record IsSameThen (old new : Told SlotLists) : Type 0 where
-  pub next : new.next.areas ≡ old.next.areas
-  pub opened : new.opened.areas ≡ old.opened.areas
-
--- for how many changes a log has room, beside one for each entry, which it may come to be taken out
-abbrev pub spare_in : ChangeLog → Slab Entry → ℕ
-spare_in log entries = log.capacity - (length log.since + slab_len entries)
-
 -- one more entry fits: into the index, the entries, the lists and the wheel
-abbrev pub room_in : List (Option ℕ) → Slab Entry → SlotLists → Dues → Bool
+abbrev pub room_in : Tagged → Slab Entry → SlotLists → Dues → Bool
 room_in index entries lists wheel =
-    nat_le entries.capacity (length index)
+    index.has_room
+    && (nat_le entries.capacity index.slots
     && (nat_lt (slab_len entries) entries.capacity
-    && (nat_le entries.capacity lists.slots && nat_le entries.capacity (length wheel.dues)))
+    && (nat_le entries.capacity lists.slots && nat_le entries.capacity (length wheel.dues))))
 
 -- the same, as facts
-pub record HasRoom (i : List (Option ℕ)) (s : Slab Entry) (l : SlotLists) (w : Dues) : Type 0 where
-  pub index : s.capacity ≤ length i
+pub record HasRoom (i : Tagged) (s : Slab Entry) (l : SlotLists) (w : Dues) : Type 0 where
+  pub index : i.has_room ≡ true
+  pub numbers : s.capacity ≤ i.slots
   pub entries : slab_len s + 1 ≤ s.capacity
   pub lists : s.capacity ≤ l.slots
   pub wheel : s.capacity ≤ length w.dues
@@ -68,44 +46,48 @@ pub record HasRoom (i : List (Option ℕ)) (s : Slab Entry) (l : SlotLists) (w :
 -- what callers see
 abbrev pub held_of : Inside → Held
 held_of f = record {
-  limits = f.lists.live.limits;
-  areas = areas_by (slab_get f.entries) f.lists.live.areas;
+  limits = f.lists.limits;
+  areas = areas_by (slab_get f.entries) f.lists.areas;
   slots = f.entries.slots;
-  then = then_areas (then_by f.log (slab_get f.entries)) f.lists;
-  spare = spare_in f.log f.entries;
-  has_room = room_in f.index f.entries f.lists.live f.wheel;
+  has_room = room_in f.index f.entries f.lists f.wheel;
 }
 
 -- all slots that hold an entry are below a number
 abbrev pub AreWithin : ℕ → (ℕ → Option Entry) → Type 0
 AreWithin n S = (slot : ℕ) → IsSome (S slot) → slot < n
 
--- each slot that holds an entry stands under the tag of its key, and every other nowhere
-abbrev pub AreTagged : RandomState → List (Option ℕ) → (ℕ → Option Entry) → Type 0
-AreTagged hasher index S = (slot : ℕ) → tag_in index slot ≡ tag_by hasher (S slot)
+-- how often a slot stands under a tag, by what it holds
+abbrev pub often_by : RandomState → ℕ → Option Entry → ℕ
+often_by hasher tag o = cond (is_first (tag_by hasher o) tag) 1 0
 
--- the four agree, the wheel has a place for each slot that holds an entry or changed, each entry may be taken out with no memory
--- taken, and slots agreed with the lists then
+-- each slot that holds an entry stands once under the tag of its key, and every other nowhere
+abbrev pub AreTagged : RandomState → Tagged → (ℕ → Option Entry) → Type 0
+AreTagged hasher index S = (tag slot : ℕ) → stands index tag slot ≡ often_by hasher tag (S slot)
+
+-- the four agree, and the wheel has a place for each slot that holds an entry
 pub record AreSlots (f : Inside) : Type 0 where
-  pub agree : Agree (slot_of f.entries.slots) (slab_get f.entries) (due_at f.wheel.dues) f.lists.live.areas
+  pub agree : Agree (slot_of f.entries.slots) (slab_get f.entries) (due_at f.wheel.dues) f.lists.areas
   pub tagged : AreTagged f.hasher f.index (slab_get f.entries)
   pub within : AreWithin (length f.wheel.dues) (slab_get f.entries)
-  pub logged : IsLogged (length f.wheel.dues) f.log (slab_len f.entries)
-  pub weighed : AreWeighed (then_by f.log (slab_get f.entries)) f.lists
 
--- an entry left its slot, and the slot its tag
-pub record IsVacated (e : Entry) (slot : ℕ) (i j : List (Option ℕ)) (s t : Slab Entry) : Type 0 where
-  pub index : j ≡ slice_set i slot None
+-- an entry left its slot, and the index has the room that it had
+pub record IsVacated (e : Entry) (slot : ℕ) (i j : Tagged) (s t : Slab Entry) : Type 0 where
+  pub room : i.has_room ≡ true → j.has_room ≡ true
+  pub numbers : j.slots ≡ i.slots
   pub entries : (n : ℕ) → slab_get t n ≡ set_at slot None (slab_get s) n
   pub fewer : slab_len t + 1 ≡ slab_len s
   pub capacity : t.capacity ≡ s.capacity
   pub slots : t.slots ≡ slice_set s.slots slot None
 
+-- a slot left the tag of the key of what it held
+abbrev pub Leaves : RandomState → Entry → ℕ → Tagged → Tagged → Type 0
+Leaves hasher e slot i j = (tag n : ℕ) → stands j tag n + one_at (tag_of hasher e.key) slot tag n ≡ stands i tag n
+
 -- an entry came to a slot, and the slot under its key's tag
-pub record IsTaken (hasher : RandomState) (e : Entry) (slot : ℕ) (i j : List (Option ℕ)) (s t : Slab Entry) : Type 0 where
+pub record IsTaken (hasher : RandomState) (e : Entry) (slot : ℕ) (i j : Tagged) (s t : Slab Entry) : Type 0 where
   pub vacant : slab_get s slot ≡ None
   pub within : slot < s.capacity
-  pub index : j ≡ slice_set i slot (Some (tag_of hasher e.key))
+  pub index : (tag n : ℕ) → stands j tag n ≡ stands i tag n + one_at (tag_of hasher e.key) slot tag n
   pub entries : (n : ℕ) → slab_get t n ≡ set_at slot (Some e) (slab_get s) n
 
 -- how many slots hold an entry

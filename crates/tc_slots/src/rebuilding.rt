@@ -10,7 +10,7 @@ ghost use Rattle.tc_slots.specs.Rebuilt.{Fit, put_back};
 use crate::slots::Slots;
 use std::alloc::Global;
 use tc_item::NoMemory;
-use tc_plain::{Areas, Entry, Limits};
+use tc_plain::{Areas, Entry};
 use tc_slru::Area;
 
 /// Puts entries at the front of a list, in their order: the last first.
@@ -47,16 +47,14 @@ fn put_all_back(slots: &mut Slots, areas: Areas) -> Result<(), NoMemory>
 
 impl Slots {
     /// The same entries in tables of their own, which have room for few more, under the same limits.
-    pub fn rebuilt(&self, alloc: Global, limits: Limits) -> Result<Slots, NoMemory>
-        requires same { limits ≡ self.now.limits }
-        requires small { limits.main < 2 ^ 32 }
+    pub(crate) fn rebuilt(&self, alloc: Global) -> Result<Slots, NoMemory>
         requires sound { AreSound self.now.limits self.now.areas }
         requires sum { total weight self.now.areas < 2 ^ 64 }
         ensures areas { IfOk result (λ s. s.areas ≡ self.now.areas) }
         ensures limits { IfOk result (λ s. s.limits ≡ self.now.limits) }
     {
         let areas = self.copy(alloc)?;
-        let mut rebuilt = self.fresh_for(alloc, limits, self.count().max(1))?;
+        let mut rebuilt = self.fresh_for(alloc, self.count().max(1))?;
         put_all_back(&mut rebuilt, areas)?;
         Ok(rebuilt)
     }

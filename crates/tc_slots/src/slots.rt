@@ -13,8 +13,8 @@
 //!    4. `weighed`: each place in the lists has the weight of its entry.
 //!    5. `timed`: the wheel holds the slots whose entries have a due that a moment can reach, until
 //!       that due.
-//! 2. `tagged`: each slot that holds an entry stands in the index under the tag of its key, and every
-//!    other nowhere.
+//! 2. `tagged`: each slot that holds an entry stands in the index once, under the tag of its key, and
+//!    every other nowhere.
 //! 3. `within`: each slot that holds an entry has a place in the wheel.
 //!
 //! So what the lists stand for under a key is what is found under its tag.
@@ -28,10 +28,10 @@ ghost use Rattle.tc_plain.specs.declared.shared.entry.Entry.{Entry};
 ghost use Rattle.tc_plain.specs.BySlot.{entry_or};
 ghost use Rattle.tc_slots.specs.Held.{IsFound, FindsSlot};
 
+mod copying;
 mod leaving;
-mod paging;
 
-use crate::log::Log;
+use crate::aside::Aside;
 use crate::steps::{
     grow, is_of, key_tag, put, put_due, reached, reached_by, take_in, time, weight_at,
 };
@@ -40,9 +40,9 @@ use slab::Slab;
 use std::alloc::Global;
 use std::hash::RandomState;
 use std::marker::Model;
+use std::mem;
 use tc_index::Index;
 use tc_item::{Due, Key, NoMemory, Slot};
-use tc_past::Journal;
 use tc_plain::{Entry, Limits};
 use tc_slru::{Area, Lists};
 use tc_wheel::Wheel;
@@ -53,6 +53,16 @@ const LARGE: usize = 4096;
 /// Tables are mostly empty where less than one in so many of their places holds an entry.
 const SPARSE_OF: usize = 4;
 
+/// The index has a shard for so many bytes of main, which hold some 7,000 small entries, and 16,000 at most.
+const MAIN_OF_SHARD: u64 = 1 << 20;
+
+/// How many shards the index has, where main may hold so many bytes.
+fn shards_for(main: u64) -> usize
+    requires { main < 2 ^ 32 }
+{
+    (main / MAIN_OF_SHARD) as usize
+}
+
 /// The entries of one partition.
 #[derive(Drop)]
 pub struct Slots {
@@ -61,7 +71,8 @@ pub struct Slots {
     entries: Slab<Entry>,
     lists: Lists,
     wheel: Wheel,
-    log: Log,
+    /// Tables that wait to be let go of.
+    aside: Aside,
 }
 
 impl Model for Slots {
@@ -77,58 +88,54 @@ impl Model for Slots {
 }
 
 impl Slots {
-    /// No entries, with room for none, under these limits. Takes memory for the marks of the lists and
-    /// of the wheel. Where the journal is off, what was held before is not remembered.
-    pub fn new(
-        alloc: Global,
-        hasher: RandomState,
-        limits: Limits,
-        journal: Journal,
-    ) -> Result<Slots, NoMemory>
+    /// No entries, with room for none, under these limits. Takes memory for the index's shards, and for the
+    /// marks of the lists and of the wheel.
+    pub fn new(alloc: Global, hasher: RandomState, limits: Limits) -> Result<Slots, NoMemory>
         requires small { limits.main < 2 ^ 32 }
         ensures limits { IfOk result (λ s. s.limits ≡ limits) }
         ensures areas { IfOk result (λ s. s.areas ≡ no_entries) }
-        ensures page { IfOk result (λ s. s.then.page ≡ no_entries) }
-        ensures next { IfOk result (λ s. s.then.next ≡ no_entries) }
     {
-        let lists = Lists::new(alloc, limits.window, limits.main, limits.protected, journal)?;
+        let index = Index::new(alloc, shards_for(limits.main))?;
+        let lists = Lists::new(alloc, limits.window, limits.main, limits.protected)?;
         let wheel = Wheel::new(alloc)?;
         Ok(Slots {
-            index: Index::new(alloc),
+            index,
             hasher,
             entries: Slab::new(alloc),
             lists,
             wheel,
-            log: Log::new(alloc, journal),
+            aside: Aside::new(alloc),
         })
     }
 
     /// No entries, with room for none, under the same limits, hashed as these are.
-    pub fn fresh(&self, alloc: Global, limits: Limits) -> Result<Slots, NoMemory>
-        requires small { limits.main < 2 ^ 32 }
-        ensures limits { IfOk result (λ s. s.limits ≡ limits) }
+    fn fresh(&self, alloc: Global) -> Result<Slots, NoMemory>
+        ensures limits { IfOk result (λ s. s.limits ≡ self.now.limits) }
         ensures areas { IfOk result (λ s. s.areas ≡ no_entries) }
-        ensures page { IfOk result (λ s. s.then.page ≡ no_entries) }
-        ensures next { IfOk result (λ s. s.then.next ≡ no_entries) }
     {
-        Slots::new(alloc, self.hasher, limits, self.journal())
+        let index = self.index.fresh(alloc)?;
+        let lists = self.lists.fresh(alloc)?;
+        let wheel = Wheel::new(alloc)?;
+        Ok(Slots {
+            index,
+            hasher: self.hasher,
+            entries: Slab::new(alloc),
+            lists,
+            wheel,
+            aside: Aside::new(alloc),
+        })
     }
 
     /// The same, with room for so many.
-    pub fn fresh_for(&self, alloc: Global, limits: Limits, count: usize) -> Result<Slots, NoMemory>
-        requires small { limits.main < 2 ^ 32 }
+    pub(crate) fn fresh_for(&self, alloc: Global, count: usize) -> Result<Slots, NoMemory>
         requires some { 0 < count }
-        ensures limits { IfOk result (λ s. s.limits ≡ limits) }
+        ensures limits { IfOk result (λ s. s.limits ≡ self.now.limits) }
         ensures areas { IfOk result (λ s. s.areas ≡ no_entries) }
+        ensures room { IfOk result (λ s. s.has_room ≡ true) }
     {
-        let mut fresh = self.fresh(alloc, limits)?;
+        let mut fresh = self.fresh(alloc)?;
         fresh.make_entry_room(count)?;
         Ok(fresh)
-    }
-
-    /// Whether changes are kept.
-    pub fn journal(&self) -> Journal {
-        self.log.journal()
     }
 
     /// Whether the tables have places for many slots, and few of these hold an entry.
@@ -142,8 +149,15 @@ impl Slots {
         self.index.allocator()
     }
 
-    /// The tables alone, which are in use no more; the changes that were noted go with those of `held`.
-    pub fn retire(self, held: &mut Slots) -> Tables
+    /// Room to set tables aside.
+    pub(crate) fn make_room_aside(&mut self) -> Result<(), NoMemory>
+        ensures { self.new ≡ self.old }
+    {
+        self.aside.make_room()
+    }
+
+    /// Sets the tables aside in `held`, in which none are, behind those that were set aside here.
+    pub(crate) fn set_aside(self, held: &mut Slots)
         ensures { held.new ≡ held.old }
     {
         let Slots {
@@ -152,20 +166,19 @@ impl Slots {
             entries,
             lists,
             wheel,
-            log,
+            aside,
         } = self;
-        held.log.take_over(log);
-        Tables::of(index, entries, lists, wheel)
+        drop(mem::replace(&mut held.aside, aside));
+        held.aside.add(Tables::of(index, entries, lists, wheel));
     }
 
-    /// Room for so many more entries but in the log. A refusal changes nothing.
+    /// Room for so many more entries. A refusal changes nothing.
     fn make_entry_room(&mut self, count: usize) -> Result<(), NoMemory>
         requires { 0 < count }
         ensures room { OnOk result (self.new.has_room ≡ true) }
         ensures areas { self.new.areas ≡ self.old.areas }
         ensures limits { self.new.limits ≡ self.old.limits }
         ensures slots { self.new.slots ≡ self.old.slots }
-        ensures then { self.new.then ≡ self.old.then }
     {
         grow(
             &mut self.index,
@@ -176,41 +189,21 @@ impl Slots {
         )
     }
 
-    /// Room for one more entry, and for what its placing changes. A refusal changes nothing.
+    /// Room for one more entry. A refusal changes nothing.
     pub fn make_room(&mut self) -> Result<(), NoMemory>
         ensures room { OnOk result (self.new.has_room ≡ true) }
-        ensures spare { OnOk result (2 ≤ self.new.spare) }
         ensures areas { self.new.areas ≡ self.old.areas }
         ensures limits { self.new.limits ≡ self.old.limits }
         ensures slots { self.new.slots ≡ self.old.slots }
-        ensures then { self.new.then ≡ self.old.then }
     {
-        self.make_entry_room(1)?;
-        self.make_log_room(2)
+        self.make_entry_room(1)
     }
 
-    /// Room in the log for so many changes, beside one for each entry that may be taken out. A refusal
-    /// changes nothing.
-    pub fn make_log_room(&mut self, count: usize) -> Result<(), NoMemory>
-        ensures room { OnOk result (count ≤ self.new.spare) }
-        ensures has_room { self.new.has_room ≡ self.old.has_room }
-        ensures areas { self.new.areas ≡ self.old.areas }
-        ensures limits { self.new.limits ≡ self.old.limits }
-        ensures slots { self.new.slots ≡ self.old.slots }
-        ensures then { self.new.then ≡ self.old.then }
-    {
-        let Some(room) = self.entries.len().checked_add(count) else {
-            return Err(NoMemory);
-        };
-        self.log.reserve(room, self.entries.capacity())?;
-        Ok(())
-    }
-
-    /// Lets go of at most so many changes that wait for that where the journal is off.
+    /// Lets at most so many pieces go of tables that were set aside: entries, and then tables and shards.
     pub fn let_go(&mut self, most: usize)
         ensures { self.new ≡ self.old }
     {
-        self.log.let_go(most);
+        self.aside.let_go(most);
     }
 
     /// The slot of what a key holds.
@@ -341,23 +334,15 @@ impl Slots {
     /// Puts an entry at the front of a list, whose key holds nothing, and says in which slot.
     pub fn fill(&mut self, area: Area, entry: Entry) -> Slot
         requires room { self.old.has_room ≡ true }
-        requires spare { 2 ≤ self.old.spare }
         requires free { held entry.key self.old.areas ≡ None }
         requires light { weight entry ≤ self.old.limits.main }
         requires fits { total weight self.old.areas + weight entry < 2 ^ 64 }
         ensures limits { self.new.limits ≡ self.old.limits }
         ensures areas { self.new.areas ≡ fronted_in area entry self.old.areas }
-        ensures then { self.new.then ≡ self.old.then }
     {
         let weight = entry.weight();
         let due = reached_by(&entry);
-        let slot = take_in(
-            &mut self.index,
-            &self.hasher,
-            &mut self.entries,
-            &mut self.log,
-            entry,
-        );
+        let slot = take_in(&mut self.index, &self.hasher, &mut self.entries, entry);
         self.lists.push(area, slot, weight);
         time(&mut self.wheel, slot, due);
         slot
@@ -365,7 +350,6 @@ impl Slots {
 
     /// Puts an entry in the place of what its key holds in this slot: an access.
     pub fn replace(&mut self, slot: Slot, entry: Entry)
-        requires spare { 1 ≤ self.old.spare }
         requires found { IsFound entry.key slot.0 self.old }
         requires light { weight entry ≤ self.old.limits.main }
         requires fits { total weight self.old.areas + weight entry < 2 ^ 64 }
@@ -373,11 +357,10 @@ impl Slots {
         ensures areas { self.new.areas ≡ accessed weight self.old.limits
             (has_key entry.key) entry self.old.areas }
         ensures room { self.old.has_room ≡ true → self.new.has_room ≡ true }
-        ensures then { self.new.then ≡ self.old.then }
     {
         let weight = entry.weight();
         let due = reached_by(&entry);
-        put(&mut self.entries, &mut self.log, slot, entry);
+        put(&mut self.entries, slot, entry);
         self.lists.access(slot, weight);
         self.wheel.remove(slot);
         time(&mut self.wheel, slot, due);
@@ -385,7 +368,6 @@ impl Slots {
 
     /// An access of what a key holds in this slot, which has this due from now on.
     pub fn touch(&mut self, key: &Key, slot: Slot, due: Due)
-        requires spare { 1 ≤ self.old.spare }
         requires found { IsFound key.now slot.0 self.old }
         requires light { (e : Entry) → held key.now self.old.areas ≡ Some e
             → weight e ≤ self.old.limits.main }
@@ -396,11 +378,9 @@ impl Slots {
             → self.new.areas ≡ accessed weight self.old.limits (has_key key.now) (with_item e
             (with_due due e.item)) self.old.areas }
         ensures room { self.old.has_room ≡ true → self.new.has_room ≡ true }
-        ensures then { self.new.then ≡ self.old.then }
-        ensures spare { self.old.spare ≤ self.new.spare + 1 }
     {
         let weight = weight_at(&self.entries, slot);
-        put_due(&mut self.entries, &mut self.log, slot, due);
+        put_due(&mut self.entries, slot, due);
         self.lists.access(slot, weight);
         self.wheel.remove(slot);
         time(&mut self.wheel, slot, reached(due));
@@ -418,8 +398,6 @@ impl Slots {
             → self.new.areas ≡ accessed weight self.old.limits (has_key key.now) e self.old.areas }
         ensures slots { self.new.slots ≡ self.old.slots }
         ensures room { self.old.has_room ≡ true → self.new.has_room ≡ true }
-        ensures then { self.new.then ≡ self.old.then }
-        ensures spare { self.old.spare ≤ self.new.spare }
     {
         let weight = weight_at(&self.entries, slot);
         self.lists.access(slot, weight);
@@ -436,8 +414,6 @@ impl Slots {
         ensures areas { (e : Entry) → slice_index_or self.old.slots slot.0 None ≡ Some e
             → self.new.areas ≡ accessed weight self.old.limits (has_key e.key) e self.old.areas }
         ensures slots { self.new.slots ≡ self.old.slots }
-        ensures then { self.new.then ≡ self.old.then }
-        ensures spare { self.old.spare ≤ self.new.spare }
     {
         let weight = self.lists.weight_of(slot);
         self.lists.access(slot, weight);

@@ -6,7 +6,6 @@ pub mod Members
 pub mod Moved
 pub mod Notes
 pub mod Outranked
-pub mod Pages
 pub mod Put
 pub mod Read
 pub mod Reserved

@@ -2,12 +2,10 @@
 //!
 //! `Lists` meets the areas of `tc_model/specs/Areas.antt`, of slots: `access` is `accessed`, and
 //! `settle_step`, called until it gives nothing, is `settle`. Callers see limits, reserved slots
-//! and three lists of slots with their weights, front to back (`specs/SlotLists.antt`), and all of this
-//! three times (`tc_past/specs/Told.antt`): as it is, as the next page is to begin, and as this page began.
-//! The contracts are the equations of that file, of what is live. `prepare` and `turn` move the other two.
-//! Only `new`, `reserve`, `slots_in` and `opened` take memory. `clear`, `reserve` and `opened` go over nodes
-//! and `slots_in` over a list, and `turn` over what the page changed; every other call is, settle's victims
-//! and protected's demotions apart, a fixed number of steps.
+//! and three lists of slots with their weights, front to back (`specs/SlotLists.antt`). The contracts are
+//! the equations of that file. Only `new`, `reserve` and `slots_in` take memory. `clear` and `reserve` go
+//! over nodes and `slots_in` over a list; every other call is, settle's victims and protected's demotions
+//! apart, a fixed number of steps.
 //!
 //! How many steps a settle can take: each demotion, entry and drop is a fixed number. A candidate
 //! is compared once with its k victims, in one walk from main's tail, which ends at the first that
@@ -22,10 +20,8 @@ mod area;
 mod linked_areas;
 mod lists;
 mod nodes;
-mod opened_areas;
 mod settle;
 
 pub use area::Area;
 pub use lists::{Lists, Weights};
-pub use opened_areas::OpenedAreas;
 pub use tc_item::Slot;

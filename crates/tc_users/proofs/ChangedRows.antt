@@ -17,8 +17,7 @@ use Rattle.tc_users.specs.Faults.{first_of, name_fault, token_fault, budget_faul
 use Rattle.tc_users.specs.Faults.{row_fault, user_fault, fault_after, first_fault}
 use Rattle.tc_users.specs.Changes.{row_with_second, row_with_largest, with_row, with_second, with_largest, second_fault_for}
 use Rattle.tc_users.specs.Changes.{second_fault_of}
-use Rattle.tc_users.proofs.FirstFault.{option_or-none, cond-none_else}
-use Rattle.tc_users.proofs.UserTables.{fault_after-push}
+use Rattle.tc_users.proofs.FirstFault.{option_or-none, cond-none_else, fault_after-push}
 
 abbrev names : List UserSpec → List (List ℕ)
 names rows = map (λ (r : UserSpec). r.name) rows

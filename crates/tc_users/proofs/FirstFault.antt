@@ -3,7 +3,7 @@ use Rattle.std.specs.Prelude.{nat_le, ◌&&◌, ◌^◌}
 use Rattle.std.specs.Option.{option_or}
 use Rattle.std.specs.List.{All}
 use Rattle.std.proofs.Common.{◌≡◌, ℕ, zero, suc, ◌+◌, ◌<◌, ◌≤◌, Bool, true, false, cond, List, [], ◌∷◌, ◌++◌, length, get_or}
-use Rattle.std.proofs.Common.{slice_get, take, drop, Option, Some, None, IfSome, refl, ◌∙◌, ap, arith}
+use Rattle.std.proofs.Common.{slice_get, take, drop, Option, Some, None, IfSome, refl, sym, ◌∙◌, ap, arith, append_assoc, append-nil}
 use Rattle.std.proofs.lemmas.Bool.Decides.{nat_tests}
 use Rattle.std.proofs.lemmas.List.{take_more, drop_more}
 use Rattle.tc_item.specs.Bounds.{smallest_budget, largest_budget, largest_item}
@@ -84,3 +84,13 @@ length-from_first_fault rows e =
     let few : nat_le (2 ^ 32) (length rows) ≡ false =
     (cond-none_else (nat_le (2 ^ 32) (length rows)) (TooManyUsers (length rows)) (fault_after [] rows) e).0 in
     grind (arith, nat_tests)
+
+-- one more row
+pub fault_after-push : (before rows : List UserSpec) (row : UserSpec) → fault_after before rows ≡ None
+    → user_fault (before ++ rows) row ≡ None → fault_after before (rows ++ row ∷ []) ≡ None
+fault_after-push before [] row e good = ap (λ o. option_or o None) (ap (λ b. user_fault b row) (sym (append-nil before)) ∙ good)
+fault_after-push before (first ∷ rows) row e good =
+    let p = option_or-none (user_fault before first) (fault_after (before ++ first ∷ []) rows) e in
+    let next = fault_after-push (before ++ first ∷ []) rows row p.1
+    (ap (λ b. user_fault b row) (append_assoc before (first ∷ []) rows) ∙ good) in
+    rw (p.0, next)

@@ -1,6 +1,6 @@
 -- Which users' rows are good, and the first fault where one is not. Source: docs/OPERATING.md,
 -- 'Settings', whose table gives the ranges and the order of the checks.
-use Rattle.std.specs.Prelude.{ℕ, ◌+◌, ◌^◌, ◌≤◌, ℤ, pos, int_le, Bool, ◌&&◌, ◌||◌, not, nat_lt, nat_le, ◌==◌, if◌then◌else◌, List}
+use Rattle.std.specs.Prelude.{ℕ, ◌+◌, ◌^◌, ◌≤◌, ℤ, pos, int_le, Bool, ◌&&◌, ◌||◌, not, nat_lt, nat_le, ◌==◌, if◌then◌else◌, List, ◌⊎◌, ◌≡◌}
 use Rattle.std.specs.Prelude.{[], ◌∷◌, ◌++◌, length, slice_index, position, Option, Some, None, option_map}
 use Rattle.std.specs.Option.{option_or}
 use Rattle.std.specs.Char.{is_ascii_alphanumeric}
@@ -119,3 +119,7 @@ first_fault rows = if nat_le (2 ^ 32) (length rows) then Some (TooManyUsers (len
 abbrev pub IsSoundRow : UserSpec → Type 0
 IsSoundRow row =
     (smallest_budget ≤ row.budget) × (row.budget ≤ largest_budget) × (1 ≤ row.largest) × (row.largest ≤ largest_item)
+
+-- it is the first fault, or memory was refused
+abbrev pub IsFirstOrRefused : Option SettingsFault → SettingsFault → Type 0
+IsFirstOrRefused first fault = (first ≡ Some fault) ⊎ (fault ≡ NoMemory)

@@ -5,16 +5,15 @@ ghost use Rattle.std.specs.Result.{result_err};
 ghost use Rattle.std.specs.Str.{bytes_eq};
 ghost use Rattle.tc_model.specs.Place.{first_place};
 ghost use Rattle.tc_model.specs.Connection.{user_at};
-ghost use Rattle.tc_users.specs.Faults.{first_fault, largest_fault, IsSoundRow};
-ghost use Rattle.tc_users.specs.SettingsTable.{IsFirstOrRefused};
+ghost use Rattle.tc_users.specs.Faults.{first_fault, largest_fault, IsSoundRow, IsFirstOrRefused};
 ghost use Rattle.tc_users.specs.Changes.{second_fault_of, with_second, with_largest};
 ghost use Rattle.tc_users.specs.Login.{login_data, opens_second, opens};
 
 use crate::checks::{check_largest_item, check_other_token, check_rows, check_user};
-use crate::user_table::push_row;
 use crate::{SettingsFault, Text, UserNo};
 use std::alloc::Global;
 use std::marker::Model;
+use tc_item::NoMemory;
 
 /// A user's row.
 #[derive(Debug, Drop)]
@@ -29,6 +28,14 @@ pub struct UserSpec {
     pub budget: u64,
     /// The most data bytes that a storage command stores, 1 to 1,048,576.
     pub largest: u64,
+}
+
+/// One more row, behind the others.
+pub fn push_row(rows: &mut Vec<UserSpec>, row: UserSpec) -> Result<(), NoMemory>
+    ensures pushed { OnOk result (rows.new.items ≡ rows.old.items ++ row ∷ []) }
+    ensures unchanged_on_err { OnErr result (rows.new.items ≡ rows.old.items) }
+{
+    Ok(rows.push(row)?)
 }
 
 /// The users of a server, numbered from 1.
@@ -119,7 +126,7 @@ impl Users {
     }
 
     /// The users of rows that are known to be good.
-    pub(crate) fn from_good_rows(rows: Vec<UserSpec>) -> Users
+    pub fn from_good_rows(rows: Vec<UserSpec>) -> Users
         requires { first_fault rows.items ≡ None }
         ensures { result ≡ rows.items }
     {

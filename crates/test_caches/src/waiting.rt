@@ -7,7 +7,7 @@ use std::process::Abort;
 use std::test::Fail;
 use tc_grammar::Command;
 use tc_item::{NoMemory, hash};
-use tc_kinds::{Journal, Kind};
+use tc_kinds::Kind;
 use tc_partition::Fast;
 use tc_plain::Cache;
 
@@ -25,7 +25,7 @@ enum Deed {
 /// A deed, and how many look-ups wait behind it.
 type Turn = (Deed, usize);
 
-static TURNS: [Turn; 31] = [
+static TURNS: [Turn; 33] = [
     (Deed::Does("set k 0 0 1", 1), 0),
     (Deed::Does("get k", 128), 128),
     (Deed::Maintains(100), 28),
@@ -35,9 +35,11 @@ static TURNS: [Turn; 31] = [
     (Deed::Maintains(128), 0),
     (Deed::Does("get z", 128), 128),
     (Deed::Does("gets z", 1), 1),
-    (Deed::Does("get k z k", 1), 0),
-    (Deed::Does("gets z", 2), 2),
-    (Deed::Does("gets k z k", 1), 0),
+    (Deed::Does("get k z k", 1), 4),
+    (Deed::Does("gets z", 2), 6),
+    (Deed::Does("gets k z k", 1), 9),
+    (Deed::Does("get k", 117), 126),
+    (Deed::Does("get k z k", 1), 1),
     (Deed::Does("set k 0 0 1", 1), 0),
     (Deed::ReadsAhead, 0),
     (Deed::Does("gets k", 3), 3),
@@ -133,7 +135,7 @@ fn expect_waiting<C: Waiting>(
     hasher: RandomState,
     turns: &[Turn],
 ) -> Result<(), NoMemory> {
-    let mut cache = C::begin(alloc, 65_536, 1_048_576, hasher, Journal::On)?;
+    let mut cache = C::begin(alloc, 65_536, 1_048_576, hasher)?;
     expect_turns(rt, alloc, &mut cache, turns)
 }
 

@@ -1,4 +1,4 @@
-//! Chains by hand, and growth.
+//! Slots under tags by hand, and growth.
 
 use std::alloc::Global;
 use std::process::Abort;
@@ -11,7 +11,7 @@ enum Move {
     /// A slot comes under a tag.
     Insert(usize, u32),
     /// A slot leaves its tag.
-    Remove(usize),
+    Remove(usize, u32),
     /// Room for so many slots.
     Reserve(usize),
     Clear,
@@ -19,21 +19,31 @@ enum Move {
     Find(u32, usize, Option<usize>),
 }
 
-/// Makes one move. Whether the caller's conditions hold and it comes to what is wanted.
+/// Puts a slot under a tag.
+fn insert(index: &mut Index, slot: Slot, tag: Tag) -> Result<(), NoMemory> {
+    index.reserve(slot.0.saturating_add(1))?;
+    if slot.0 < usize::MAX {
+        index.insert(slot, tag);
+    }
+    Ok(())
+}
+
+/// Takes a slot from under a tag, and says whether it stood there.
+fn remove(index: &mut Index, slot: Slot, tag: Tag) -> bool {
+    match index.find(tag, |other| other.0 == slot.0) {
+        Some(found) => {
+            index.remove(found, tag);
+            found == slot
+        }
+        None => false,
+    }
+}
+
+/// Makes one move. Whether it comes to what is wanted.
 fn make(index: &mut Index, step: &Move) -> Result<bool, NoMemory> {
     match step {
-        Move::Insert(slot, tag) => {
-            if *slot >= index.slots() || index.tag(Slot(*slot)).is_some() {
-                return Ok(false);
-            }
-            index.insert(Slot(*slot), Tag(*tag));
-        }
-        Move::Remove(slot) => {
-            if *slot >= index.slots() || index.tag(Slot(*slot)).is_none() {
-                return Ok(false);
-            }
-            index.remove(Slot(*slot));
-        }
+        Move::Insert(slot, tag) => insert(index, Slot(*slot), Tag(*tag))?,
+        Move::Remove(slot, tag) => return Ok(remove(index, Slot(*slot), Tag(*tag))),
         Move::Reserve(slots) => index.reserve(*slots)?,
         Move::Clear => index.clear(),
         Move::Find(tag, right, found) => {
@@ -45,9 +55,9 @@ fn make(index: &mut Index, step: &Move) -> Result<bool, NoMemory> {
     Ok(true)
 }
 
-/// Makes moves on an index with room for four slots, which has four buckets.
-fn run(rt: &impl Abort, alloc: Global, moves: &[Move]) -> Result<(), NoMemory> {
-    let mut index = Index::new(alloc);
+/// Makes moves on an index in so many shards.
+fn run(rt: &impl Abort, alloc: Global, shards: usize, moves: &[Move]) -> Result<(), NoMemory> {
+    let mut index = Index::new(alloc, shards)?;
     let made = make_all(rt, &mut index, moves);
     drop(index);
     made
@@ -55,7 +65,6 @@ fn run(rt: &impl Abort, alloc: Global, moves: &[Move]) -> Result<(), NoMemory> {
 
 /// The same on this index.
 fn make_all(rt: &impl Abort, index: &mut Index, moves: &[Move]) -> Result<(), NoMemory> {
-    index.reserve(4)?;
     for (place, step) in moves.iter().enumerate() {
         assert!(rt; make(index, step)?, "move {place}");
     }
@@ -63,10 +72,11 @@ fn make_all(rt: &impl Abort, index: &mut Index, moves: &[Move]) -> Result<(), No
 }
 
 #[test]
-fn slots_of_a_bucket_are_found_and_removed_by_hand(rt: HostRuntime) -> Result<(), Fail> {
+fn slots_of_a_tag_are_found_and_removed_by_hand(rt: HostRuntime) -> Result<(), Fail> {
     Ok(run(
         &rt,
         rt.alloc(),
+        1,
         &[
             Move::Insert(1, 5),
             Move::Insert(3, 9),
@@ -78,12 +88,12 @@ fn slots_of_a_bucket_are_found_and_removed_by_hand(rt: HostRuntime) -> Result<()
             Move::Find(9, 3, Some(3)),
             Move::Find(1, 2, Some(2)),
             Move::Find(13, 3, None),
-            Move::Remove(2),
+            Move::Remove(2, 1),
             Move::Find(1, 2, None),
             Move::Find(5, 1, Some(1)),
-            Move::Remove(3),
+            Move::Remove(3, 9),
             Move::Find(5, 0, Some(0)),
-            Move::Remove(0),
+            Move::Remove(0, 5),
             Move::Find(5, 1, Some(1)),
             Move::Insert(0, 6),
             Move::Find(6, 0, Some(0)),
@@ -96,6 +106,7 @@ fn an_index_grows_and_is_cleared(rt: HostRuntime) -> Result<(), Fail> {
     Ok(run(
         &rt,
         rt.alloc(),
+        3,
         &[
             Move::Insert(1, 5),
             Move::Insert(3, 9),
@@ -103,15 +114,17 @@ fn an_index_grows_and_is_cleared(rt: HostRuntime) -> Result<(), Fail> {
             Move::Reserve(9),
             Move::Find(5, 1, Some(1)),
             Move::Find(9, 0, Some(0)),
-            Move::Insert(8, 25),
-            Move::Find(25, 8, Some(8)),
+            Move::Insert(8, 0x2_0019),
+            Move::Find(0x2_0019, 8, Some(8)),
             Move::Reserve(12),
-            Move::Find(25, 8, Some(8)),
+            Move::Find(0x2_0019, 8, Some(8)),
             Move::Find(9, 3, Some(3)),
-            Move::Insert(11, 25),
-            Move::Find(25, 11, Some(11)),
-            Move::Find(25, 8, Some(8)),
-            Move::Remove(3),
+            Move::Insert(11, 0x2_0019),
+            Move::Find(0x2_0019, 11, Some(11)),
+            Move::Find(0x2_0019, 8, Some(8)),
+            Move::Find(0x3_0019, 8, None),
+            Move::Find(0x19, 8, None),
+            Move::Remove(3, 9),
             Move::Find(9, 0, Some(0)),
             Move::Clear,
             Move::Find(9, 0, None),
@@ -119,4 +132,14 @@ fn an_index_grows_and_is_cleared(rt: HostRuntime) -> Result<(), Fail> {
             Move::Find(9, 0, Some(0)),
         ],
     )?)
+}
+
+#[test]
+fn a_fresh_index_holds_nothing_in_as_many_shards(rt: HostRuntime) -> Result<(), Fail> {
+    let mut index = Index::new(rt.alloc(), 3)?;
+    insert(&mut index, Slot(0), Tag(5))?;
+    let fresh = index.fresh(rt.alloc())?;
+    assert!(rt; fresh.find(Tag(5), |_| true).is_none());
+    assert!(rt; fresh.into_shards().len() == 4);
+    Ok(())
 }

@@ -9,8 +9,6 @@ mod index;
 #[cfg(test)]
 mod item;
 #[cfg(test)]
-mod past;
-#[cfg(test)]
 mod readbuf;
 #[cfg(test)]
 mod sketch;

@@ -3,8 +3,8 @@
 use std::alloc::{AllocError, Global};
 use std::process::Abort;
 use std::test::Fail;
-use tc_item::hash;
-use tc_sketch::{Sketch, halve, width_of};
+use tc_item::{NoMemory, hash};
+use tc_sketch::{Sketch, SparingSketch, halve, width_of};
 
 #[test]
 fn fnv_1a_gives_its_published_values(rt: HostRuntime) {
@@ -152,4 +152,21 @@ fn the_smallest_and_the_largest_sketch_begin_empty(rt: HostRuntime) -> Result<()
     expect_apart(&rt, &mut Sketch::new(rt.alloc(), 8)?);
     expect_apart(&rt, &mut Sketch::new(rt.alloc(), 22)?);
     Ok(())
+}
+
+/// Records a hash more often than a counter tells, so that it is known to be saturated.
+fn record_often(rt: &impl Abort, sketch: &mut SparingSketch) -> Result<(), NoMemory> {
+    for _ in 0..40 {
+        sketch.record(5);
+    }
+    assert!(rt; sketch.freq(5) == 15 && sketch.copy()?.freq(5) == 15);
+    Ok(())
+}
+
+#[test]
+fn a_sparing_sketch_is_a_sketch(rt: HostRuntime) -> Result<(), Fail> {
+    let mut sketch = SparingSketch::new(rt.alloc(), 8)?;
+    let recorded = record_often(&rt, &mut sketch);
+    drop(sketch);
+    Ok(recorded?)
 }

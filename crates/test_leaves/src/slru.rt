@@ -8,7 +8,6 @@ use std::alloc::Global;
 use std::process::Abort;
 use std::test::Fail;
 use tc_item::NoMemory;
-use tc_past::Journal;
 use tc_slru::{Area, Lists, Slot};
 
 /// Far below 2^64.
@@ -16,7 +15,7 @@ const FEW: u64 = 1 << 40;
 
 /// Whether one more item keeps the sum of all weights far below 2^64.
 fn has_room(lists: &Lists, weight: u64) -> bool
-    ensures { IsTrue result → total weigh lists.now.live.areas + weight < 2 ^ 64 }
+    ensures { IsTrue result → total weigh lists.now.areas + weight < 2 ^ 64 }
 {
     let held = lists.weights();
     held.window < FEW && held.probation < FEW && held.protected < FEW && weight < FEW
@@ -70,8 +69,6 @@ enum Move {
     Remove(usize),
     /// All slots are taken out.
     Clear,
-    /// A page begins.
-    Turn,
     /// From here on the slot was seen so often.
     Seen(usize, u8),
     /// What the next settle step drops.
@@ -96,10 +93,6 @@ fn make(rt: &impl Abort, lists: &mut Lists, seen: &mut [u8], step: &Move, place:
         Move::Access(slot, weight) => access(rt, lists, *slot, *weight),
         Move::Remove(slot) => remove(rt, lists, *slot),
         Move::Clear => lists.clear(),
-        Move::Turn => {
-            lists.prepare();
-            lists.turn();
-        }
         Move::Seen(slot, times) => note(seen, *slot, *times),
         Move::Settle(gone) => {
             assert!(rt; dropped(lists, seen) == *gone, "move {place}");
@@ -124,7 +117,7 @@ fn make_all(rt: &impl Abort, lists: &mut Lists, moves: &[Move]) {
     }
 }
 
-/// Makes moves on empty lists with these limits, with the journal on and off.
+/// Makes moves on empty lists with these limits.
 fn play(
     rt: &impl Abort,
     alloc: Global,
@@ -133,11 +126,8 @@ fn play(
     protected: u64,
     moves: &[Move],
 ) -> Result<(), Fail> {
-    for journal in &[Journal::On, Journal::Off] {
-        let lists = Lists::new(alloc, window, u64::from(main), protected, *journal)?;
-        play_on(rt, lists, moves)?;
-    }
-    Ok(())
+    let lists = Lists::new(alloc, window, u64::from(main), protected)?;
+    Ok(play_on(rt, lists, moves)?)
 }
 
 /// Makes moves on these lists, which are let go of then.
@@ -367,11 +357,10 @@ fn a_removed_slot_is_free_and_weighs_nothing(rt: HostRuntime) -> Result<(), Fail
 }
 
 /// A slot in the window and one in probation, with which a page begins; then slot 0 anew.
-const CLEARED: [Move; 10] = [
+const CLEARED: [Move; 9] = [
     Move::Push(0, 20),
     Move::Push(1, 5),
     Move::Settle(None),
-    Move::Turn,
     Move::Clear,
     Move::Holds(0, false),
     Move::Holds(1, false),
@@ -401,60 +390,8 @@ fn expect_room(rt: &impl Abort, lists: &mut Lists) -> Result<(), NoMemory> {
 
 #[test]
 fn a_refused_reserve_changes_nothing(rt: HostRuntime) -> Result<(), Fail> {
-    let mut lists = Lists::new(rt.alloc(), 10, 100, 80, Journal::On)?;
+    let mut lists = Lists::new(rt.alloc(), 10, 100, 80)?;
     let asked = expect_room(&rt, &mut lists);
     drop(lists);
     Ok(asked?)
-}
-
-/// The slots of the window, by their numbers.
-fn slots_of(slots: &[Slot], want: &[usize]) -> bool {
-    slots.len() == want.len() && slots.iter().zip(want).all(|(slot, n)| slot.0 == *n)
-}
-
-/// What the window held when the page began.
-fn opened_window(
-    rt: &impl Abort,
-    alloc: Global,
-    lists: &Lists,
-    want: &[usize],
-) -> Result<(), NoMemory> {
-    let window = slots_then(alloc, lists)?;
-    assert!(rt; slots_of(&window, want));
-    Ok(())
-}
-
-/// The slots that the window held then.
-fn slots_then(alloc: Global, lists: &Lists) -> Result<Vec<Slot>, NoMemory> {
-    let opened = lists.opened(alloc)?;
-    let slots = opened.slots_in(alloc, Area::Window);
-    drop(opened);
-    slots
-}
-
-/// Pushes, pages that are prepared and turned between them, and what each page began with.
-fn turn_pages(rt: &impl Abort, alloc: Global, lists: &mut Lists) -> Result<(), NoMemory> {
-    lists.reserve(3)?;
-    push(rt, lists, 0, 20);
-    opened_window(rt, alloc, lists, &[])?;
-    lists.prepare();
-    push(rt, lists, 1, 20);
-    opened_window(rt, alloc, lists, &[])?;
-    lists.turn();
-    opened_window(rt, alloc, lists, &[0])?;
-    remove(rt, lists, 0);
-    lists.prepare();
-    push(rt, lists, 2, 20);
-    opened_window(rt, alloc, lists, &[0])?;
-    lists.prepare();
-    lists.turn();
-    opened_window(rt, alloc, lists, &[2, 1])
-}
-
-#[test]
-fn a_page_shows_what_it_began_with_until_the_next_turns(rt: HostRuntime) -> Result<(), Fail> {
-    let mut lists = Lists::new(rt.alloc(), 100, 100, 80, Journal::On)?;
-    let turned = turn_pages(&rt, rt.alloc(), &mut lists);
-    drop(lists);
-    Ok(turned?)
 }

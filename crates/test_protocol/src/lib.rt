@@ -1,6 +1,6 @@
-//! The tests of the protocol: of tc_grammar, tc_stats, tc_feed, tc_users, tc_session and tc_metrics, over
-//! their public calls alone. What no clause says is tested here: lines, streams, settings and texts
-//! made by hand, each kind of fault in its words, and each public call once with memory to spare.
+//! The tests of the protocol: of tc_grammar, tc_stats, tc_feed, tc_users and tc_session, over their public
+//! calls alone. What no clause says and no socket shows is tested here: lines, streams and counts made by
+//! hand, and public calls with memory to spare.
 #![tactic(auto)]
 
 #[cfg(test)]
@@ -9,8 +9,6 @@ mod feed;
 mod fixtures;
 #[cfg(test)]
 mod grammar;
-#[cfg(test)]
-mod metrics;
 #[cfg(test)]
 mod peeking;
 #[cfg(test)]

@@ -1,7 +1,7 @@
-//! What no clause says of outcomes, hits and counters: the rows of `stats`, counts by hand, and
-//! each call with memory to spare.
+//! What no clause says of outcomes, hits and counters: counts by hand, and each call with memory to
+//! spare. The rows of `stats` are in examples/scripts.rows.
 
-use crate::fixtures::{Found, command, expect_bytes, expect_number, hit, hits, push_hit};
+use crate::fixtures::{Found, command, expect_number, hit, hits, push_hit};
 use std::alloc::Global;
 use std::process::Abort;
 use std::test::Fail;
@@ -170,60 +170,6 @@ fn note_look_up(
 
 /// One hit.
 const ONE: [Found; 1] = [("k", "x", 0, 1)];
-
-/// The rows after a miss, a `set` of one byte and a hit.
-const ROWS: &str = "STAT version 1.0.0-partcached\r\nSTAT curr_items 1\r\nSTAT total_items 1\r\n\
-    STAT bytes 66\r\nSTAT cmd_get 2\r\nSTAT cmd_set 1\r\nSTAT cmd_flush 0\r\n\
-    STAT cmd_touch 0\r\nSTAT get_hits 1\r\nSTAT get_misses 1\r\nSTAT delete_misses 0\r\n\
-    STAT delete_hits 0\r\nSTAT incr_misses 0\r\nSTAT incr_hits 0\r\nSTAT decr_misses 0\r\n\
-    STAT decr_hits 0\r\nSTAT cas_misses 0\r\nSTAT cas_hits 0\r\nSTAT cas_badval 0\r\n\
-    STAT touch_hits 0\r\nSTAT touch_misses 0\r\nSTAT evictions 0\r\n\
-    STAT limit_maxbytes 65536\r\nSTAT item_size_max 1048576\r\nSTAT store_too_large 0\r\n";
-
-/// Counts these three.
-fn note_three(alloc: Global, counters: &mut Counters) -> Result<(), Fail> {
-    note_look_up(alloc, counters, "gets k\r\n", &[])?;
-    note(alloc, counters, "set k 0 0 1\r\nx\r\n", &Outcome::Stored)?;
-    note_look_up(alloc, counters, "gets k\r\n", &ONE)
-}
-
-/// The counters then, of a cache that holds the one item.
-fn after_three(alloc: Global) -> Result<Counters, Fail> {
-    let mut counters = Counters::new();
-    note_three(alloc, &mut counters)?;
-    counters.curr_items = 1;
-    counters.bytes = 66;
-    counters.limit_maxbytes = 65_536;
-    counters.item_size_max = 1_048_576;
-    Ok(counters)
-}
-
-/// Appends the rows, once more where memory was refused.
-fn render(counters: &Counters, out: &mut Vec<u8>) -> Result<(), NoMemory> {
-    match counters.render(out) {
-        Ok(()) => Ok(()),
-        Err(NoMemory) => counters.render(out),
-    }
-}
-
-/// Whether counters have these rows.
-fn expect_rows(
-    rt: &(impl AllocGlobal + Abort),
-    counters: &Counters,
-    want: &str,
-) -> Result<(), NoMemory> {
-    let mut out = Vec::new(rt.alloc());
-    render(counters, &mut out)?;
-    expect_bytes(rt, out.as_slice(), want.as_bytes(), "rows");
-    Ok(())
-}
-
-#[test]
-fn a_miss_a_set_and_a_hit_have_these_rows(rt: HostRuntime) -> Result<(), Fail> {
-    let counters = after_three(rt.alloc())?;
-    expect_rows(&rt, &counters, ROWS)?;
-    Ok(())
-}
 
 /// A command, what it came to, and how often.
 type Noted = (&'static str, Outcome, u32);

@@ -1,10 +1,9 @@
-//! Tests of a server that runs in threads: halls that many threads call, workers and sockets.
+//! Tests of what no socket shows of a server that runs in threads: halls that many threads call, and workers over
+//! wires in memory.
 #![tactic(auto)]
 
 #[cfg(test)]
 mod hall;
-#[cfg(test)]
-mod serving;
 #[cfg(test)]
 mod stage;
 #[cfg(test)]

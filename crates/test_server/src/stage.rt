@@ -6,7 +6,7 @@ use crate::hall::{busy, crowd, pages, refusals, scenes};
 use crate::workers::crews::{self, Hold};
 use crate::workers::deals::{self, Guests};
 use crate::workers::wires::Plan;
-use crate::workers::{backlogs, dues, guesses, moves, pressure, sips, talks, tapes};
+use crate::workers::{backlogs, dues, moves, talks, tapes};
 use std::alloc::Global;
 use std::hash::RandomState;
 use std::marker::Brand;
@@ -18,10 +18,10 @@ use std::thread::Threads;
 use std::time::Clock as Time;
 use tc_grammar::Command;
 use tc_item::Moment;
-use tc_kinds::{Journal, Kind, begin_all};
+use tc_kinds::{Kind, begin_all};
 use tc_locked::{Closed, Hall, Naming, Opened, Receipt, Seat};
 use tc_partition::Fast;
-use tc_plain::{Cache, PagedPlain};
+use tc_plain::{Cache, Journal, Plain};
 use tc_users::{Text, UserNo, UserSpec, Users};
 
 /// What is played in a hall.
@@ -45,18 +45,12 @@ pub enum Within {
     Rests,
     /// Two connections of one worker in the same turns, the second of which came to it first.
     Beside(Plan, Plan),
-    /// A client that never reads beside one that does.
-    Floods,
     /// Many connections of alice's that read late, with bob's.
     HoldsBack,
     /// Many busy connections of alice's, with bob's or without.
     Deals(Guests),
     /// Many items of alice's are due in one second.
     FallsDue,
-    /// A client that guesses tokens.
-    Guesses,
-    /// A client that reads a few bytes a call.
-    Sips,
     /// A client over a wire that knows its bytes.
     Tapes,
     /// Two users come to the worker of one.
@@ -74,8 +68,6 @@ pub enum Closing {
     FillsPage,
     /// A set and 39 gets.
     TurnsPages,
-    /// The same in a hall whose journal is off.
-    KeepsNothing,
     /// A page on which items are touched, evicted, expired and flushed.
     ChangesAll,
     /// A hundred calls by each of eight threads, beside a keeper.
@@ -98,14 +90,6 @@ fn budget_of(scene: &Scene) -> u64 {
     match scene {
         Scene::Within(Within::FallsDue) => 1_048_576,
         _ => 65_536,
-    }
-}
-
-/// Whether pages are kept in a scene.
-fn journal_of(scene: &Scene) -> Journal {
-    match scene {
-        Scene::Closing(Closing::KeepsNothing) => Journal::Off,
-        _ => Journal::On,
     }
 }
 
@@ -132,15 +116,10 @@ fn two_users(alloc: Global, budget: u64) -> Result<Users, Fail> {
     Ok(users)
 }
 
-/// Two users with empty caches of a kind and this budget, and a journal or none.
-fn begin<C: Kind>(
-    alloc: Global,
-    hasher: RandomState,
-    budget: u64,
-    keeps: Journal,
-) -> Result<Beginning<C>, Fail> {
+/// Two users with empty caches of a kind and this budget.
+fn begin<C: Kind>(alloc: Global, hasher: RandomState, budget: u64) -> Result<Beginning<C>, Fail> {
     let users = two_users(alloc, budget)?;
-    let caches = begin_all(alloc, &users, hasher, keeps)?;
+    let caches = begin_all(alloc, &users, hasher)?;
     Ok(Beginning {
         opened: Opened::new(alloc)?,
         users,
@@ -159,10 +138,11 @@ fn perform_within<
     hall: &Hall<C, N>,
     users: &Users,
     seats: &mut Vec<Seat<N>>,
+    keeps: Journal,
     scene: &Within,
 ) -> Result<(), Fail> {
     match scene {
-        Within::ReadsBack => scenes::read_back(rt, alloc, hall, first(rt, seats)),
+        Within::ReadsBack => scenes::read_back(rt, alloc, hall, first(rt, seats), keeps),
         Within::CallsLate => scenes::call_late(rt, alloc, hall, first(rt, seats)),
         Within::CallsNobody => scenes::call_nobody(rt, alloc, hall, first(rt, seats)),
         Within::Talks(one, other) => talks::talk(rt, alloc, hall, users, seats, one, other),
@@ -170,13 +150,10 @@ fn perform_within<
         Within::Beside(one, other) => {
             talks::talk_beside(rt, alloc, hall, users, seats, one, other)
         }
-        Within::Floods => pressure::serve_flood(rt, alloc, hall, users, seats),
         Within::HoldsBack => backlogs::hold(rt, alloc, hall, users, seats),
         Within::Deals(guests) => deals::deal(rt, alloc, hall, users, seats, *guests),
         Within::FallsDue => dues::fall_due(rt, alloc, hall, users, seats),
-        Within::Guesses => guesses::guess(rt, alloc, hall, users, seats),
         Within::Comes => moves::come(rt, alloc, hall, users, seats),
-        Within::Sips => sips::serve_sips(rt, alloc, hall, users, seats),
         Within::Tapes => tapes::serve_tape(rt, alloc, hall, users, seats),
         Within::Holds(hold) => crews::hold_alice(rt, alloc, hall, users, seats, *hold),
     }
@@ -194,19 +171,23 @@ fn perform<
     users: &Users,
     mut seats: Vec<Seat<N>>,
     all: usize,
+    keeps: Journal,
     scene: &Scene,
 ) -> Result<(), Fail>
     requires { all ≡ N.terms.seats }
 {
     match scene {
-        Scene::Within(scene) => perform_within(rt, alloc, &hall, users, &mut seats, scene),
+        Scene::Within(scene) => {
+            perform_within(rt, alloc, &hall, users, &mut seats, keeps, scene)
+        }
         Scene::Closing(scene) => match scene {
             Closing::ClosesTwice => scenes::close_twice(rt, alloc, hall, seats, all),
-            Closing::FillsPage => refusals::call_on_a_full_page(rt, alloc, hall, seats, all),
-            Closing::TurnsPages => pages::turn_two_pages(rt, alloc, hall, seats, all),
-            Closing::KeepsNothing => pages::keep_nothing(rt, alloc, hall, seats, all),
-            Closing::ChangesAll => busy::change_all(rt, alloc, hall, seats),
-            Closing::EightThreads => crowd::eight_threads(rt, alloc, hall, seats),
+            Closing::FillsPage => {
+                refusals::call_on_a_full_page(rt, alloc, hall, seats, all, keeps)
+            }
+            Closing::TurnsPages => pages::turn_two_pages(rt, alloc, hall, seats, all, keeps),
+            Closing::ChangesAll => busy::change_all(rt, alloc, hall, seats, keeps),
+            Closing::EightThreads => crowd::eight_threads(rt, alloc, hall, seats, keeps),
             Closing::Counts => crews::count(rt, alloc, hall, users, seats, all),
         },
     }
@@ -238,10 +219,26 @@ fn perform_on<
         caches,
     } = beginning;
     let (hall, given) = Hall::<C, N>::new(alloc, opened, &users, caches, seats, journal, keeps)?;
-    perform(rt, alloc, hall, &users, given, seats, scene)
+    perform(rt, alloc, hall, &users, given, seats, keeps, scene)
 }
 
-/// A scene over a kind of cache.
+/// A scene over a kind of cache, with a journal or none.
+fn play_once<C: Kind + Send + Sync, R: Threads + Wait + Abort + Time + Copy + Send + Sync + Drop>(
+    rt: &R,
+    alloc: Global,
+    hasher: RandomState,
+    seats: usize,
+    journal: usize,
+    keeps: Journal,
+    scene: &Scene,
+) -> Result<(), Fail>
+    requires { (0 < seats) × (0 < journal) }
+{
+    let beginning = begin::<C>(alloc, hasher, budget_of(scene))?;
+    perform_on::<C, Brand, R>(rt, alloc, beginning, seats, journal, keeps, scene)
+}
+
+/// A scene over a kind of cache, with a journal and without.
 fn play_over<C: Kind + Send + Sync, R: Threads + Wait + Abort + Time + Copy + Send + Sync + Drop>(
     rt: &R,
     alloc: Global,
@@ -252,12 +249,12 @@ fn play_over<C: Kind + Send + Sync, R: Threads + Wait + Abort + Time + Copy + Se
 ) -> Result<(), Fail>
     requires { (0 < seats) × (0 < journal) }
 {
-    let keeps = journal_of(scene);
-    let beginning = begin::<C>(alloc, hasher, budget_of(scene), keeps)?;
-    perform_on::<C, Brand, R>(rt, alloc, beginning, seats, journal, keeps, scene)
+    play_once::<C, R>(rt, alloc, hasher, seats, journal, Journal::On, scene)?;
+    play_once::<C, R>(rt, alloc, hasher, seats, journal, Journal::Off, scene)
 }
 
-/// A scene over each kind of cache, in a hall of so many seats and with so many entries a page.
+/// A scene over each kind of cache, with a journal and without, in a hall of so many seats and with so many
+/// entries a page.
 pub fn play<R: Threads + Wait + Abort + Time + RandomSource + Copy + Send + Sync + Drop>(
     rt: &R,
     alloc: Global,
@@ -268,11 +265,11 @@ pub fn play<R: Threads + Wait + Abort + Time + RandomSource + Copy + Send + Sync
     requires { (0 < seats) × (0 < journal) }
 {
     let hasher = RandomState::new(rt)?;
-    play_over::<PagedPlain, R>(rt, alloc, hasher, seats, journal, &scene)?;
+    play_over::<Plain, R>(rt, alloc, hasher, seats, journal, &scene)?;
     play_over::<Fast, R>(rt, alloc, hasher, seats, journal, &scene)
 }
 
-/// A scene over the fast cache alone.
+/// A scene over the fast cache alone, with a journal and without.
 pub fn play_fast<R: Threads + Wait + Abort + Time + RandomSource + Copy + Send + Sync + Drop>(
     rt: &R,
     alloc: Global,

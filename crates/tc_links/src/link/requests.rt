@@ -58,7 +58,7 @@ impl<W: Wire + Drop> Link<W> {
             return true;
         }
         // No lock is held while a socket is touched.
-        lease.release(service.alloc);
+        lease.release();
         self.send()
     }
 

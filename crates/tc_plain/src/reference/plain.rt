@@ -5,21 +5,19 @@ ghost use Rattle.tc_plain.specs.EvictionState.{held};
 ghost use Rattle.tc_plain.specs.UserCache.{fresh, advance};
 ghost use Rattle.tc_plain.specs.Storing.{stored};
 ghost use Rattle.tc_plain.specs.Doing.{counted_under};
-ghost use Rattle.tc_plain.specs.Then.{no_past};
 ghost use Rattle.tc_plain.specs.Plans.{outcome_of, planned, IsLightPlan};
 
 use crate::shared::acted::keep_hits;
-use crate::shared::commands::Commands;
+use crate::shared::commands::{Commands, act};
 use crate::shared::end::End;
 use crate::shared::offers::{Bid, offer};
 use crate::shared::plans::{Plan, plan_count, plan_item};
-use crate::{Acted, Areas, EvictionState, Limits};
+use crate::{Acted, Areas, Cache, EvictionState, Journal, Limits, Progress};
 use std::alloc::Global;
 use std::marker::Model;
 use tc_grammar::{Command, Head, Way};
 use tc_item::exptime::due;
 use tc_item::{Blob, Due, Key, Moment, NoMemory};
-use tc_past::Journal;
 use tc_sketch::{Sketch, width_of};
 use tc_stats::{Counters, Outcome};
 
@@ -172,8 +170,6 @@ impl Commands for Plain {
 
     ghost is_sound = { λ p. ⊤ };
 
-    ghost then = { λ p. no_past };
-
     fn advance(&mut self, now: Moment) {
         self.live.advance(now);
     }
@@ -259,5 +255,32 @@ impl Commands for Plain {
 
     fn note(&mut self, command: &Command, outcome: &Outcome) {
         self.counters.note(command, outcome);
+    }
+}
+
+impl Cache for Plain {
+    ghost settled = { λ p. p };
+
+    fn act(
+        &mut self,
+        alloc: Global,
+        now: Moment,
+        command: &Command,
+        keep: Journal,
+    ) -> Result<Acted, NoMemory> {
+        act(self, alloc, now, command, keep)
+    }
+
+    fn maintain(&mut self, now: Moment, _limit: u32) -> Progress {
+        self.advance(now);
+        Progress::Done
+    }
+
+    fn read_ahead(&self, _hashes: &[u64]) {
+        let _ = &self.live;
+    }
+
+    fn freeze(&self, alloc: Global) -> Result<Plain, NoMemory> {
+        self.copy(alloc)
     }
 }

@@ -3,10 +3,9 @@ ghost use Rattle.std.specs.Prelude.{◌≡◌, IfOk};
 ghost use Rattle.tc_stats.specs.declared.outcome.Outcome.TheVariants.{Values, Stats, Done};
 ghost use Rattle.tc_plain.specs.Keeping.{kept_by};
 
-use crate::KeptOutcome;
+use crate::{Journal, KeptOutcome};
 use std::alloc::Global;
 use tc_item::NoMemory;
-use tc_past::Journal;
 use tc_stats::{Counters, Hits, Outcome, Statistics};
 
 /// What a command came to: the outcome to answer, and the same once more to keep, where the journal is

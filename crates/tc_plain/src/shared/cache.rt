@@ -1,25 +1,18 @@
 //! The law that every cache keeps.
-ghost use Rattle.std.specs.Prelude.{◌≡◌, IfOk, OnOk, OnErr};
+ghost use Rattle.std.specs.Prelude.{◌≡◌, IfOk, OnErr};
 ghost use Rattle.tc_plain.specs.UserCache.{UserCache, advance};
 ghost use Rattle.tc_plain.specs.Doing.{act};
 ghost use Rattle.tc_plain.specs.Keeping.{IsActed};
 
-use crate::{Acted, LeftOver, Plain, Progress};
+use crate::{Acted, Journal, Plain, Progress};
 use std::alloc::Global;
 use tc_grammar::Command;
 use tc_item::{Moment, NoMemory};
-use tc_past::Journal;
 
-/// One user's cache, however it is kept, and what it stood for when its page began.
+/// One user's cache, however it is kept. It knows nothing of what it stood for before.
 pub trait Cache: Drop {
     /// The state that it stands for once all deferred work is done.
     ghost settled: { Self → UserCache };
-
-    /// The state that it stood for when its page began.
-    ghost opened: { Self → UserCache };
-
-    /// The state that its next page begins with, once the page is turned.
-    ghost next: { Self → UserCache };
 
     /// Does one command, at this moment or at the cache's own where that is later. The outcome is
     /// given once to answer, and once more to keep where `keep` says so (`IsActed`). All memory is taken before
@@ -33,17 +26,13 @@ pub trait Cache: Drop {
     ) -> Result<Acted, NoMemory>
         ensures acted { IfOk result (λ r. IsActed keep
             (act (settled self.old) now command.now) r (settled self.new)) }
-        ensures unchanged_on_err { OnErr result (settled self.new ≡ settled self.old) }
-        ensures opening { opened self.new ≡ opened self.old }
-        ensures next { next self.new ≡ next self.old };
+        ensures unchanged_on_err { OnErr result (settled self.new ≡ settled self.old) };
 
     /// Does deferred work, at most `limit` pieces of it as the cache counts them: it comes to the
     /// moment, and nothing else of what it stands for changes. Whether it stopped at the limit shows
     /// nowhere else: it is no part of what the cache stands for.
     fn maintain(&mut self, now: Moment, limit: u32) -> Progress
-        ensures advanced { settled self.new ≡ advance (settled self.old) now }
-        ensures opening { opened self.new ≡ opened self.old }
-        ensures next { next self.new ≡ next self.old };
+        ensures advanced { settled self.new ≡ advance (settled self.old) now };
 
     /// Reads what look-ups of keys of these hashes (`tc_item::hash`) are going to read, so that they wait
     /// for memory together. It gives nothing, and changes nothing.
@@ -52,23 +41,4 @@ pub trait Cache: Drop {
     /// A copy of what the cache stands for.
     fn freeze(&self, alloc: Global) -> Result<Plain, NoMemory>
         ensures settled { IfOk result (λ plain. plain ≡ settled self.now) };
-
-    /// Takes the memory of a turn, after which the next page begins with what the cache stands for now,
-    /// whatever is done before the turn. It may be called again in place of a turn. Look-ups that wait
-    /// are done first, which nobody sees.
-    fn prepare(&mut self, alloc: Global) -> Result<(), NoMemory>
-        ensures state { settled self.new ≡ settled self.old }
-        ensures opening { opened self.new ≡ opened self.old }
-        ensures next { OnOk result (next self.new ≡ settled self.old) };
-
-    /// Turns the page: it begins with what was prepared, if anything was. It takes no memory and gives
-    /// none back.
-    fn turn(&mut self) -> LeftOver
-        ensures state { settled self.new ≡ settled self.old }
-        ensures opening { opened self.new ≡ next self.old }
-        ensures next { next self.new ≡ next self.old };
-
-    /// What the page began with, as lists.
-    fn opening(&self, alloc: Global) -> Result<Plain, NoMemory>
-        ensures opening { IfOk result (λ plain. plain ≡ opened self.now) };
 }

@@ -4,8 +4,7 @@ ghost use Rattle.tc_stats.specs.declared.outcome.Outcome.TheVariants.{Done};
 ghost use Rattle.tc_plain.specs.Keeping.{kept_by};
 ghost use Rattle.tc_plain.specs.Plans.{outcome_of};
 
-use crate::{Acted, KeptOutcome};
-use tc_past::Journal;
+use crate::{Acted, Journal, KeptOutcome};
 use tc_stats::Outcome;
 
 /// How a command ends that shows no item: an outcome that takes no memory.

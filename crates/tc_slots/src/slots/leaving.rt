@@ -11,14 +11,9 @@ ghost use Rattle.tc_plain.specs.declared.shared.entry.Entry.{Entry};
 ghost use Rattle.tc_slots.specs.Held.{filled, DropsEntry};
 
 use crate::slots::Slots;
-use crate::steps::{drop_next, empty_all, vacate};
+use crate::steps::{drop_next, vacate};
 use tc_item::{Key, Moment, Slot};
-use tc_sketch::PastSketch;
-use tc_slru::Area;
-
-/// Entries are few where they are less than one in so many slots: to take one out alone costs about what it
-/// costs to pass so many.
-const FEW_OF: usize = 32;
+use tc_sketch::SparingSketch;
 
 impl Slots {
     /// Takes a slot's entry out.
@@ -29,10 +24,8 @@ impl Slots {
             → self.new.areas ≡ without_key e.key self.old.areas }
         ensures slots { self.new.slots ≡ slice_set self.old.slots slot.0 None }
         ensures room { self.old.has_room ≡ true → self.new.has_room ≡ true }
-        ensures then { self.new.then ≡ self.old.then }
-        ensures spare { self.old.spare ≤ self.new.spare }
     {
-        vacate(&mut self.index, &mut self.entries, &mut self.log, slot);
+        vacate(&mut self.index, &self.hasher, &mut self.entries, slot);
         self.lists.remove(slot);
         self.wheel.remove(slot);
     }
@@ -43,8 +36,6 @@ impl Slots {
         ensures areas { self.new.areas ≡ without_key key.now self.old.areas }
         ensures limits { self.new.limits ≡ self.old.limits }
         ensures room { self.old.has_room ≡ true → self.new.has_room ≡ true }
-        ensures then { self.new.then ≡ self.old.then }
-        ensures spare { self.old.spare ≤ self.new.spare }
     {
         match self.find(key) {
             Some(slot) => {
@@ -55,80 +46,43 @@ impl Slots {
         }
     }
 
-    /// Takes the entries of a list out one by one, if there is memory to tell them.
-    fn empty_area(&mut self, area: Area)
-        ensures limits { self.new.limits ≡ self.old.limits }
-        ensures room { self.old.has_room ≡ true → self.new.has_room ≡ true }
-        ensures then { self.new.then ≡ self.old.then }
-        ensures spare { self.old.spare ≤ self.new.spare }
-    {
-        let alloc = self.index.allocator();
-        let Ok(slots) = self.lists.slots_in(alloc, area) else {
-            return;
-        };
-        for slot in &slots {
-            if self.entry(*slot).is_some() {
-                self.empty(*slot);
-            }
-        }
-    }
-
-    /// Takes entries out one by one.
-    fn empty_each(&mut self)
-        ensures limits { self.new.limits ≡ self.old.limits }
-        ensures room { self.old.has_room ≡ true → self.new.has_room ≡ true }
-        ensures then { self.new.then ≡ self.old.then }
-        ensures spare { self.old.spare ≤ self.new.spare }
-    {
-        self.empty_area(Area::Window);
-        self.empty_area(Area::Probation);
-        self.empty_area(Area::Protected);
-    }
-
-    /// Takes all entries out, each of the four in one pass. Where the journal is off, their memory is given
-    /// back later, few with each change.
-    fn clear_whole(&mut self)
+    /// Takes all entries out, each of the four in one pass, and lets go of them.
+    fn clear_in_place(&mut self)
         ensures limits { self.new.limits ≡ self.old.limits }
         ensures areas { self.new.areas ≡ no_entries }
         ensures room { self.old.has_room ≡ true → self.new.has_room ≡ true }
-        ensures then { self.new.then ≡ self.old.then }
-        ensures spare { self.old.spare ≤ self.new.spare }
     {
         self.index.clear();
-        empty_all(&mut self.entries, &mut self.log, self.wheel.slots());
         self.entries.clear();
         self.lists.clear();
         self.wheel.clear();
     }
 
-    /// Takes all entries out: one by one where few of the slots hold one, so that it costs what is held.
+    /// Takes all entries out: new tables are in use from now on, and what was held is let go of later. Where memory is
+    /// refused for that, all goes at once.
     pub fn clear(&mut self)
         ensures limits { self.new.limits ≡ self.old.limits }
         ensures areas { self.new.areas ≡ no_entries }
         ensures room { self.old.has_room ≡ true → self.new.has_room ≡ true }
-        ensures then { self.new.then ≡ self.old.then }
-        ensures spare { self.old.spare ≤ self.new.spare }
     {
-        if self.count() < self.wheel.slots() / FEW_OF {
-            self.empty_each();
-        }
         if self.count() > 0 {
-            self.clear_whole();
+            match self.begin_anew() {
+                Ok(()) => {}
+                Err(_) => self.clear_in_place(),
+            }
         }
     }
 
     /// Drops the next entry that settle drops, and says whether there was one.
-    pub fn settle_next(&mut self, sketch: &PastSketch) -> bool
+    pub fn settle_next(&mut self, sketch: &SparingSketch) -> bool
         ensures limits { self.new.limits ≡ self.old.limits }
-        ensures next { DropsEntry result sketch.now.live self.old self.new }
+        ensures next { DropsEntry result sketch.now self.old self.new }
         ensures fewer { result ≡ true → filled self.new.slots + 1 ≡ filled self.old.slots }
         ensures room { self.old.has_room ≡ true → self.new.has_room ≡ true }
-        ensures then { self.new.then ≡ self.old.then }
-        ensures spare { self.old.spare ≤ self.new.spare }
     {
         match drop_next(&mut self.lists, &self.entries, sketch) {
             Some(victim) => {
-                vacate(&mut self.index, &mut self.entries, &mut self.log, victim);
+                vacate(&mut self.index, &self.hasher, &mut self.entries, victim);
                 self.wheel.remove(victim);
                 true
             }
@@ -137,15 +91,13 @@ impl Slots {
     }
 
     /// Brings each area within its limit, and counts each entry that is dropped.
-    pub fn settle(&mut self, sketch: &PastSketch, mut evictions: u64) -> u64
+    pub fn settle(&mut self, sketch: &SparingSketch, mut evictions: u64) -> u64
         ensures areas { self.new.areas ≡ (settle weight
-            (frequency_in sketch.now.live) self.old.limits self.old.areas).areas }
+            (frequency_in sketch.now) self.old.limits self.old.areas).areas }
         ensures counted { result ≡ more evictions (length (settle weight
-            (frequency_in sketch.now.live) self.old.limits self.old.areas).dropped) }
+            (frequency_in sketch.now) self.old.limits self.old.areas).dropped) }
         ensures limits { self.new.limits ≡ self.old.limits }
         ensures room { self.old.has_room ≡ true → self.new.has_room ≡ true }
-        ensures then { self.new.then ≡ self.old.then }
-        ensures spare { self.old.spare ≤ self.new.spare }
     {
         while self.settle_next(sketch) {
             evictions = evictions.saturating_add(1);
@@ -164,13 +116,11 @@ impl Slots {
         ensures sound { (limits : AreaLimits) → AreSound limits self.old.areas
             → AreSound limits self.new.areas }
         ensures room { self.old.has_room ≡ true → self.new.has_room ≡ true }
-        ensures then { self.new.then ≡ self.old.then }
-        ensures spare { self.old.spare ≤ self.new.spare }
     {
         let _seconds = moment.seconds();
         match self.wheel.advance(moment) {
             Some(due) => {
-                vacate(&mut self.index, &mut self.entries, &mut self.log, due);
+                vacate(&mut self.index, &self.hasher, &mut self.entries, due);
                 self.lists.remove(due);
                 true
             }
@@ -185,8 +135,6 @@ impl Slots {
         ensures alive { (n : ℕ) (e : Entry) → slice_index_or self.old.slots n None ≡ Some e
             → lives moment e ≡ true → slice_index_or self.new.slots n None ≡ Some e }
         ensures room { self.old.has_room ≡ true → self.new.has_room ≡ true }
-        ensures then { self.new.then ≡ self.old.then }
-        ensures spare { self.old.spare ≤ self.new.spare }
     {
         while self.expire_next(moment) {}
     }

@@ -115,11 +115,11 @@ impl<W: Wire + Drop, N: Naming> Worker<W, N> {
     fn do_all<'a, R: Wait, C: Cache, G: Gate>(&mut self, service: &Service<'a, R, C, N, G>)
         ensures serves { Serves (16 * self.old.due) service.now.users.now self.old self.new }
     {
-        let mut lease = Lease::none(service.alloc);
+        let mut lease = Lease::none();
         for at in 0..self.listed.len() {
             self.visit(service, &mut lease, at);
         }
-        lease.release(service.alloc);
+        lease.release();
     }
 
     /// The second part of the turn of the connection at a place of the list, before which memory is read ahead

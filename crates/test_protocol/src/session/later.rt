@@ -45,7 +45,7 @@ fn find_later(
 #[test]
 fn replies_that_are_written_later_keep_their_order(rt: HostRuntime) -> Result<(), Fail> {
     let users = users(rt.alloc())?;
-    let mut session = opened(rt.alloc(), &users, true)?;
+    let mut session = opened(rt.alloc(), &users)?;
     expect_order(&rt, &mut session, &users)
 }
 
@@ -69,7 +69,7 @@ fn expect_order(
 #[test]
 fn a_reply_that_is_written_later_waits_to_be_sent(rt: HostRuntime) -> Result<(), Fail> {
     let users = users(rt.alloc())?;
-    let mut session = opened(rt.alloc(), &users, true)?;
+    let mut session = opened(rt.alloc(), &users)?;
     expect_settled(&rt, &mut session, &users)
 }
 

@@ -50,7 +50,7 @@ fn expect_each_refused(
     replies: &[Reply],
 ) -> Result<(), NoMemory> {
     for reply in replies {
-        let mut session = opened(rt.alloc(), users, true)?;
+        let mut session = opened(rt.alloc(), users)?;
         expect_refused(rt, &mut session, users, reply)?;
     }
     Ok(())
@@ -80,7 +80,7 @@ fn expect_declined(
     users: &Users,
     reply: &Reply,
 ) -> Result<(), NoMemory> {
-    let mut session = opened(rt.alloc(), users, true)?;
+    let mut session = opened(rt.alloc(), users)?;
     expect_passed_over(rt, &mut session, reply)?;
     expect_behind(rt, &mut session, users, reply.0)
 }
@@ -140,7 +140,7 @@ fn a_declined_command_is_passed_over_and_its_refusal_said(rt: HostRuntime) -> Re
 #[test]
 fn a_request_that_is_not_whole_is_not_declined(rt: HostRuntime) -> Result<(), Fail> {
     let users = users(rt.alloc())?;
-    let mut session = opened(rt.alloc(), &users, true)?;
+    let mut session = opened(rt.alloc(), &users)?;
     expect_kept(&rt, &mut session)?;
     Ok(())
 }
@@ -156,7 +156,7 @@ fn expect_kept(rt: &(impl AllocGlobal + Abort), session: &mut Session) -> Result
 /// Asks for the next request, whether or not memory was refused to it before.
 fn expect_asked(rt: &(impl AllocGlobal + Abort), is_retry: bool) -> Result<(), Fail> {
     let users = users(rt.alloc())?;
-    let mut session = opened(rt.alloc(), &users, true)?;
+    let mut session = opened(rt.alloc(), &users)?;
     let want = asked(rt.alloc(), &mut session, &users, is_retry)?;
     expect_wanted(rt, want, Wanted::Alices, "asked");
     Ok(())

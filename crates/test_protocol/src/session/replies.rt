@@ -1,11 +1,11 @@
-//! The replies to each outcome. Texts are by hand from the protocol's text.
+//! The replies to outcomes that no script comes to. Texts are by hand from the protocol's text.
 ghost use Rattle.std.specs.Prelude.{◌≡◌, ◌≤◌, true};
 ghost use Rattle.tc_session.specs.Replies.{can_end};
 
 use super::{expect_out, expect_wanted, next, opened, push, wanted, wanted_of};
 use crate::fixtures::users;
-use crate::session::table::{COUNTERS, FOUND, LOOK_UPS, MISS, REPLIES, Reply, STATS, Wanted};
-use crate::stats::{look_up, stats_of};
+use crate::session::table::{FOUND, LOOK_UPS, Reply, WORN, Wanted};
+use crate::stats::look_up;
 use std::process::Abort;
 use std::test::Fail;
 use tc_grammar::Command;
@@ -89,40 +89,14 @@ fn expect_each_reply(
     replies: &[Reply],
 ) -> Result<(), NoMemory> {
     for reply in replies {
-        let mut session = opened(rt.alloc(), users, true)?;
+        let mut session = opened(rt.alloc(), users)?;
         expect_reply(rt, &mut session, users, outcome, reply)?;
     }
     Ok(())
 }
 
-/// A command, what it came to, and the reply.
-type Answer = (&'static str, Outcome, &'static str);
-
-fn expect_each_answer(
-    rt: &(impl AllocGlobal + Abort),
-    users: &Users,
-    rows: &[Answer],
-) -> Result<(), NoMemory> {
-    for (said, outcome, reply) in rows {
-        expect_each_reply(rt, users, outcome, &[(*said, *reply)])?;
-    }
-    Ok(())
-}
-
-/// The same, each on a connection of alice's own.
-fn expect_answers(rt: &(impl AllocGlobal + Abort), rows: &[Answer]) -> Result<(), Fail> {
-    let users = users(rt.alloc())?;
-    expect_each_answer(rt, &users, rows)?;
-    Ok(())
-}
-
-#[test]
-fn each_outcome_has_its_reply(rt: HostRuntime) -> Result<(), Fail> {
-    expect_answers(&rt, &REPLIES)
-}
-
-/// The replies to an outcome that holds something.
-fn expect_long_replies(
+/// The replies to an outcome.
+fn expect_replies(
     rt: &(impl AllocGlobal + Abort),
     outcome: &Outcome,
     replies: &[Reply],
@@ -133,16 +107,11 @@ fn expect_long_replies(
 }
 
 #[test]
+fn used_up_cas_numbers_are_told(rt: HostRuntime) -> Result<(), Fail> {
+    expect_replies(&rt, &Outcome::CasWorn, &WORN)
+}
+
+#[test]
 fn hits_are_shown_in_order_with_cas_numbers_where_asked(rt: HostRuntime) -> Result<(), Fail> {
-    expect_long_replies(&rt, &look_up(rt.alloc(), &FOUND)?, &LOOK_UPS)
-}
-
-#[test]
-fn a_look_up_that_finds_nothing_is_answered_with_the_end(rt: HostRuntime) -> Result<(), Fail> {
-    expect_long_replies(&rt, &look_up(rt.alloc(), &[])?, &MISS)
-}
-
-#[test]
-fn stats_shows_the_rows_and_the_end(rt: HostRuntime) -> Result<(), Fail> {
-    expect_long_replies(&rt, &stats_of(rt.alloc(), &COUNTERS)?, &STATS)
+    expect_replies(&rt, &look_up(rt.alloc(), &FOUND)?, &LOOK_UPS)
 }

@@ -168,7 +168,7 @@ fn expect_replies(
 ) -> Result<(), Fail> {
     let users = users(rt.alloc())?;
     let outcome = found(rt.alloc(), names, 16_384)?;
-    let mut session = opened(rt.alloc(), &users, true)?;
+    let mut session = opened(rt.alloc(), &users)?;
     expect_twice(rt, &mut session, &users, lines, &outcome, sendings)?;
     Ok(())
 }
@@ -200,7 +200,7 @@ fn large_data_is_sent_from_where_it_lies(rt: HostRuntime) -> Result<(), Fail> {
 #[test]
 fn smaller_data_is_shared_where_a_reply_is_long(rt: HostRuntime) -> Result<(), Fail> {
     let users = users(rt.alloc())?;
-    let mut session = opened(rt.alloc(), &users, true)?;
+    let mut session = opened(rt.alloc(), &users)?;
     expect_long(&rt, &mut session, &users)
 }
 

@@ -9,7 +9,7 @@ use std::sync::Wait;
 use std::test::*;
 use tc_grammar::Command;
 use tc_locked::{Hall, Naming, Seat};
-use tc_plain::Cache;
+use tc_plain::{Cache, Journal};
 use tc_stats::Outcome;
 
 /// What is asked of a key.
@@ -145,10 +145,11 @@ pub fn change_all<C: Cache, N: Naming, R: Wait + Abort>(
     alloc: Global,
     hall: Hall<C, N>,
     mut seats: Vec<Seat<N>>,
+    keeps: Journal,
 ) -> Result<(), Fail> {
     do_pages(rt, alloc, &hall, first(rt, &mut seats))?;
     let closed = closed(rt, hall, seats);
-    assert!(rt; has_page(alloc, &closed, 1, SECOND.len())?);
+    assert!(rt; has_page(alloc, &closed, keeps, 1, SECOND.len())?);
     Ok(())
 }
 

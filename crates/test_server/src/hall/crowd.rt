@@ -10,15 +10,24 @@ use std::test::*;
 use std::thread::{self, Threads};
 use tc_grammar::{Command, Form};
 use tc_item::Moment;
-use tc_locked::{Closed, Hall, Naming, Receipt, Seat};
-use tc_plain::Cache;
+use tc_locked::{Closed, Hall, Naming, Receipt, Seat, Unread};
+use tc_plain::{Cache, Journal};
 use tc_users::UserNo;
 
-/// A seat, and the receipts of what it called.
+/// A seat, what it calls, and the receipts of its calls.
 #[derive(Drop)]
 struct Work<N: Naming> {
     seat: Seat<N>,
+    commands: Vec<Command>,
     receipts: Vec<Receipt<N>>,
+}
+
+/// What a thread does.
+#[derive(Drop)]
+enum Job<N: Naming> {
+    /// It maintains both users.
+    Keeps,
+    Calls(Work<N>),
 }
 
 #[test]
@@ -37,10 +46,30 @@ pub fn eight_threads<
     C: Cache + Send + Sync,
     N: Naming + Send + Sync,
     R: Threads + Wait + Abort + Sync,
->(rt: &R, alloc: Global, hall: Hall<C, N>, seats: Vec<Seat<N>>) -> Result<(), Fail> {
-    let commands = five_commands(alloc)?;
-    let works = beside_a_keeper(rt, alloc, &hall, seats, &commands)?;
-    close_with_works(rt, alloc, hall, works, &commands)
+>(
+    rt: &R,
+    alloc: Global,
+    hall: Hall<C, N>,
+    seats: Vec<Seat<N>>,
+    keeps: Journal,
+) -> Result<(), Fail> {
+    let jobs = do_all(rt, alloc, &hall, jobs_of(alloc, seats)?)?;
+    close_with_jobs(rt, alloc, hall, jobs, keeps)
+}
+
+/// A keeper's job, and one for each seat.
+fn jobs_of<N: Naming>(alloc: Global, seats: Vec<Seat<N>>) -> Result<Vec<Job<N>>, Fail> {
+    let mut jobs = Vec::new(alloc);
+    jobs.push(Job::Keeps)?;
+    for seat in seats {
+        let work = Work {
+            seat,
+            commands: five_commands(alloc)?,
+            receipts: Vec::new(alloc),
+        };
+        jobs.push(Job::Calls(work))?;
+    }
+    Ok(jobs)
 }
 
 fn five_commands(alloc: Global) -> Result<Vec<Command>, Fail> {
@@ -53,41 +82,30 @@ fn five_commands(alloc: Global) -> Result<Vec<Command>, Fail> {
     Ok(commands)
 }
 
-fn beside_a_keeper<
-    C: Cache + Send + Sync,
-    N: Naming + Send + Sync,
-    R: Threads + Wait + Abort + Sync,
->(
+/// Does each job in a thread of its own.
+fn do_all<C: Cache + Send + Sync, N: Naming + Send + Sync, R: Threads + Wait + Abort + Sync>(
     rt: &R,
     alloc: Global,
     hall: &Hall<C, N>,
-    seats: Vec<Seat<N>>,
-    commands: &[Command],
-) -> Result<Vec<Work<N>>, AllocError> {
-    let (works, ()) = thread::join(
-        rt,
-        || call_in_threads(rt, alloc, hall, seats, commands),
-        || keep(rt, hall),
-    );
-    works
+    jobs: Vec<Job<N>>,
+) -> Result<Vec<Job<N>>, AllocError> {
+    thread::map_vec(rt, jobs, &|job| do_one(rt, alloc, hall, job))
 }
 
-fn call_in_threads<
-    C: Cache + Send + Sync,
-    N: Naming + Send + Sync,
-    R: Threads + Wait + Abort + Sync,
->(
+/// Does a job, and gives it back with what came of it.
+fn do_one<C: Cache, N: Naming, R: Wait + Abort>(
     rt: &R,
     alloc: Global,
     hall: &Hall<C, N>,
-    seats: Vec<Seat<N>>,
-    commands: &[Command],
-) -> Result<Vec<Work<N>>, AllocError> {
-    thread::map_vec(
-        rt,
-        seats,
-        &|seat| { hundred_calls(rt, alloc, hall, seat, commands) },
-    )
+    job: Job<N>,
+) -> Job<N> {
+    match job {
+        Job::Keeps => {
+            keep(rt, hall);
+            Job::Keeps
+        }
+        Job::Calls(work) => Job::Calls(call_often(rt, alloc, hall, work)),
+    }
 }
 
 /// A thousand maintenances of both users, of limits 0 to 3.
@@ -98,84 +116,97 @@ fn keep<C: Cache, N: Naming, R: Wait>(rt: &R, hall: &Hall<C, N>) {
 }
 
 /// Makes all commands twenty times, by turns on two users.
-fn hundred_calls<C: Cache, N: Naming, R: Wait + Abort>(
+fn call_often<C: Cache, N: Naming, R: Wait + Abort>(
     rt: &R,
     alloc: Global,
     hall: &Hall<C, N>,
-    seat: Seat<N>,
-    commands: &[Command],
+    work: Work<N>,
 ) -> Work<N> {
-    let receipts = Vec::new(alloc);
-    let mut work = Work { seat, receipts };
+    let Work {
+        mut seat,
+        commands,
+        mut receipts,
+    } = work;
     for round in 0..20 {
-        for command in commands {
-            work_on(rt, alloc, hall, &mut work, 1 + round % 2, command);
+        for command in &commands {
+            let receipt = call_once(rt, alloc, hall, &mut seat, 1 + round % 2, command);
+            let is_kept = receipts.push(receipt).is_ok();
+            assert!(rt; is_kept);
         }
     }
-    work
+    Work {
+        seat,
+        commands,
+        receipts,
+    }
 }
 
-fn work_on<C: Cache, N: Naming, R: Wait + Abort>(
+fn call_once<C: Cache, N: Naming, R: Wait + Abort>(
     rt: &R,
     alloc: Global,
     hall: &Hall<C, N>,
-    work: &mut Work<N>,
+    seat: &mut Seat<N>,
     user: u32,
     command: &Command,
-) {
-    let user = UserNo::new(user);
-    let seat = &mut work.seat;
-    let Ok(receipt) = hall.call(rt, alloc, seat, user, Moment::new(5), 1, command) else {
-        panic!(rt; "refused")
-    };
-    let is_kept = work.receipts.push(receipt).is_ok();
-    assert!(rt; is_kept);
+) -> Receipt<N> {
+    match hall.call(
+        rt,
+        alloc,
+        seat,
+        UserNo::new(user),
+        Moment::new(5),
+        1,
+        command,
+    ) {
+        Ok(receipt) => receipt,
+        Err(_) => panic!(rt; "refused"),
+    }
 }
 
-fn close_with_works<C: Cache, N: Naming, R: Abort>(
+/// Each receipt has its entry, and each user's page has half of the entries, which lead to their outcomes.
+fn close_with_jobs<C: Cache, N: Naming, R: Abort>(
     rt: &R,
     alloc: Global,
     hall: Hall<C, N>,
-    works: Vec<Work<N>>,
-    commands: &[Command],
+    jobs: Vec<Job<N>>,
+    keeps: Journal,
 ) -> Result<(), Fail> {
-    let (seats, receipts) = parted(alloc, works)?;
+    let (seats, receipts) = parted(alloc, jobs)?;
     let closed = closed(rt, hall, seats);
-    has_all_entries(rt, &closed, &receipts, commands);
-    assert!(rt; has_pages(alloc, &closed)?);
+    has_all_entries(rt, &closed, keeps, &receipts, &five_commands(alloc)?);
+    assert!(rt; has_page(alloc, &closed, keeps, 1, 400)?);
+    assert!(rt; has_page(alloc, &closed, keeps, 2, 400)?);
     Ok(())
 }
 
 /// The seats, and the receipts of each.
 fn parted<N: Naming>(
     alloc: Global,
-    works: Vec<Work<N>>,
+    jobs: Vec<Job<N>>,
 ) -> Result<(Vec<Seat<N>>, Vec<Vec<Receipt<N>>>), Fail> {
     let mut seats = Vec::new(alloc);
     let mut receipts = Vec::new(alloc);
-    for work in works {
-        seats.push(work.seat)?;
-        receipts.push(work.receipts)?;
+    for job in jobs {
+        if let Job::Calls(work) = job {
+            seats.push(work.seat)?;
+            receipts.push(work.receipts)?;
+        }
     }
     Ok((seats, receipts))
-}
-
-/// Whether each user's page has half of the entries, which lead to their outcomes.
-fn has_pages<C: Cache, N: Naming>(alloc: Global, closed: &Closed<C, N>) -> Result<bool, Fail> {
-    Ok(has_page(alloc, closed, 1, 400)? && has_page(alloc, closed, 2, 400)?)
 }
 
 /// Each of eight hundred receipts has its entry.
 fn has_all_entries<C: Cache, N: Naming, R: Abort>(
     rt: &R,
     closed: &Closed<C, N>,
+    keeps: Journal,
     receipts: &[Vec<Receipt<N>>],
     commands: &[Command],
 ) {
     assert!(rt; receipts.len() == 8);
     for of_seat in receipts {
         assert!(rt; of_seat.len() == 100);
-        assert!(rt; has_entries(closed, of_seat, commands));
+        assert!(rt; has_entries(closed, keeps, of_seat, commands));
         assert!(rt; are_in_order(of_seat, 1) && are_in_order(of_seat, 2));
     }
 }
@@ -198,12 +229,13 @@ fn are_in_order<N: Naming>(receipts: &[Receipt<N>], user: u32) -> bool {
 /// Whether each receipt of a seat has its entry, with the command that it made and its outcome.
 fn has_entries<C: Cache, N: Naming>(
     closed: &Closed<C, N>,
+    keeps: Journal,
     receipts: &[Receipt<N>],
     commands: &[Command],
 ) -> bool {
     for round in receipts.chunks(5) {
         for (receipt, command) in round.iter().zip(commands) {
-            if !is_entered(closed, receipt, command) {
+            if !is_entered(closed, keeps, receipt, command) {
                 return false;
             }
         }
@@ -211,14 +243,21 @@ fn has_entries<C: Cache, N: Naming>(
     true
 }
 
+/// Whether a receipt has its entry, with this command and its outcome, which without a journal can't be
+/// read.
 fn is_entered<C: Cache, N: Naming>(
     closed: &Closed<C, N>,
+    keeps: Journal,
     receipt: &Receipt<N>,
     command: &Command,
 ) -> bool {
     match closed.entry_of(receipt) {
-        Ok(Some(entry)) => *entry.command.get() == *command
-            && entry.outcome == receipt.slip.outcome,
-        Ok(None) | Err(_) => false,
+        Ok(Some(entry)) => {
+            keeps == Journal::On
+                && *entry.command.get() == *command
+                && entry.outcome == receipt.slip.outcome
+        }
+        Ok(None) => false,
+        Err(unread) => keeps == Journal::Off && unread == Unread::Off,
     }
 }

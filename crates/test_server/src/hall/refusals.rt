@@ -11,7 +11,7 @@ use std::test::*;
 use tc_grammar::Command;
 use tc_item::Moment;
 use tc_locked::{CallFault, Hall, Naming, Seat};
-use tc_plain::Cache;
+use tc_plain::{Cache, Journal};
 use tc_users::UserNo;
 
 #[test]
@@ -26,11 +26,12 @@ pub fn call_on_a_full_page<C: Cache, N: Naming, R: Wait + Abort>(
     hall: Hall<C, N>,
     mut seats: Vec<Seat<N>>,
     all: usize,
+    keeps: Journal,
 ) -> Result<(), Fail>
     requires { all ≡ N.terms.seats }
 {
     let refused = fill_page_and_call(rt, alloc, &hall, first(rt, &mut seats))?;
-    close_after(rt, alloc, hall, seats, all, refused)
+    close_after(rt, alloc, hall, seats, all, keeps, refused)
 }
 
 /// Fills a page, and says whether one call more is refused.
@@ -77,6 +78,7 @@ fn close_after<C: Cache, N: Naming, R: Abort>(
     hall: Hall<C, N>,
     seats: Vec<Seat<N>>,
     all: usize,
+    keeps: Journal,
     refused: bool,
 ) -> Result<(), Fail>
     requires { all ≡ N.terms.seats }
@@ -84,6 +86,6 @@ fn close_after<C: Cache, N: Naming, R: Abort>(
     let (counted, entries) = if refused { (3, 3) } else { (4, 1) };
     let closed = closed(rt, hall, seats);
     assert!(rt; count(rt, &closed, all, 0, 1) == counted);
-    assert!(rt; has_page(alloc, &closed, 1, entries)?);
+    assert!(rt; has_page(alloc, &closed, keeps, 1, entries)?);
     Ok(())
 }

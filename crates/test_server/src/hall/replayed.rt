@@ -4,9 +4,8 @@ use std::alloc::Global;
 use std::test::*;
 use tc_grammar::Command;
 use tc_item::Moment;
-use tc_kinds::Journal;
-use tc_locked::{Audit, CallEntry, Closed, KeptCommand, Naming, audit_page};
-use tc_plain::{Cache, Plain, act};
+use tc_locked::{Audit, CallEntry, Closed, KeptCommand, Naming, Unread, audit_page};
+use tc_plain::{Cache, Journal, Plain, act};
 use tc_stats::Outcome;
 use tc_users::UserNo;
 
@@ -49,15 +48,29 @@ fn is_shown<C: Cache, N: Naming>(
     }
 }
 
-/// Whether a user's page has so many entries, which lead from its opening to their outcomes.
+/// Whether nothing of a user's page can be read, since the journal is off.
+fn is_off<C: Cache, N: Naming>(alloc: Global, closed: &Closed<C, N>, user: UserNo) -> bool {
+    matches!(closed.audit(alloc, user), Err(Unread::Off))
+        && matches!(closed.page(user), Err(Unread::Off))
+        && matches!(closed.opening(alloc, user), Err(Unread::Off))
+}
+
+/// Whether a user's page has so many entries, which lead from its opening to their outcomes; without a
+/// journal, whether nothing of it can be read.
 pub fn has_page<C: Cache, N: Naming>(
     alloc: Global,
     closed: &Closed<C, N>,
+    keeps: Journal,
     user: u32,
     entries: usize,
 ) -> Result<bool, Fail> {
     let user = UserNo::new(user);
-    Ok(is_audited(alloc, closed, user, entries)? && is_shown(alloc, closed, user, entries)?)
+    match keeps {
+        Journal::On => {
+            Ok(is_audited(alloc, closed, user, entries)? && is_shown(alloc, closed, user, entries)?)
+        }
+        Journal::Off => Ok(is_off(alloc, closed, user)),
+    }
 }
 
 /// A call of a plain cache at second 5, as an entry of this number.

@@ -10,7 +10,7 @@ use std::test::*;
 use tc_grammar::Command;
 use tc_item::Moment;
 use tc_locked::{CallFault, Clock, Hall, Lease, Missing, Naming, Receipt, Seat};
-use tc_plain::Cache;
+use tc_plain::{Cache, Journal};
 use tc_users::UserNo;
 
 #[test]
@@ -33,6 +33,7 @@ pub fn read_back<C: Cache, N: Naming, R: Wait + Abort>(
     alloc: Global,
     hall: &Hall<C, N>,
     seat: &mut Seat<N>,
+    keeps: Journal,
 ) -> Result<(), Fail> {
     assert!(rt; hall.users() == 2);
     store_for_one(rt, alloc, hall, seat)?;
@@ -44,12 +45,20 @@ pub fn read_back<C: Cache, N: Naming, R: Wait + Abort>(
     drop(get);
     let (one, other) = found?;
     assert!(rt; one && !other);
-    assert!(rt; journals(rt, hall) == [422, 208, 0]);
+    assert!(rt; journals(rt, hall) == kept(keeps));
     Ok(())
 }
 
-/// What the page of each user keeps, and that of nobody: 200 bytes an entry, and the three that were set
-/// and shown.
+/// The bytes that the page of each user is to keep, and that of nobody: 200 an entry, and the three that were
+/// set and shown; without a journal none.
+fn kept(keeps: Journal) -> [u64; 3] {
+    match keeps {
+        Journal::On => [422, 208, 0],
+        Journal::Off => [0; 3],
+    }
+}
+
+/// The bytes that the page of each user keeps, and that of nobody.
 fn journals<C: Cache, N: Naming, R: Wait>(rt: &R, hall: &Hall<C, N>) -> [u64; 3] {
     [
         hall.journal_bytes(rt, UserNo::new(1)),
@@ -60,9 +69,9 @@ fn journals<C: Cache, N: Naming, R: Wait>(rt: &R, hall: &Hall<C, N>) -> [u64; 3]
 
 /// Reads ahead for a user, of keys that may be held and are not.
 fn read_ahead<C: Cache, N: Naming, R: Wait>(rt: &R, alloc: Global, hall: &Hall<C, N>, user: u32) {
-    let mut lease = Lease::none(alloc);
+    let mut lease = Lease::none();
     hall.read_ahead(rt, &mut lease, UserNo::new(user), &[0, u64::MAX]);
-    lease.release(alloc);
+    lease.release();
 }
 
 fn store_for_one<C: Cache, N: Naming, R: Wait + Abort>(

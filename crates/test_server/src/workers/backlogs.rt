@@ -30,15 +30,6 @@ const DATA: usize = 10_000;
 
 const ASKS: &[u8] = b"get a\r\nget b\r\n";
 
-/// What is sent around an item's bytes, and where its key stands.
-const HEAD: &[u8] = b"VALUE a 7 10000\r\n";
-
-const TAIL: &[u8] = b"\r\nEND\r\n";
-
-const KEY_AT: usize = 6;
-
-const REPLY: usize = 10_024;
-
 /// What a login is answered.
 const STORED: &[u8] = b"STORED\r\n";
 
@@ -61,6 +52,8 @@ const DRAINING: u32 = 16;
 struct Sight {
     /// Whether alice's wires take bytes.
     is_open: AtomicU64,
+    /// All that each of alice's connections is to be sent.
+    expects: Vec<u8>,
     /// How many writes were not the next expected bytes.
     odd: AtomicU64,
     /// By connections: what was sent, and what waited after the last write.
@@ -72,6 +65,7 @@ impl Sight {
     fn new(alloc: Global) -> Result<Sight, Fail> {
         Ok(Sight {
             is_open: AtomicU64::new(0),
+            expects: all_replies(alloc)?,
             odd: AtomicU64::new(0),
             sent: Words::new(alloc, HERS + 1)?,
             waits: Words::new(alloc, HERS + 1)?,
@@ -89,23 +83,22 @@ impl Sight {
     }
 }
 
-/// The byte at a place of a reply that shows the item of this letter.
-fn byte_of(letter: u8, at: usize) -> u8 {
-    match at.checked_sub(HEAD.len()) {
-        None if at == KEY_AT => letter,
-        None => HEAD[at % HEAD.len()],
-        Some(data) if data < DATA => letter,
-        Some(data) => TAIL[(data - DATA) % TAIL.len()],
+/// All that a connection of alice's is sent.
+fn all_replies(alloc: Global) -> Result<Vec<u8>, Fail> {
+    let mut all = Vec::from_slice(alloc, STORED)?;
+    for _ in 0..ROUNDS {
+        add_reply(alloc, &mut all, b"VALUE a 7 10000\r\n", b'a')?;
+        add_reply(alloc, &mut all, b"VALUE b 7 10000\r\n", b'b')?;
     }
+    Ok(all)
 }
 
-/// The byte at a place of all that a connection of alice's is sent.
-fn expected(at: usize) -> u8 {
-    match at.checked_sub(STORED.len()) {
-        None => STORED[at % STORED.len()],
-        Some(after) if after / REPLY % 2 == 0 => byte_of(b'a', after % REPLY),
-        Some(after) => byte_of(b'b', after % REPLY),
-    }
+/// Adds a reply that shows the item of this letter.
+fn add_reply(alloc: Global, all: &mut Vec<u8>, head: &[u8], letter: u8) -> Result<(), Fail> {
+    all.extend_from_slice(head)?;
+    all.extend_from_slice(&Vec::from_elem(alloc, letter, DATA)?)?;
+    all.extend_from_slice(b"\r\nEND\r\n")?;
+    Ok(())
 }
 
 /// A wire that logs in and then asks.
@@ -132,12 +125,15 @@ impl Asker {
 
     /// Takes bytes. Alice's are to be the next ones.
     fn hear(&mut self, from: &[u8]) {
-        for byte in from {
-            if self.at < HERS && *byte != expected(self.taken) {
-                self.sight.odd.fetch_add(1, SeqCst);
-            }
-            self.taken = self.taken.saturating_add(1);
+        let end = self.taken.saturating_add(from.len());
+        let is_next = match self.sight.expects.get(self.taken..end) {
+            Some(part) => part == from,
+            None => false,
+        };
+        if self.at < HERS && !is_next {
+            self.sight.odd.fetch_add(1, SeqCst);
         }
+        self.taken = end;
         self.sight.sent.store(self.at, self.taken);
     }
 

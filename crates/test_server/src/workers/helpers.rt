@@ -17,6 +17,104 @@ const BOTH: [u64; 3] = [1_000, 200, 1_000];
 /// None has time left.
 const ALL: [u64; 3] = [1_000, 1_000, 1_000];
 
+/// Where connections 1 and 2 of the first user are served, but by the first worker.
+type Places = [Option<usize>; 2];
+
+/// What looks come to.
+#[derive(Clone, Copy)]
+enum Asked {
+    /// That is not asked.
+    No,
+    /// The first worker serves both.
+    Alone,
+    /// The third worker serves the first.
+    Helped,
+}
+
+impl Asked {
+    fn places(self) -> Option<Places> {
+        match self {
+            Asked::No => None,
+            Asked::Alone => Some([None, None]),
+            Asked::Helped => Some([Some(2), None]),
+        }
+    }
+}
+
+/// So many looks at workers so busy, at each of which the first sent so many bytes to its own users and the third
+/// so many to its own; and what the last of them comes to.
+type Looks = (u32, [u64; 3], u64, u64, Asked);
+
+/// Looks one after the other, and why they come to that.
+static TRIALS: [(&str, &[Looks]); 7] = [
+    (
+        "once the load was the same for five looks, who has most time takes every second connection",
+        &[
+            (6, FIRST, 100, 0, Asked::Alone),
+            (1, FIRST, 100, 0, Asked::Helped),
+        ],
+    ),
+    (
+        "a load that doubles with each look is not put down to a helper, for none comes",
+        &[
+            (1, FIRST, 100, 0, Asked::No),
+            (1, FIRST, 200, 0, Asked::No),
+            (1, FIRST, 400, 0, Asked::No),
+            (1, FIRST, 800, 0, Asked::No),
+            (1, FIRST, 1_600, 0, Asked::No),
+            (1, FIRST, 3_200, 0, Asked::No),
+            (1, FIRST, 6_400, 0, Asked::No),
+            (1, FIRST, 12_800, 0, Asked::Alone),
+        ],
+    ),
+    (
+        "a twelfth more is not sent, so the helper goes after its trial, and is not tried again soon",
+        &[
+            (7, FIRST, 100, 0, Asked::No),
+            (7, BOTH, 107, 0, Asked::Alone),
+            (49, FIRST, 100, 0, Asked::Alone),
+        ],
+    ),
+    (
+        "a twelfth more is sent, so the helper stays; and it goes once one worker would do",
+        &[
+            (7, FIRST, 100, 0, Asked::No),
+            (7, BOTH, 108, 0, Asked::Helped),
+            (19, [200, 0, 300], 108, 0, Asked::Helped),
+            (1, [200, 0, 300], 108, 0, Asked::Alone),
+        ],
+    ),
+    (
+        "a helper that paid is kept for some ten seconds, though nobody else has time to be tried",
+        &[
+            (7, FIRST, 100, 0, Asked::No),
+            (7, BOTH, 108, 0, Asked::No),
+            (399, ALL, 108, 0, Asked::Helped),
+            (1, ALL, 108, 0, Asked::Alone),
+        ],
+    ),
+    (
+        "under another load as much is sent without the helper",
+        &[
+            (7, FIRST, 100, 0, Asked::No),
+            (7, BOTH, 108, 0, Asked::No),
+            (40, BOTH, 108, 0, Asked::Helped),
+            (7, BOTH, 300, 0, Asked::Alone),
+            (7, FIRST, 288, 0, Asked::No),
+            (49, FIRST, 288, 0, Asked::Alone),
+        ],
+    ),
+    (
+        "the third worker's own users want its time",
+        &[
+            (7, FIRST, 100, 0, Asked::No),
+            (7, BOTH, 108, 0, Asked::No),
+            (3, BOTH, 108, 50, Asked::Helped),
+            (1, BOTH, 108, 50, Asked::Alone),
+        ],
+    ),
+];
+
 /// The policy, what it looks at, and where the first worker's connections are served.
 #[derive(Drop)]
 struct Dealt {
@@ -37,128 +135,46 @@ fn deal(alloc: Global) -> Result<Dealt, Fail> {
 }
 
 impl Dealt {
-    /// So many looks at workers so busy, at each of which the first sent so much to its own users.
-    fn look(&mut self, times: u32, busy: [u64; 3], bytes: u64) {
+    /// A worker sent so many bytes to the users of a home, in so many calls.
+    fn send(&mut self, worker: usize, home: usize, calls: u64, bytes: u64) {
+        self.did.set_traffic(worker, home, Traffic { calls, bytes });
+    }
+
+    fn look(&mut self, looks: &Looks) {
+        let (times, busy, bytes, own, _) = *looks;
         for (worker, busy) in busy.into_iter().enumerate() {
             self.did.set_busy(worker, busy);
         }
-        self.did.set_traffic(0, 0, Traffic { calls: 100, bytes });
-        self.did.set_traffic(
-            2,
-            0,
-            Traffic {
-                calls: 50,
-                bytes: 0,
-            },
-        );
+        self.send(0, 0, 100, bytes);
+        self.send(2, 0, 50, 0);
+        self.send(2, 2, own, own);
         for _ in 0..times {
             self.balance.look(&self.did);
         }
     }
 
-    /// Where connections 1 and 2 of the first user are served, but by the first worker.
-    fn places(&self) -> [Option<usize>; 2] {
+    fn places(&self) -> Places {
         let user = UserNo::new(1);
         [self.homes.elsewhere(user, 1), self.homes.elsewhere(user, 2)]
     }
 }
 
-/// Once the load was the same for five looks the third worker, which has the most time, takes every second
-/// connection.
-#[test]
-fn a_worker_with_no_time_left_gets_the_helper_with_most(rt: HostRuntime) -> Result<(), Fail> {
+/// Whether looks come to what they should.
+fn expect_trial(rt: &(impl AllocGlobal + Abort), why: &str, trial: &[Looks]) -> Result<(), Fail> {
     let mut dealt = deal(rt.alloc())?;
-    dealt.look(6, FIRST, 100);
-    assert!(&rt; dealt.places() == [None, None]);
-    dealt.look(1, FIRST, 100);
-    assert!(&rt; dealt.places() == [Some(2), None]);
-    Ok(())
-}
-
-/// A load that doubles with each look is not put down to a helper, for none comes.
-#[test]
-fn a_load_that_rises_gets_no_helper_yet(rt: HostRuntime) -> Result<(), Fail> {
-    let mut dealt = deal(rt.alloc())?;
-    for bytes in [100, 200, 400, 800, 1_600, 3_200, 6_400, 12_800] {
-        dealt.look(1, FIRST, bytes);
+    for looks in trial {
+        dealt.look(looks);
+        if let Some(places) = looks.4.places() {
+            assert!(rt; dealt.places() == places, "{why}");
+        }
     }
-    assert!(&rt; dealt.places() == [None, None]);
     Ok(())
 }
 
-/// A twelfth more is not sent, so the helper goes after its trial, and is not tried again soon.
 #[test]
-fn a_helper_that_is_no_help_goes(rt: HostRuntime) -> Result<(), Fail> {
-    let mut dealt = deal(rt.alloc())?;
-    dealt.look(7, FIRST, 100);
-    dealt.look(7, BOTH, 107);
-    assert!(&rt; dealt.places() == [None, None]);
-    dealt.look(49, FIRST, 100);
-    assert!(&rt; dealt.places() == [None, None]);
-    Ok(())
-}
-
-/// A twelfth more is sent, so the helper stays; and it goes once one worker would do.
-#[test]
-fn a_helper_stays_until_one_worker_would_do(rt: HostRuntime) -> Result<(), Fail> {
-    let mut dealt = deal(rt.alloc())?;
-    dealt.look(7, FIRST, 100);
-    dealt.look(7, BOTH, 108);
-    assert!(&rt; dealt.places() == [Some(2), None]);
-    dealt.look(19, [200, 0, 300], 108);
-    assert!(&rt; dealt.places() == [Some(2), None]);
-    dealt.look(1, [200, 0, 300], 108);
-    assert!(&rt; dealt.places() == [None, None]);
-    Ok(())
-}
-
-/// A helper that paid is not done without for some ten seconds, though nothing else can be tried: nobody else
-/// has time.
-#[test]
-fn a_helper_that_paid_is_kept_for_a_while(rt: HostRuntime) -> Result<(), Fail> {
-    let mut dealt = deal(rt.alloc())?;
-    dealt.look(7, FIRST, 100);
-    dealt.look(7, BOTH, 108);
-    dealt.look(399, ALL, 108);
-    assert!(&rt; dealt.places() == [Some(2), None]);
-    dealt.look(1, ALL, 108);
-    assert!(&rt; dealt.places() == [None, None]);
-    Ok(())
-}
-
-/// Under another load as much is sent without the helper.
-#[test]
-fn a_helper_goes_where_as_much_is_sent_without_it(rt: HostRuntime) -> Result<(), Fail> {
-    let mut dealt = deal(rt.alloc())?;
-    dealt.look(7, FIRST, 100);
-    dealt.look(7, BOTH, 108);
-    dealt.look(40, BOTH, 108);
-    assert!(&rt; dealt.places() == [Some(2), None]);
-    dealt.look(7, BOTH, 300);
-    assert!(&rt; dealt.places() == [None, None]);
-    dealt.look(7, FIRST, 288);
-    dealt.look(49, FIRST, 288);
-    assert!(&rt; dealt.places() == [None, None]);
-    Ok(())
-}
-
-/// The third worker's own users want its time.
-#[test]
-fn a_helper_goes_where_its_own_users_want_it(rt: HostRuntime) -> Result<(), Fail> {
-    let mut dealt = deal(rt.alloc())?;
-    dealt.look(7, FIRST, 100);
-    dealt.look(7, BOTH, 108);
-    dealt.did.set_traffic(
-        2,
-        2,
-        Traffic {
-            calls: 50,
-            bytes: 50,
-        },
-    );
-    dealt.look(3, BOTH, 108);
-    assert!(&rt; dealt.places() == [Some(2), None]);
-    dealt.look(1, BOTH, 108);
-    assert!(&rt; dealt.places() == [None, None]);
+fn a_helper_comes_and_goes_by_what_is_sent(rt: HostRuntime) -> Result<(), Fail> {
+    for (why, trial) in &TRIALS {
+        expect_trial(&rt, *why, *trial)?;
+    }
     Ok(())
 }

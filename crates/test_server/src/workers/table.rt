@@ -1,10 +1,5 @@
-//! Streams and what they are answered, and wires that fail, end or take nothing.
+//! Streams and what they are answered, and wires that fail or take nothing.
 use super::wires::{Cut, Ending, Plan};
-
-/// Logs alice in, stores three bytes under a key and gets them back.
-const FIRST: &[u8] = b"set a 0 0 9\r\nalice one\r\nset k 5 0 3\r\nabc\r\nget k\r\n";
-
-const ANSWERS: &[u8] = b"STORED\r\nSTORED\r\nVALUE k 5 3\r\nabc\r\nEND\r\n";
 
 /// Logs alice in, and asks what her key holds.
 const ASKING: &[u8] = b"set a 0 0 9\r\nalice one\r\ngets k\r\n";
@@ -15,7 +10,6 @@ const NOTHING: &[u8] = b"STORED\r\nEND\r\n";
 /// Asks for the key, and ends.
 pub const ASKS: Plan = Plan {
     sends: ASKING,
-    fill: 0,
     cut: Cut::At(0),
     ending: Ending::Ends,
     expects: NOTHING,
@@ -170,7 +164,6 @@ impl Mishap {
         };
         Plan {
             sends: STORES_BY_NUMBER,
-            fill: 0,
             cut: Cut::Bytes,
             ending,
             expects: self.expects,
@@ -181,7 +174,6 @@ impl Mishap {
     pub fn contending(&self) -> Plan {
         Plan {
             sends: CONTENDS,
-            fill: 0,
             cut: Cut::Bytes,
             ending: Ending::Ends,
             expects: self.other,
@@ -192,7 +184,6 @@ impl Mishap {
 /// Asks for the key, and then has nothing to say.
 pub const RESTS: Plan = Plan {
     sends: ASKING,
-    fill: 0,
     cut: Cut::At(0),
     ending: Ending::Rests,
     expects: NOTHING,
@@ -201,7 +192,6 @@ pub const RESTS: Plan = Plan {
 /// Stores one byte.
 pub const STORES: Plan = Plan {
     sends: b"set a 0 0 9\r\nalice one\r\nset k 0 0 1\r\na\r\n",
-    fill: 0,
     cut: Cut::At(0),
     ending: Ending::Ends,
     expects: b"STORED\r\nSTORED\r\n",
@@ -210,68 +200,22 @@ pub const STORES: Plan = Plan {
 /// Appends one to it, and asks for both.
 pub const APPENDS: Plan = Plan {
     sends: b"set a 0 0 9\r\nalice one\r\nappend k 0 0 1\r\nb\r\nget k\r\n",
-    fill: 0,
     cut: Cut::At(0),
     ending: Ending::Ends,
     expects: b"STORED\r\nSTORED\r\nVALUE k 0 2\r\nab\r\nEND\r\n",
 };
 
-/// Ends two bytes into a block of three.
-pub const ENDS_SHORT: Plan = Plan {
-    sends: b"set a 0 0 9\r\nalice one\r\nset k 5 0 3\r\nab",
-    fill: 0,
-    cut: Cut::At(0),
-    ending: Ending::Ends,
-    expects: b"STORED\r\n",
-};
-
 /// Says nothing, for ever.
 pub const SILENT: Plan = Plan {
     sends: b"",
-    fill: 0,
     cut: Cut::At(0),
     ending: Ending::Stays,
     expects: b"",
 };
 
-/// A line of 65,537 bytes and no end; the wire itself would stay open for longer than it is watched.
-pub const LONG_LINE: Plan = Plan {
-    sends: b"set a 0 0 9\r\nalice one\r\n",
-    fill: 65_537,
-    cut: Cut::At(0),
-    ending: Ending::FailsAtRead(1_000_000),
-    expects: b"STORED\r\nCLIENT_ERROR line too long\r\n",
-};
-
-/// Streams of alice's, and what they are answered.
-pub const ROWS: &[(&[u8], &[u8])] = &[
-    (FIRST, ANSWERS),
-    (
-        b"set a 0 0 9\r\nalice one\r\nset k 0 0 7\r\n\r\nEND\r\n\r\nget k\r\n",
-        b"STORED\r\nSTORED\r\nVALUE k 0 7\r\n\r\nEND\r\n\r\nEND\r\n",
-    ),
-    (
-        b"set a 0 0 9\r\nalice one\r\nset k 0 0 3\r\nabcdef\r\n",
-        b"STORED\r\nCLIENT_ERROR bad data chunk\r\nERROR\r\n",
-    ),
-    (
-        b"set a 0 0 9\r\nalice one\r\nset s 0 0 3\r\n12 \r\nincr s 1\r\nget s\r\nincr m 1\r\n",
-        b"STORED\r\nSTORED\r\n13\r\nVALUE s 0 2\r\n13\r\nEND\r\nNOT_FOUND\r\n",
-    ),
-    (
-        b"set a 0 0 9\r\nalice one\r\nset k 0 0 1 noreply\r\nx\r\nset k 0 0 noreply\r\nget k\r\n",
-        b"STORED\r\nCLIENT_ERROR bad command line format\r\nVALUE k 0 1\r\nx\r\nEND\r\n",
-    ),
-    (
-        b"set a 0 0 9\r\nalice one\r\nset k 0 0 1\r\nx\r\ngat -1 k\r\nget k\r\nquit\r\nget k\r\n",
-        b"STORED\r\nSTORED\r\nVALUE k 0 1\r\nx\r\nEND\r\nEND\r\n",
-    ),
-];
-
 /// Alice's connection, whose first command is held.
 pub const HELD: Plan = Plan {
     sends: b"set a 0 0 9\r\nalice one\r\nset k 0 0 1\r\na\r\nget k\r\n",
-    fill: 0,
     cut: Cut::At(0),
     ending: Ending::Ends,
     expects: b"STORED\r\nSTORED\r\nVALUE k 0 1\r\na\r\nEND\r\n",
@@ -280,7 +224,6 @@ pub const HELD: Plan = Plan {
 /// Bob's, which passes her.
 pub const PASSES: Plan = Plan {
     sends: b"set a 0 0 7\r\nbob one\r\nset k 0 0 1\r\nb\r\n",
-    fill: 0,
     cut: Cut::At(0),
     ending: Ending::Ends,
     expects: b"STORED\r\nSTORED\r\n",
@@ -314,7 +257,6 @@ pub const COUNTED: Plan = Plan {
         delete k noreply\r\ndelete k noreply\r\ndelete k noreply\r\ndelete k noreply\r\n\
         delete k noreply\r\ndelete k noreply\r\ndelete k noreply\r\ndelete k noreply\r\n\
         delete k noreply\r\ndelete k noreply\r\ndelete k noreply\r\ndelete k noreply\r\n",
-    fill: 0,
     cut: Cut::At(0),
     ending: Ending::Ends,
     expects: b"STORED\r\n",

@@ -1,10 +1,7 @@
 //! One or two connections of one worker, one after the other or in the same turns.
 
-use super::table::{
-    APPENDS, ASKS, EMPTY_WRITES, ENDS_SHORT, LONG_LINE, Mishap, READS, RESTS, ROWS, SILENT, STORES,
-    WRITES,
-};
-use super::wires::{Cut, Ending, Memory, Plan, Seen};
+use super::table::{APPENDS, ASKS, EMPTY_WRITES, Mishap, READS, RESTS, SILENT, STORES, WRITES};
+use super::wires::{Ending, Memory, Plan, Seen};
 use crate::stage::{Scene, Within, play};
 use std::alloc::Global;
 use std::process::Abort;
@@ -170,22 +167,6 @@ pub fn talk_beside<C: Cache, N: Naming, R: Wait + Abort>(
     Ok(())
 }
 
-/// Two connections on a hall of their own, over each kind of cache.
-fn expect<R: Threads + Wait + Abort + Time + RandomSource + Copy + Send + Sync + Drop>(
-    rt: &R,
-    alloc: Global,
-    first: Plan,
-    second: Plan,
-) -> Result<(), Fail> {
-    play(
-        rt,
-        alloc,
-        1,
-        16,
-        Scene::Within(Within::Talks(first, second)),
-    )
-}
-
 /// Two streams in the same turns, where the first one's wire has its mishap at each call of a row.
 fn expect_beside<R: Threads + Wait + Abort + Time + RandomSource + Copy + Send + Sync + Drop>(
     rt: &R,
@@ -211,29 +192,24 @@ fn expect_all<R: Threads + Wait + Abort + Time + RandomSource + Copy + Send + Sy
     Ok(())
 }
 
+/// What was done before a wire failed stays done, though its reply is lost; and what a wire did not take is sent in a
+/// later turn.
 #[test]
-fn what_was_done_before_a_wire_failed_stays_done(rt: HostRuntime) -> Result<(), Fail> {
-    expect_all(&rt, rt.alloc(), READS)
-}
-
-#[test]
-fn what_was_done_stays_done_though_its_reply_is_lost(rt: HostRuntime) -> Result<(), Fail> {
-    expect_all(&rt, rt.alloc(), WRITES)
-}
-
-#[test]
-fn what_a_wire_did_not_take_is_sent_in_a_later_turn(rt: HostRuntime) -> Result<(), Fail> {
+fn what_was_done_stays_done_whatever_comes_of_its_wire(rt: HostRuntime) -> Result<(), Fail> {
+    expect_all(&rt, rt.alloc(), READS)?;
+    expect_all(&rt, rt.alloc(), WRITES)?;
     expect_all(&rt, rt.alloc(), EMPTY_WRITES)
 }
 
 #[test]
-fn a_wire_that_ends_in_a_block_stores_nothing(rt: HostRuntime) -> Result<(), Fail> {
-    expect(&rt, rt.alloc(), ENDS_SHORT, ASKS)
-}
-
-#[test]
 fn a_wire_that_has_nothing_yet_is_kept_and_asked_each_turn(rt: HostRuntime) -> Result<(), Fail> {
-    expect(&rt, rt.alloc(), ASKS, SILENT)
+    play(
+        &rt,
+        rt.alloc(),
+        1,
+        16,
+        Scene::Within(Within::Talks(ASKS, SILENT)),
+    )
 }
 
 #[test]
@@ -250,37 +226,4 @@ fn a_turn_goes_by_the_numbers_of_connections(rt: HostRuntime) -> Result<(), Fail
         16,
         Scene::Within(Within::Beside(STORES, APPENDS)),
     )
-}
-
-#[test]
-fn a_line_too_long_is_told_and_its_connection_dropped(rt: HostRuntime) -> Result<(), Fail> {
-    expect(&rt, rt.alloc(), LONG_LINE, ASKS)
-}
-
-/// A row's stream, cut in two at each byte.
-fn cut_each<R: Threads + Wait + Abort + Time + RandomSource + Copy + Send + Sync + Drop>(
-    rt: &R,
-    alloc: Global,
-    sends: &'static [u8],
-    expects: &'static [u8],
-) -> Result<(), Fail> {
-    for at in 0..sends.len() {
-        let plan = Plan {
-            sends,
-            fill: 0,
-            cut: Cut::At(at),
-            ending: Ending::Ends,
-            expects,
-        };
-        expect(rt, alloc, plan, ENDS_SHORT)?;
-    }
-    Ok(())
-}
-
-#[test]
-fn streams_are_answered_alike_wherever_they_are_cut(rt: HostRuntime) -> Result<(), Fail> {
-    for (sends, expects) in ROWS {
-        cut_each(&rt, rt.alloc(), sends, expects)?;
-    }
-    Ok(())
 }

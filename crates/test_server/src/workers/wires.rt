@@ -37,8 +37,6 @@ pub enum Ending {
 #[derive(Clone, Copy, Debug)]
 pub struct Plan {
     pub sends: &'static [u8],
-    /// So many bytes `x` follow.
-    pub fill: usize,
     pub cut: Cut,
     pub ending: Ending,
     pub expects: &'static [u8],
@@ -96,8 +94,7 @@ impl Memory {
 
     /// How many bytes the next read gives at most.
     fn next_piece(&self) -> usize {
-        let all = self.plan.sends.len().saturating_add(self.plan.fill);
-        let left = all.saturating_sub(self.at);
+        let left = self.plan.sends.len().saturating_sub(self.at);
         match self.plan.cut {
             Cut::At(place) if self.at < place => left.min(place - self.at),
             Cut::At(_) => left,

@@ -1,113 +1,60 @@
-use Rattle.std.proofs.Common.{◌≡◌, [], ◌∷◌, Option, Some, None, length, take, refl, ◌∙◌, ap, arith, subst}
-use Rattle.std.proofs.Math.Seq.{take-length}
-use Rattle.std.proofs.lemmas.List.{length-append}
-use Rattle.tc_item.specs.declared.slot.Slot.{Slot}
+use Rattle.std.specs.Prelude.{option_map, option_to_list, IfOk}
+use Rattle.std.proofs.Common.{◌≡◌, ◌≤◌, ◌<◌, ℕ, List, [], ◌∷◌, ◌++◌, length, get_or, Option, Some, None, refl, sym, ◌∙◌, ap, subst}
+use Rattle.std.proofs.Common.{Result, Ok, Err, arith}
+use Rattle.tc_item.specs.declared.item.Item.{Item}
+use Rattle.tc_plain.specs.declared.shared.entry.Entry.{Entry}
+use Rattle.tc_plain.specs.Entries.{hit_of}
+use Rattle.tc_plain.specs.EvictionState.{EvictionState, held, at_moment}
+use Rattle.tc_plain.specs.Doing.{looked_up, all_looked_up}
 use Rattle.tc_plain.specs.AreaLists.{change_of}
-use Rattle.tc_plain.specs.Doing.{all_looked_up}
-use Rattle.tc_plain.specs.EvictionState.{at_moment}
-use Rattle.tc_plain.proofs.Asked.{hits_found, hits_none}
 use Rattle.tc_partition.specs.LiveSlots.{live_of}
+use Rattle.tc_partition.specs.Deferred.{peeked}
+use Rattle.tc_partition.specs.WaitingSlots.{AreSought}
 use Rattle.tc_partition.specs.Seeking.{SeekSlots}
-use Rattle.tc_partition.specs.WaitingSlots.{SeeksSlot}
-use Rattle.tc_partition.proofs.OneLook.{found_next, found_sought, hashed_long}
-use Rattle.tc_partition.proofs.Sought.{sought_by}
+use Rattle.tc_partition.proofs.Sought.{found_sought}
 use Rattle.tc_partition.proofs.looking.seek_hits.Goals as goal
-use Rattle.tc_partition.proofs.looking.seek_hits.Goals.{in-Some+in_ok-add_next-in-Some, in-None}
 
-pub next_hint-hint-requires : goal.next_hint-hint-requires
-next_hint-hint-requires c =
-    omega (arith, hashed_long c.args.keys.now c.args.hashes.now c.requires.hashed, c.loop-i-test.true)
+one_key : (keys : List (List ℕ)) (key : List ℕ) → 1 ≤ length keys → length keys < 2 → key ≡ get_or keys 0 key → key ∷ [] ≡ keys
+one_key [] key some few first = absurd (grind arith)
+one_key (k ∷ []) key some few first = ap (λ z. z ∷ []) first
+one_key (k ∷ j ∷ keys) key some few first = absurd (grind arith)
 
-pub push_reserved-requires : goal.push_reserved-requires
-push_reserved-requires c = omega (arith, c.loop-i.invariant.place_room, c.loop-i-test.true)
+one_shown : (change : Item → Item) (m : ℕ) (key : List ℕ) (l : EvictionState)
+    → option_to_list (option_map hit_of (peeked m key l)) ≡ (all_looked_up change (key ∷ []) (at_moment m l)).0
+one_shown change m key l = go (held key (at_moment m l).areas)
+  where
+    go : (o : Option Entry) → option_to_list (option_map hit_of o) ≡ (looked_up change key o (at_moment m l)).0 ++ []
+    go None = refl
+    go (Some e) = refl
 
-pub push_reserved-requires-in-None : goal.push_reserved-requires-in-None
-push_reserved-requires-in-None c = omega (arith, c.loop-i.invariant.place_room, c.loop-i-test.true)
+if_ok : {T E : Type 0} {P Q : T → Type 0} (r : Result T E) → ((x : T) → P x → Q x) → IfOk r P → IfOk r Q
+if_ok (Ok x) f p = f x p
+if_ok (Err e) f p = tt
 
-pub add_next-requires : goal.add_next-requires
-add_next-requires c = omega (arith, c.loop-i.invariant.hit_room, c.loop-i-test.true)
-
-pub loop-i-preserved : goal.loop-i-preserved
-loop-i-preserved c =
-    let keys = c.args.keys.now in
+pub returns-in-len1-clause-hits : goal.returns-in-len1-clause-hits
+returns-in-len1-clause-hits c =
+    let l = live_of c.args.live.now in
     let m = c.args.moment in
-    let live = c.args.live.now in
-    let i = c.loop-i.i in
-    let key = c.index-keys-i.result in
-    let before = c.loop-i.places.items in
-    elim c.match-seek_entry.branch [
-      | in-Some+in_ok-add_next-in-Some w ↦
-          let place : Option Slot = Some w.in-Some.slot in
-          let at : SeeksSlot place m key live =
-          (w.in-Some.entry.now, w.in-Some.ensures.0.0, w.in-Some.ensures.0.1, w.in-Some.ensures.1) in
-          rw (w.hits-is, w.places-is) (record {
-            shown =
-                hits_found c.args.due m keys i key key _ c.is_due-gone.result (live_of live) w.in-Some.entry.now
-                c.loop-i.hits.items _ c.loop-i-test.true c.requires.sound c.is_due-gone.ensures refl c.index-keys-i.is
-                c.loop-i.invariant.shown w.in-Some.ensures.1 w.in_ok-add_next-in-Some.ensures.hits;
-            found =
-                found_next m keys i key key before _ live place c.loop-i-test.true c.index-keys-i.is c.loop-i.invariant.found at
-                w.push_reserved.ensures.items;
-            hit_room =
-                omega (
-                  arith,
-                  c.loop-i.invariant.hit_room,
-                  w.in_ok-add_next-in-Some.ensures.long,
-                  w.in_ok-add_next-in-Some.ensures.capacity,
-                );
-            place_room =
-                omega (
-                  arith,
-                  c.loop-i.invariant.place_room,
-                  w.push_reserved.ensures.capacity,
-                  ap length w.push_reserved.ensures.items,
-                  length-append before (place ∷ []),
-                );
-          })
-      | in-None w ↦
-          let place : Option Slot = None in
-          rw (w.hits-is, w.places-is) (record {
-            shown =
-                hits_none c.args.due m keys i key key (live_of live) c.loop-i.hits.items c.loop-i-test.true c.requires.sound
-                c.index-keys-i.is c.loop-i.invariant.shown w.in-None.ensures;
-            found =
-                found_next m keys i key key before _ live place c.loop-i-test.true c.index-keys-i.is c.loop-i.invariant.found
-                w.in-None.ensures w.push_reserved-in-None.ensures.items;
-            hit_room = omega (arith, c.loop-i.invariant.hit_room);
-            place_room =
-                omega (
-                  arith,
-                  c.loop-i.invariant.place_room,
-                  w.push_reserved-in-None.ensures.capacity,
-                  ap length w.push_reserved-in-None.ensures.items,
-                  length-append before (place ∷ []),
-                );
-          })
-    ]
+    let change = change_of c.args.due in
+    let one = one_key c.args.keys.now c.key-item.result c.in-len1.len_at_least c.in-len1.len_below c.key-item.is in
+    if_ok c.seek_one.result
+    (λ r h. h ∙ one_shown change m c.key-item.result l ∙ ap (λ ks. (all_looked_up change ks (at_moment m l)).0) one)
+    c.seek_one.ensures.hits
 
-pub returns-clause-hits : goal.returns-clause-hits
-returns-clause-hits c =
-    let keys = c.args.keys.now in
-    let live = c.args.live.now in
-    let end : c.loop-i.i ≡ length keys = omega arith in
-    c.in_ok-hits-2.ensures ∙ c.loop-i.invariant.shown
-    ∙ ap (λ i. (all_looked_up (change_of c.args.due) (take i keys) (at_moment c.args.moment (live_of live))).0) end
-    ∙ ap (λ ks. (all_looked_up (change_of c.args.due) ks (at_moment c.args.moment (live_of live))).0) (take-length keys)
+pub returns-in-len1-clause-seen : goal.returns-in-len1-clause-seen
+returns-in-len1-clause-seen c =
+    let one = one_key c.args.keys.now c.key-item.result c.in-len1.len_at_least c.in-len1.len_below c.key-item.is in
+    if_ok c.seek_one.result
+    (λ r h. subst (λ ks. SeekSlots c.args.moment ks r.1.places.items c.args.live.now) one h) c.seek_one.ensures.seen
+
+pub returns-in-len1-clause-places : goal.returns-in-len1-clause-places
+returns-in-len1-clause-places c =
+    let one = one_key c.args.keys.now c.key-item.result c.in-len1.len_at_least c.in-len1.len_below c.key-item.is in
+    if_ok c.seek_one.result
+    (λ r h. found_sought c.args.moment c.args.keys.now r.1.places.items c.args.live.now
+    (subst (λ ks. SeekSlots c.args.moment ks r.1.places.items c.args.live.now) one h)) c.seek_one.ensures.seen
 
 pub returns-clause-places : goal.returns-clause-places
 returns-clause-places c =
-    let keys = c.args.keys.now in
-    let live = c.args.live.now in
-    let end : c.loop-i.i ≡ length keys = omega arith in
-    sought_by live.held.slots c.args.moment keys c.loop-i.places.items (live_of live)
-    (found_sought c.args.moment keys c.loop-i.places.items live
-    (subst (λ ks. SeekSlots c.args.moment ks c.loop-i.places.items live) (ap (λ i. take i keys) end ∙ take-length keys)
-    c.loop-i.invariant.found))
-
-pub returns-clause-seen : goal.returns-clause-seen
-returns-clause-seen c =
-    let keys = c.args.keys.now in
-    let live = c.args.live.now in
-    let end : c.loop-i.i ≡ length keys = omega arith in
-    subst (λ ks. SeekSlots c.args.moment ks c.loop-i.places.items live) (ap (λ i. take i keys) end ∙ take-length keys)
-    c.loop-i.invariant.found
+    if_ok c.seek_many.result
+    (λ r h. found_sought c.args.moment c.args.keys.now r.1.places.items c.args.live.now h) c.seek_many.ensures.seen

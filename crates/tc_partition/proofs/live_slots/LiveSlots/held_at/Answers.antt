@@ -14,7 +14,7 @@ shows : (r : Option (Bor Entry)) (o : Option Entry) (e : Entry) → option_copie
 shows None o e f g = absurd (cc (f))
 shows (Some x) o e f g = g ∙ sym f
 
-pub returns-in-Some-clause-sought : goal.returns-in-Some-clause-sought
-returns-in-Some-clause-sought c = λ t key sought.
+pub returns-in-Some : goal.returns-in-Some
+returns-in-Some c = λ t key sought.
     let s = subst (λ place. SeeksSlot place t key c.args.self.now) c.in-Some.is sought in
     shows c.entry.result (peeked t key (live_of c.args.self.now)) s.0 (c.entry.ensures ∙ s.1) s.3

@@ -15,7 +15,7 @@ returns-in-Some-clause-light c =
     let e = c.in-Some.entry.now in
     let key : length e.key ≡ length c.args.key.now =
     ap length (held_key c.args.key.now (at_moment (max i.live.moment c.args.now) (live_of i.live)).areas e
-    (c.in-Some.ensures.sought _ _ c.requires.place)) in
+    (c.in-Some.ensures _ _ c.requires.place)) in
     let main : i.live.held.limits.main ≡ (limits_of i.budget).main = ap (λ (t : Limits). t.main) c.requires.sound.limits in
     let small : weight_of e.key 20 ≤ i.live.held.limits.main =
     omega (arith, key, main, c.as_bytes-bytes.ensures.short, c.requires.sound.least_budget) in
@@ -26,5 +26,5 @@ returns-in-Some-clause-key c =
     let i = c.args.self.now in
     let e = c.in-Some.entry.now in
     let own = held_key c.args.key.now (at_moment (max i.live.moment c.args.now) (live_of i.live)).areas e
-    (c.in-Some.ensures.sought _ _ c.requires.place) in
+    (c.in-Some.ensures _ _ c.requires.place) in
     IfOk-weaker c.plan_count.result _ _ (λ plan h. subst (λ k. IsUnder k plan) own h) c.plan_count.ensures.key

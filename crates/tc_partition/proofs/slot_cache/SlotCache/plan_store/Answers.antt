@@ -18,7 +18,7 @@ returns-in-Refused-clause-plan c =
     ap (λ b. accepted (advance k now) head.key (offer_of (k.last + 1) b)) (sym c.in-Refused.is)
     ∙ stored_by k now c.later-moment.result head c.args.blob.now head.key c.in_ok-end.field-0 c.held_at-held.result
     c.later-moment.ensures refl
-    (c.held_at-held.ensures.sought _ _
+    (c.held_at-held.ensures _ _
     (subst (λ t. SeeksSlot c.args.place t head.key c.args.self.now.live) (sym c.later-moment.ensures) c.requires.place))
     c.in_ok-end.ensures
 
@@ -33,7 +33,7 @@ returns-in-Offered-clause-plan c =
     ∙ ap (λ b. accepted (advance k now) head.key (offer_of (k.last + 1) b)) (sym c.in-Offered.is)
     ∙ stored_by k now c.later-moment.result head c.args.blob.now head.key c.in_ok-end.field-0 c.held_at-held.result
     c.later-moment.ensures refl
-    (c.held_at-held.ensures.sought _ _
+    (c.held_at-held.ensures _ _
     (subst (λ t. SeeksSlot c.args.place t head.key c.args.self.now.live) (sym c.later-moment.ensures) c.requires.place))
     c.in_ok-end.ensures
     ) c.plan_item.ensures.plan

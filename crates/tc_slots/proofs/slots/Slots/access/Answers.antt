@@ -9,10 +9,6 @@ use Rattle.tc_slots.specs.Held.{Held}
 use Rattle.tc_slots.proofs.Filling.{some_same}
 use Rattle.tc_slots.proofs.Kept.{others_weigh, put_same, time_same, slots_replaced, slots_replaced_areas}
 use Rattle.tc_slots.proofs.Moves.{holds_entry}
-use Rattle.tc_past.specs.Told.{Told}
-use Rattle.tc_slru.specs.SlotLists.{SlotLists}
-use Rattle.tc_slots.proofs.Past.{weighed_same, then_same, live_past}
-use Rattle.tc_slots.specs.Undoing.{then_by}
 use Rattle.tc_slots.proofs.slots.Slots.access.Goals as goal
 
 pub access-requires-clause-held : goal.access-requires-clause-held
@@ -21,7 +17,7 @@ access-requires-clause-held c =
     let f = c.requires.found in
     let at : slab_get i.entries c.args.slot.0 ≡ Some f.entry =
     ap (λ (z : Held). slice_index_or z.slots c.args.slot.0 None) c.self.view_is ∙ f.at in
-    holds_entry i.index i.entries i.lists.live i.wheel c.self.invariant.agree f.entry c.args.slot i.index i.entries at
+    holds_entry i.index i.entries i.lists i.wheel c.self.invariant.agree f.entry c.args.slot i.index i.entries at
 
 pub access-requires-clause-light : goal.access-requires-clause-light
 access-requires-clause-light c =
@@ -44,7 +40,7 @@ access-requires-clause-fits c =
     ap (λ (z : Held). slice_index_or z.slots c.args.slot.0 None) c.self.view_is ∙ f.at in
     omega (
       arith,
-      others_weigh i.index i.entries i.lists.live i.wheel c.self.invariant.agree f.entry c.args.slot at,
+      others_weigh i.index i.entries i.lists i.wheel c.self.invariant.agree f.entry c.args.slot at,
       ap (λ (z : Held). total weight z.areas) c.self.view_is,
       c.weight_at-weight.ensures f.entry at,
       c.requires.fits f.entry f.held,
@@ -59,17 +55,13 @@ invariant_of-self c =
     ap (λ (z : Held). slice_index_or z.slots c.args.slot.0 None) c.self.view_is ∙ f.at in
     record {
       agree =
-          slots_replaced i.index i.entries i.lists.live i.wheel c.self.invariant.agree e e c.args.slot at refl
+          slots_replaced i.index i.entries i.lists i.wheel c.self.invariant.agree e e c.args.slot at refl
           c.weight_at-weight.result (c.weight_at-weight.ensures e at) i.entries
-          (put_same (slab_get i.entries) c.args.slot.0 e at) c.access.new.self.live
-          (ap (λ (t : Told SlotLists). t.live) c.access.ensures)
+          (put_same (slab_get i.entries) c.args.slot.0 e at) c.access.new.self
+          c.access.ensures
           i.wheel (time_same (slab_get i.entries) (due_at i.wheel.dues) c.args.slot.0 e at c.self.invariant.agree.timed);
       tagged = c.self.invariant.tagged;
       within = c.self.invariant.within;
-      logged = c.self.invariant.logged;
-      weighed = weighed_same (then_by c.self.inside.log (slab_get c.self.inside.entries))
-          (then_by c.self.inside.log (slab_get c.self.inside.entries)) c.self.inside.lists c.access.new.self refl
-          (live_past _ c.self.inside.lists c.access.new.self c.access.ensures) c.self.invariant.weighed;
     }
 
 pub returns-clause-areas : goal.returns-clause-areas
@@ -79,18 +71,11 @@ returns-clause-areas c = λ d h.
     let e = f.entry in
     let at : slab_get i.entries c.args.slot.0 ≡ Some e =
     ap (λ (z : Held). slice_index_or z.slots c.args.slot.0 None) c.self.view_is ∙ f.at in
-    slots_replaced_areas i.index i.entries i.lists.live i.wheel c.self.invariant.agree e e c.args.slot at refl
+    slots_replaced_areas i.index i.entries i.lists i.wheel c.self.invariant.agree e e c.args.slot at refl
     c.weight_at-weight.result (c.weight_at-weight.ensures e at) i.entries
-    (put_same (slab_get i.entries) c.args.slot.0 e at) c.access.new.self.live
-    (ap (λ (t : Told SlotLists). t.live) c.access.ensures)
+    (put_same (slab_get i.entries) c.args.slot.0 e at) c.access.new.self
+    c.access.ensures
     ∙ ap (λ (z : Held). accessed weight z.limits (has_key e.key) e z.areas) c.self.view_is
     ∙ ap (λ k. accessed weight c.args.self.now.limits (has_key k) e c.args.self.now.areas) f.own
     ∙ ap (λ (z : Entry). accessed weight c.args.self.now.limits (has_key c.args.key.now) z c.args.self.now.areas)
     (some_same e d (sym f.held ∙ h))
-
-pub returns-clause-then : goal.returns-clause-then
-returns-clause-then c =
-    then_same (then_by c.self.inside.log (slab_get c.self.inside.entries))
-    (then_by c.self.inside.log (slab_get c.self.inside.entries)) c.self.inside.lists c.access.new.self refl
-    (live_past _ c.self.inside.lists c.access.new.self c.access.ensures)
-    ∙ ap (λ (z : Held). z.then) c.self.view_is

@@ -10,7 +10,7 @@ pub returns : goal.returns
 returns c =
     let i = c.self.inside in
     let S = slab_get i.entries in
-    let a = i.lists.live.areas in
+    let a = i.lists.areas in
     let k = c.self.invariant.agree.weighed in
     three_same _ _ _ _ _ _
     (c.in_ok-window.ensures ∙ ap (entries_at S) (c.deref.ensures.value ∙ c.in_ok-first.ensures)

@@ -11,5 +11,5 @@ pub returns : goal.returns
 returns c =
     let i = c.self.inside in
     c.len.ensures
-    ∙ as_many (slot_of i.entries.slots) i.entries.slots (due_at i.wheel.dues) i.lists.live.areas c.self.invariant.agree
+    ∙ as_many (slot_of i.entries.slots) i.entries.slots (due_at i.wheel.dues) i.lists.areas c.self.invariant.agree
     ∙ ap (λ (z : Held). length (entries_of z.areas)) c.self.view_is

@@ -1,5 +1,4 @@
 use Rattle.tc_slots.proofs.Tagged.{tagged_taken}
-use Rattle.tc_slots.specs.Held.{AreTagged}
 use Rattle.std.proofs.Common.{length, sym, subst, ◌∙◌, ap, arith}
 use Rattle.tc_model.specs.Areas.{total}
 use Rattle.tc_plain.specs.Entries.{weight}
@@ -10,16 +9,12 @@ use Rattle.tc_slots.proofs.Moves.{fill_free, slots_filled, slots_filled_areas, t
 use Rattle.tc_wheel.specs.Dues.{due_at}
 use Rattle.tc_slots.specs.Agreement.{set_at}
 use Rattle.slab.specs.Slab.{get as slab_get}
-use Rattle.tc_slots.proofs.Undoing.{logged_noted}
-use Rattle.tc_past.specs.Told.{Told}
-use Rattle.tc_slru.specs.SlotLists.{SlotLists}
-use Rattle.tc_slots.proofs.Past.{weighed_same, then_same, live_past}
 use Rattle.tc_slots.proofs.slots.Slots.fill.Goals as goal
 
 pub push-requires-clause-free : goal.push-requires-clause-free
 push-requires-clause-free c =
     let i = c.self.inside in
-    fill_free i.index i.entries i.lists.live i.wheel c.self.invariant.agree c.args.entry c.take_in-slot.result
+    fill_free i.index i.entries i.lists i.wheel c.self.invariant.agree c.args.entry c.take_in-slot.result
     c.take_in-slot.new.index
     c.take_in-slot.new.entries c.take_in-slot.ensures.taken
     (ap (λ (z : Held). held c.args.entry.key z.areas) c.self.view_is ∙ c.requires.free)
@@ -29,7 +24,7 @@ push-requires-clause-fits c =
     let i = c.self.inside in
     omega (
       arith,
-      total_weighs (slab_get i.entries) i.lists.live.areas c.self.invariant.agree.weighed,
+      total_weighs (slab_get i.entries) i.lists.areas c.self.invariant.agree.weighed,
       ap (λ (z : Held). total weight z.areas) c.self.view_is,
       c.weight-weight.ensures.value,
       c.requires.fits,
@@ -38,43 +33,31 @@ push-requires-clause-fits c =
 pub invariant_of-self : goal.invariant_of-self
 invariant_of-self c =
     let i = c.self.inside in
-    let r = room_parts i.index i.entries i.lists.live i.wheel (ap (λ (z : Held). z.has_room) c.self.view_is ∙ c.requires.room) in
+    let r = room_parts i.index i.entries i.lists i.wheel (ap (λ (z : Held). z.has_room) c.self.view_is ∙ c.requires.room) in
     record {
       agree =
-          slots_filled i.index i.entries i.lists.live i.wheel c.self.invariant.agree c.args.entry c.take_in-slot.result
+          slots_filled i.index i.entries i.lists i.wheel c.self.invariant.agree c.args.entry c.take_in-slot.result
           c.take_in-slot.new.index c.take_in-slot.new.entries c.take_in-slot.ensures.taken
           (ap (λ (z : Held). held c.args.entry.key z.areas) c.self.view_is ∙ c.requires.free)
-          c.args.area c.push.new.self.live c.time.new.wheel c.weight-weight.result c.weight-weight.ensures.value
-          (ap (λ (t : Told SlotLists). t.live) c.push.ensures)
+          c.args.area c.push.new.self c.time.new.wheel c.weight-weight.result c.weight-weight.ensures.value
+          c.push.ensures
           (λ k. c.time.ensures.dues k
           ∙ ap (λ o. set_at c.take_in-slot.result.0 o (due_at i.wheel.dues) k) c.reached_by-due.ensures);
       tagged =
-          subst (λ ts. AreTagged i.hasher ts (slab_get c.take_in-slot.new.entries)) (sym c.take_in-slot.ensures.taken.index)
-          (tagged_taken i.hasher i.index (slab_get i.entries) (slab_get c.take_in-slot.new.entries) c.take_in-slot.result.0
-          c.self.invariant.tagged c.args.entry (omega (arith, c.take_in-slot.ensures.taken.within, r.index))
-          c.take_in-slot.ensures.taken.entries);
+          tagged_taken i.hasher i.index (slab_get i.entries) (slab_get c.take_in-slot.new.entries) c.take_in-slot.result.0
+          c.self.invariant.tagged c.take_in-slot.new.index c.args.entry c.take_in-slot.ensures.taken.vacant
+          c.take_in-slot.ensures.taken.index c.take_in-slot.ensures.taken.entries;
       within = subst (λ n. AreWithin n (slab_get c.take_in-slot.new.entries)) (sym c.time.ensures.long)
           (within_taken (length i.wheel.dues) c.take_in-slot.result.0 c.args.entry (slab_get i.entries)
           (slab_get c.take_in-slot.new.entries) (omega (arith, c.take_in-slot.ensures.taken.within, r.wheel))
           c.take_in-slot.ensures.taken.entries c.self.invariant.within);
-      logged = logged_noted _ _ c.take_in-slot.result.0 _ _ _ _ _ _ c.self.invariant.logged c.take_in-slot.ensures.noted
-          (omega (arith, c.take_in-slot.ensures.taken.within, r.wheel)) c.time.ensures.long
-          (omega (arith, c.requires.spare, ap (λ (z : Held). z.spare) c.self.view_is, c.take_in-slot.ensures.len));
-      weighed = weighed_same _ _ c.self.inside.lists c.push.new.self c.take_in-slot.ensures.noted.then
-          (live_past _ c.self.inside.lists c.push.new.self c.push.ensures) c.self.invariant.weighed;
     }
 
 pub returns-clause-areas : goal.returns-clause-areas
 returns-clause-areas c =
     let i = c.self.inside in
-    slots_filled_areas i.index i.entries i.lists.live i.wheel c.self.invariant.agree c.args.entry c.take_in-slot.result
+    slots_filled_areas i.index i.entries i.lists i.wheel c.self.invariant.agree c.args.entry c.take_in-slot.result
     c.take_in-slot.new.index c.take_in-slot.new.entries c.take_in-slot.ensures.taken
     (ap (λ (z : Held). held c.args.entry.key z.areas) c.self.view_is ∙ c.requires.free)
-    c.args.area c.push.new.self.live c.weight-weight.result (ap (λ (t : Told SlotLists). t.live) c.push.ensures)
+    c.args.area c.push.new.self c.weight-weight.result c.push.ensures
     ∙ ap (λ (z : Held). fronted_in c.args.area c.args.entry z.areas) c.self.view_is
-
-pub returns-clause-then : goal.returns-clause-then
-returns-clause-then c =
-    then_same _ _ c.self.inside.lists c.push.new.self c.take_in-slot.ensures.noted.then
-    (live_past _ c.self.inside.lists c.push.new.self c.push.ensures)
-    ∙ ap (λ (z : Held). z.then) c.self.view_is

@@ -2,9 +2,6 @@ use Rattle.std.proofs.Common.{None, ◌∙◌, ap, subst}
 use Rattle.tc_plain.specs.EvictionState.{held}
 use Rattle.tc_slots.specs.Held.{Held, FindsSlot}
 use Rattle.tc_slots.proofs.Moves.{index_free, slots_missed}
-use Rattle.tc_slots.specs.Held.{then_areas}
-use Rattle.tc_slots.specs.Undoing.{then_by}
-use Rattle.slab.specs.Slab.{get as slab_get}
 use Rattle.tc_slots.proofs.slots.Slots.find_again.Goals as goal
 
 pub returns-in-None : goal.returns-in-None
@@ -12,7 +9,7 @@ returns-in-None c =
     let i = c.self.inside in
     let key = c.args.key.now in
     subst (λ (z : Held). FindsSlot None key z) c.self.view_is
-    (slots_missed i.index i.entries i.lists.live i.wheel (then_areas (then_by i.log (slab_get i.entries)) i.lists) i.log
+    (slots_missed i.index i.entries i.lists i.wheel
     c.self.invariant.agree key
-    (index_free i.index i.entries i.lists.live i.wheel c.self.invariant.agree key
+    (index_free i.index i.entries i.lists i.wheel c.self.invariant.agree key
     (ap (λ (z : Held). held key z.areas) c.self.view_is ∙ c.requires c.in-None.is)))

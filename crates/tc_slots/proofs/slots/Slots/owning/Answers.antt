@@ -15,6 +15,6 @@ returns c = λ n e h.
     let v : Slot = record { 0 = n } in
     let at : slab_get i.entries n ≡ Some e = ap (λ (z : Held). slice_index_or z.slots n None) c.self.view_is ∙ h in
     sym (ap (λ (z : Held). held e.key z.areas) c.self.view_is)
-    ∙ held_filled (slot_of i.entries.slots) (slab_get i.entries) (due_at i.wheel.dues) i.lists.live.areas
+    ∙ held_filled (slot_of i.entries.slots) (slab_get i.entries) (due_at i.wheel.dues) i.lists.areas
     c.self.invariant.agree e v
     at

@@ -9,10 +9,6 @@ use Rattle.tc_slots.specs.Agreement.{set_at}
 use Rattle.tc_slots.specs.Held.{Held, AreWithin}
 use Rattle.tc_slots.proofs.Kept.{due_again, others_weigh, slots_replaced, slots_replaced_areas}
 use Rattle.tc_slots.proofs.Moves.{holds_entry, long_cleared, within_taken}
-use Rattle.tc_slots.proofs.Undoing.{logged_noted}
-use Rattle.tc_past.specs.Told.{Told}
-use Rattle.tc_slru.specs.SlotLists.{SlotLists}
-use Rattle.tc_slots.proofs.Past.{weighed_same, then_same, live_past}
 use Rattle.tc_slots.proofs.slots.Slots.replace.Goals as goal
 
 pub access-requires-clause-held : goal.access-requires-clause-held
@@ -21,7 +17,7 @@ access-requires-clause-held c =
     let f = c.requires.found in
     let at : slab_get i.entries c.args.slot.0 ≡ Some f.entry =
     ap (λ (z : Held). slice_index_or z.slots c.args.slot.0 None) c.self.view_is ∙ f.at in
-    holds_entry i.index i.entries i.lists.live i.wheel c.self.invariant.agree f.entry c.args.slot i.index i.entries at
+    holds_entry i.index i.entries i.lists i.wheel c.self.invariant.agree f.entry c.args.slot i.index i.entries at
 
 pub access-requires-clause-fits : goal.access-requires-clause-fits
 access-requires-clause-fits c =
@@ -31,7 +27,7 @@ access-requires-clause-fits c =
     ap (λ (z : Held). slice_index_or z.slots c.args.slot.0 None) c.self.view_is ∙ f.at in
     omega (
       arith,
-      others_weigh i.index i.entries i.lists.live i.wheel c.self.invariant.agree f.entry c.args.slot at,
+      others_weigh i.index i.entries i.lists i.wheel c.self.invariant.agree f.entry c.args.slot at,
       ap (λ (z : Held). total weight z.areas) c.self.view_is,
       c.weight-weight.ensures.value,
       c.requires.fits,
@@ -45,9 +41,9 @@ invariant_of-self c =
     ap (λ (z : Held). slice_index_or z.slots c.args.slot.0 None) c.self.view_is ∙ f.at in
     record {
       agree =
-          slots_replaced i.index i.entries i.lists.live i.wheel c.self.invariant.agree f.entry c.args.entry c.args.slot at f.own
-          c.weight-weight.result c.weight-weight.ensures.value c.put.new.entries c.put.ensures.entries c.access.new.self.live
-          (ap (λ (t : Told SlotLists). t.live) c.access.ensures)
+          slots_replaced i.index i.entries i.lists i.wheel c.self.invariant.agree f.entry c.args.entry c.args.slot at f.own
+          c.weight-weight.result c.weight-weight.ensures.value c.put.new.entries c.put.ensures.entries c.access.new.self
+          c.access.ensures
           c.time.new.wheel (due_again i.wheel c.remove.new.self c.time.new.wheel c.args.slot.0 _ c.remove.ensures
           (λ k. c.time.ensures.dues k
           ∙ ap (λ o. set_at c.args.slot.0 o (due_at c.remove.new.self.dues) k) c.reached_by-due.ensures));
@@ -59,12 +55,6 @@ invariant_of-self c =
           (sym (c.time.ensures.long ∙ long_cleared i.wheel c.remove.new.self c.args.slot.0 c.remove.ensures))
           (within_taken (length i.wheel.dues) c.args.slot.0 c.args.entry (slab_get i.entries) (slab_get c.put.new.entries)
           (c.self.invariant.within c.args.slot.0 (ap is_some at)) c.put.ensures.entries c.self.invariant.within);
-      logged = logged_noted _ _ c.args.slot.0 _ _ _ _ _ _ c.self.invariant.logged c.put.ensures.noted
-          (c.self.invariant.within c.args.slot.0 (ap is_some at))
-          (c.time.ensures.long ∙ long_cleared i.wheel c.remove.new.self c.args.slot.0 c.remove.ensures)
-          (omega (arith, c.requires.spare, ap (λ (z : Held). z.spare) c.self.view_is, c.put.ensures.len));
-      weighed = weighed_same _ _ c.self.inside.lists c.access.new.self c.put.ensures.noted.then
-          (live_past _ c.self.inside.lists c.access.new.self c.access.ensures) c.self.invariant.weighed;
     }
 
 pub returns-clause-areas : goal.returns-clause-areas
@@ -73,13 +63,7 @@ returns-clause-areas c =
     let f = c.requires.found in
     let at : slab_get i.entries c.args.slot.0 ≡ Some f.entry =
     ap (λ (z : Held). slice_index_or z.slots c.args.slot.0 None) c.self.view_is ∙ f.at in
-    slots_replaced_areas i.index i.entries i.lists.live i.wheel c.self.invariant.agree f.entry c.args.entry c.args.slot at f.own
-    c.weight-weight.result c.weight-weight.ensures.value c.put.new.entries c.put.ensures.entries c.access.new.self.live
-    (ap (λ (t : Told SlotLists). t.live) c.access.ensures)
+    slots_replaced_areas i.index i.entries i.lists i.wheel c.self.invariant.agree f.entry c.args.entry c.args.slot at f.own
+    c.weight-weight.result c.weight-weight.ensures.value c.put.new.entries c.put.ensures.entries c.access.new.self
+    c.access.ensures
     ∙ ap (λ (z : Held). accessed weight z.limits (has_key c.args.entry.key) c.args.entry z.areas) c.self.view_is
-
-pub returns-clause-then : goal.returns-clause-then
-returns-clause-then c =
-    then_same _ _ c.self.inside.lists c.access.new.self c.put.ensures.noted.then
-    (live_past _ c.self.inside.lists c.access.new.self c.access.ensures)
-    ∙ ap (λ (z : Held). z.then) c.self.view_is

@@ -11,10 +11,6 @@ use Rattle.tc_slots.specs.Held.{Held, AreWithin}
 use Rattle.tc_slots.proofs.Filling.{some_same}
 use Rattle.tc_slots.proofs.Kept.{due_again, others_weigh, slots_replaced, slots_replaced_areas}
 use Rattle.tc_slots.proofs.Moves.{holds_entry, long_cleared, within_taken}
-use Rattle.tc_slots.proofs.Undoing.{logged_noted}
-use Rattle.tc_past.specs.Told.{Told}
-use Rattle.tc_slru.specs.SlotLists.{SlotLists}
-use Rattle.tc_slots.proofs.Past.{weighed_same, then_same, live_past}
 use Rattle.tc_slots.proofs.slots.Slots.touch.Goals as goal
 
 pub access-requires-clause-held : goal.access-requires-clause-held
@@ -23,7 +19,7 @@ access-requires-clause-held c =
     let f = c.requires.found in
     let at : slab_get i.entries c.args.slot.0 ≡ Some f.entry =
     ap (λ (z : Held). slice_index_or z.slots c.args.slot.0 None) c.self.view_is ∙ f.at in
-    holds_entry i.index i.entries i.lists.live i.wheel c.self.invariant.agree f.entry c.args.slot i.index i.entries at
+    holds_entry i.index i.entries i.lists i.wheel c.self.invariant.agree f.entry c.args.slot i.index i.entries at
 
 pub access-requires-clause-light : goal.access-requires-clause-light
 access-requires-clause-light c =
@@ -46,7 +42,7 @@ access-requires-clause-fits c =
     ap (λ (z : Held). slice_index_or z.slots c.args.slot.0 None) c.self.view_is ∙ f.at in
     omega (
       arith,
-      others_weigh i.index i.entries i.lists.live i.wheel c.self.invariant.agree f.entry c.args.slot at,
+      others_weigh i.index i.entries i.lists i.wheel c.self.invariant.agree f.entry c.args.slot at,
       ap (λ (z : Held). total weight z.areas) c.self.view_is,
       c.weight_at-weight.ensures f.entry at,
       c.requires.fits f.entry f.held,
@@ -62,9 +58,9 @@ invariant_of-self c =
     ap (λ (z : Held). slice_index_or z.slots c.args.slot.0 None) c.self.view_is ∙ f.at in
     record {
       agree =
-          slots_replaced i.index i.entries i.lists.live i.wheel c.self.invariant.agree e x c.args.slot at refl
+          slots_replaced i.index i.entries i.lists i.wheel c.self.invariant.agree e x c.args.slot at refl
           c.weight_at-weight.result (c.weight_at-weight.ensures e at) c.put_due.new.entries
-          (c.put_due.ensures.entries e at) c.access.new.self.live (ap (λ (t : Told SlotLists). t.live) c.access.ensures)
+          (c.put_due.ensures.entries e at) c.access.new.self c.access.ensures
           c.time.new.wheel (due_again i.wheel c.remove.new.self c.time.new.wheel c.args.slot.0 _ c.remove.ensures
           (λ k. c.time.ensures.dues k
           ∙ ap (λ o. set_at c.args.slot.0 o (due_at c.remove.new.self.dues) k) c.reached.ensures));
@@ -76,12 +72,6 @@ invariant_of-self c =
           (sym (c.time.ensures.long ∙ long_cleared i.wheel c.remove.new.self c.args.slot.0 c.remove.ensures))
           (within_taken (length i.wheel.dues) c.args.slot.0 x (slab_get i.entries) (slab_get c.put_due.new.entries)
           (c.self.invariant.within c.args.slot.0 (ap is_some at)) (c.put_due.ensures.entries e at) c.self.invariant.within);
-      logged = logged_noted _ _ c.args.slot.0 _ _ _ _ _ _ c.self.invariant.logged c.put_due.ensures.noted
-          (c.self.invariant.within c.args.slot.0 (ap is_some at))
-          (c.time.ensures.long ∙ long_cleared i.wheel c.remove.new.self c.args.slot.0 c.remove.ensures)
-          (omega (arith, c.requires.spare, ap (λ (z : Held). z.spare) c.self.view_is, c.put_due.ensures.len));
-      weighed = weighed_same _ _ c.self.inside.lists c.access.new.self c.put_due.ensures.noted.then
-          (live_past _ c.self.inside.lists c.access.new.self c.access.ensures) c.self.invariant.weighed;
     }
 
 pub returns-clause-areas : goal.returns-clause-areas
@@ -92,18 +82,12 @@ returns-clause-areas c = λ d h.
     let x : Entry = with_item e (with_due c.args.due e.item) in
     let at : slab_get i.entries c.args.slot.0 ≡ Some e =
     ap (λ (z : Held). slice_index_or z.slots c.args.slot.0 None) c.self.view_is ∙ f.at in
-    slots_replaced_areas i.index i.entries i.lists.live i.wheel c.self.invariant.agree e x c.args.slot at refl
+    slots_replaced_areas i.index i.entries i.lists i.wheel c.self.invariant.agree e x c.args.slot at refl
     c.weight_at-weight.result (c.weight_at-weight.ensures e at) c.put_due.new.entries
-    (c.put_due.ensures.entries e at) c.access.new.self.live (ap (λ (t : Told SlotLists). t.live) c.access.ensures)
+    (c.put_due.ensures.entries e at) c.access.new.self c.access.ensures
     ∙ ap (λ (z : Held). accessed weight z.limits (has_key e.key) x z.areas) c.self.view_is
     ∙ ap (λ k. accessed weight c.args.self.now.limits (has_key k) x c.args.self.now.areas) f.own
     ∙ ap
     (λ (z : Entry). accessed weight c.args.self.now.limits (has_key c.args.key.now)
     (with_item z (with_due c.args.due z.item)) c.args.self.now.areas)
     (some_same e d (sym f.held ∙ h))
-
-pub returns-clause-then : goal.returns-clause-then
-returns-clause-then c =
-    then_same _ _ c.self.inside.lists c.access.new.self c.put_due.ensures.noted.then
-    (live_past _ c.self.inside.lists c.access.new.self c.access.ensures)
-    ∙ ap (λ (z : Held). z.then) c.self.view_is

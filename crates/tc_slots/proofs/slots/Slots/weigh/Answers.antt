@@ -12,7 +12,7 @@ overflow_add-result c =
     let i = c.self.inside in
     omega (
       arith,
-      total_weighs (slab_get i.entries) i.lists.live.areas c.self.invariant.agree.weighed,
+      total_weighs (slab_get i.entries) i.lists.areas c.self.invariant.agree.weighed,
       ap (λ (z : Held). total weight z.areas) c.self.view_is,
       ap (λ (z : Weights). z.window) c.weights-weights.ensures,
       ap (λ (z : Weights). z.probation) c.weights-weights.ensures,
@@ -24,7 +24,7 @@ overflow_add-result-2 c =
     let i = c.self.inside in
     omega (
       arith,
-      total_weighs (slab_get i.entries) i.lists.live.areas c.self.invariant.agree.weighed,
+      total_weighs (slab_get i.entries) i.lists.areas c.self.invariant.agree.weighed,
       ap (λ (z : Held). total weight z.areas) c.self.view_is,
       ap (λ (z : Weights). z.window) c.weights-weights.ensures,
       ap (λ (z : Weights). z.probation) c.weights-weights.ensures,
@@ -36,7 +36,7 @@ returns c =
     let i = c.self.inside in
     omega (
       arith,
-      total_weighs (slab_get i.entries) i.lists.live.areas c.self.invariant.agree.weighed,
+      total_weighs (slab_get i.entries) i.lists.areas c.self.invariant.agree.weighed,
       ap (λ (z : Held). total weight z.areas) c.self.view_is,
       ap (λ (z : Weights). z.window) c.weights-weights.ensures,
       ap (λ (z : Weights). z.probation) c.weights-weights.ensures,

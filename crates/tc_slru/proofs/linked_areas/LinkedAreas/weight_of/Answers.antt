@@ -6,19 +6,19 @@ use Rattle.tc_slru.proofs.linked_areas.LinkedAreas.weight_of.Goals as goal
 pub place-at-requires : goal.place-at-requires
 place-at-requires c =
     let i = c.self.inside in
-    let held = held_shown (links_of i.nodes.live) i.sizes.live c.args.slot.0 c.args.self.now.live
-    (ap (λ t. t.live) c.self.view_is) c.requires c.self.invariant.live in
+    let held = held_shown (links_of i.nodes) i.sizes c.args.slot.0 c.args.self.now
+    c.self.view_is c.requires c.self.invariant in
     (omega arith, held.1.place.own)
 
 pub node-requires : goal.node-requires
 node-requires c =
     let i = c.self.inside in
-    let held = held_shown (links_of i.nodes.live) i.sizes.live c.args.slot.0 c.args.self.now.live
-    (ap (λ t. t.live) c.self.view_is) c.requires c.self.invariant.live in
+    let held = held_shown (links_of i.nodes) i.sizes c.args.slot.0 c.args.self.now
+    c.self.view_is c.requires c.self.invariant in
     (omega arith, rw c.place-at.ensures.node held.1.place.own)
 
 pub returns : goal.returns
 returns c =
-    weighs_noted c.self.inside.nodes.live c.self.inside.sizes.live c.args.slot.0 c.args.self.now.live c.place-at.result
-    c.node.result.note c.place-at.ensures.node c.node.ensures.note (ap (λ t. t.live) c.self.view_is) c.requires
-    c.self.invariant.live
+    weighs_noted c.self.inside.nodes c.self.inside.sizes c.args.slot.0 c.args.self.now c.place-at.result
+    c.node.result.note c.place-at.ensures.node c.node.ensures.note c.self.view_is c.requires
+    c.self.invariant

@@ -1,0 +1,2 @@
+pub mod UserTables
+pub mod LimitTables
