@@ -1,6 +1,6 @@
 #!/usr/bin/env python3
-"""What `PROGRAM check` says of the settings in examples/settings.rows, and `check` and `serve` of addresses, of the
-settings' file and of descriptors.
+"""What `PROGRAM check` says of the settings in examples/settings.rows and of sizes of items, and `check` and
+`serve` of addresses, of the settings' file and of descriptors.
 
 usage: bench/settings.py PROGRAM
 
@@ -140,13 +140,34 @@ def warnings(program):
         yield f"warnings, mode {mode:o} and the token {name}", None if good else repr((checked, served))
 
 
+SIZES = (
+    (["--key", "0"], "error: invalid value '0' for '--key <BYTES>': 0 is not in 1..=250\n"),
+    (["--key", "251"], "error: invalid value '251' for '--key <BYTES>': 251 is not in 1..=250\n"),
+    (["--data", "1048577"], "error: invalid value '1048577' for '--data <BYTES>': 1048577 is not in 0..=1048576\n"),
+    (["--data", "many"], "error: invalid value 'many' for '--data <BYTES>': invalid digit found in string\n"),
+    (["--key", "250", "--data", "0"], "items of 250 bytes of key and 0 of data\n"),
+    (["--key", "1", "--data", "1048576"], "items of 1 bytes of key and 1048576 of data\n"),
+    ([], "items of 32 bytes of key and 100 of data\n"))
+
+
+def sizes(program):
+    """A size out of range is refused with the command line; the others are the table's."""
+    file = File("127.0.0.1:11211")
+    for more, line in SIZES:
+        ran = subprocess.run([program, "check", "--config", file.name, *more], capture_output=True, text=True, timeout=60)
+        refused = line.startswith("error")
+        good = ran.returncode == 2 and not ran.stdout and ran.stderr.startswith(line) if refused else \
+            ran.returncode == 0 and not ran.stderr and line in ran.stdout
+        yield " ".join(["check", *more]), None if good else f"status {ran.returncode}, {ran.stdout!r}, {ran.stderr!r}"
+
+
 def main():
     words = argparse.ArgumentParser(description=__doc__, formatter_class=argparse.RawDescriptionHelpFormatter)
     words.add_argument("program", type=Path)
     program = words.parse_args().program.resolve()
     wrong = 0
     cases = [(name, fault(program, settings, number, line)) for name, settings, number, line in rows()]
-    cases += [*addresses(program), ("an address in use", beside_a_server(program)), *warnings(program)]
+    cases += [*addresses(program), ("an address in use", beside_a_server(program)), *warnings(program), *sizes(program)]
     for name, said in cases:
         print(f"{name}: {'as it should' if said is None else f'WRONG: {said}'}", flush=True)
         wrong += said is not None

@@ -1,4 +1,4 @@
-//! Acts of a cache: one, many, and what they take.
+//! Acts of a cache: single ones, many, and the time that they take.
 
 use crate::commands::{Ask, Span, commands, item};
 use crate::fault::Fault;
@@ -11,7 +11,7 @@ use tc_kinds::Journal;
 use tc_plain::Cache;
 use tc_stats::Outcome;
 
-/// How many hits an outcome has.
+/// Returns how many hits an outcome has.
 fn hits_of(outcome: &Outcome) -> u32 {
     match outcome {
         Outcome::Values(hits) => u32::try_from(hits.len()).unwrap_or(u32::MAX),
@@ -19,7 +19,7 @@ fn hits_of(outcome: &Outcome) -> u32 {
     }
 }
 
-/// How many items were evicted, where an outcome shows the counters.
+/// Returns how many items were evicted if an outcome shows the counters, otherwise 0.
 fn evicted_in(outcome: &Outcome) -> u32 {
     match outcome {
         Outcome::Stats(statistics) => u32::try_from(statistics.counters().evictions).unwrap_or(
@@ -29,19 +29,19 @@ fn evicted_in(outcome: &Outcome) -> u32 {
     }
 }
 
-/// How many hits an act shows.
+/// Does a command at moment 0, without a journal. Returns how many hits it shows.
 fn act<C: Cache>(alloc: Global, cache: &mut C, command: &Command) -> Result<u32, Fault> {
     let acted = cache.act(alloc, Moment::FIRST, command, Journal::Off)?;
     Ok(hits_of(&acted.answer))
 }
 
-/// How many items a cache evicted so far.
+/// Returns how many items a cache has evicted so far.
 pub(crate) fn evicted<C: Cache>(alloc: Global, cache: &mut C) -> Result<u32, Fault> {
     let acted = cache.act(alloc, Moment::FIRST, &Command::Stats, Journal::Off)?;
     Ok(evicted_in(&acted.answer))
 }
 
-/// Does all commands so many times over. The sum is how many hits they show.
+/// Does all commands, `rounds` times over. The sum counts the hits that they show.
 pub(crate) fn act_all<C: Cache>(
     alloc: Global,
     cache: &mut C,
@@ -59,7 +59,7 @@ pub(crate) fn act_all<C: Cache>(
     Ok(tally)
 }
 
-/// The same, and what it takes.
+/// Does all commands, `rounds` times over, and measures the time.
 pub(crate) fn time_acts<C: Cache>(
     rt: &HostRuntime,
     cache: &mut C,
@@ -72,7 +72,8 @@ pub(crate) fn time_acts<C: Cache>(
     Ok(Spent { time, tally })
 }
 
-/// The same for one command on each item of a span, which are made before.
+/// Does a command on each item of a span, `rounds` times over, and measures the time. The commands
+/// are made before the clock starts.
 pub(crate) fn time_span<C: Cache>(
     rt: &HostRuntime,
     cache: &mut C,
@@ -84,13 +85,13 @@ pub(crate) fn time_span<C: Cache>(
     time_acts(rt, cache, &commands, rounds)
 }
 
-/// Makes and sets an item.
+/// Makes an item and stores it. Returns 0, since a `set` shows no hit.
 pub(crate) fn set<C: Cache>(alloc: Global, cache: &mut C, number: u32) -> Result<u32, Fault> {
     let set = item(alloc, number)?;
     act(alloc, cache, &set)
 }
 
-/// Makes and sets so many items, the first of which has number 0.
+/// Makes and stores this many items, numbered from 0.
 pub(crate) fn fill<C: Cache>(alloc: Global, cache: &mut C, items: u32) -> Result<(), Fault> {
     for number in 0..items {
         set(alloc, cache, number)?;

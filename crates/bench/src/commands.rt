@@ -1,4 +1,4 @@
-//! What caches are measured with: keys of 16 bytes, data of 100, and commands on them.
+//! Commands for measuring: keys of 16 bytes and data of 100 bytes.
 
 use crate::fault::Fault;
 use std::alloc::Global;
@@ -8,13 +8,13 @@ use tc_item::{Blob, Key, Keys, NoMemory};
 /// The bytes of each item's data.
 const DATA: usize = 100;
 
-/// The second at which all items are due. What is timed happens before it.
+/// The second at which all items are due. All that is timed happens before it.
 const DUE: u64 = 60;
 
-/// A prime, so that its multiples pass over each place of a span once.
+/// A prime, so that its multiples reach each place of a span once.
 const STRIDE: u64 = 2_654_435_761;
 
-/// The numbers of some items, from the first on.
+/// The numbers of `count` items, from `first` on.
 #[derive(Clone, Copy)]
 pub(crate) struct Span {
     pub(crate) first: u32,
@@ -22,7 +22,7 @@ pub(crate) struct Span {
 }
 
 impl Span {
-    /// The number at a place, in an order that looks random.
+    /// Returns the number at a place, in an order that looks random.
     fn number(self, place: u32) -> u32 {
         let stirred = u64::from(place).wrapping_mul(STRIDE);
         let offset = stirred.checked_rem(u64::from(self.count)).unwrap_or(0);
@@ -31,7 +31,7 @@ impl Span {
     }
 }
 
-/// What is asked for under a key.
+/// What a command does with its key.
 #[derive(Clone, Copy)]
 pub(crate) enum Ask<'a> {
     Get,
@@ -40,18 +40,19 @@ pub(crate) enum Ask<'a> {
     Delete,
 }
 
-/// The key of an item, of 16 bytes.
+/// Returns the key of an item, 16 bytes long.
 fn key(alloc: Global, number: u32) -> Result<Key, Fault> {
     let text = format!(in alloc; "user:{number:011}")?;
     Ok(Key::new(alloc, text.as_bytes())?)
 }
 
-/// An item's data, shared with no other.
+/// Returns an item's data, shared with no other item.
 pub(crate) fn data(alloc: Global) -> Result<Blob, NoMemory> {
     let bytes = vec![in alloc; b'x'; DATA]?;
     Blob::new(alloc, bytes)
 }
 
+/// Returns a `set` with flags 0, which is due at `DUE`.
 fn set(key: Key, blob: Blob) -> Command {
     let head = Head {
         kind: StoreKind::Set,
@@ -64,6 +65,7 @@ fn set(key: Key, blob: Blob) -> Command {
     Command::Store(head, blob)
 }
 
+/// Returns the command on the item of this number.
 fn command(alloc: Global, ask: Ask, number: u32) -> Result<Command, Fault> {
     let key = key(alloc, number)?;
     match ask {
@@ -76,13 +78,13 @@ fn command(alloc: Global, ask: Ask, number: u32) -> Result<Command, Fault> {
     }
 }
 
-/// A `set` of an item with data of its own.
+/// Returns a `set` of an item with data of its own.
 pub(crate) fn item(alloc: Global, number: u32) -> Result<Command, Fault> {
     let data = data(alloc)?;
     command(alloc, Ask::Set(&data), number)
 }
 
-/// One command for each item of a span, in an order that looks random.
+/// Returns one command for each item of a span, in an order that looks random.
 pub(crate) fn commands(alloc: Global, ask: Ask, span: Span) -> Result<Vec<Command>, Fault> {
     let mut commands = Vec::new(alloc);
     for place in 0..span.count {
@@ -92,7 +94,7 @@ pub(crate) fn commands(alloc: Global, ask: Ask, span: Span) -> Result<Vec<Comman
     Ok(commands)
 }
 
-/// One `get` of so many items of a span, from this place on.
+/// Returns one `get` of `count` items of a span, from place `first` on.
 fn get_from(alloc: Global, span: Span, first: u32, count: u32) -> Result<Command, Fault> {
     let mut keys = Keys::new();
     for nth in 0..count {
@@ -105,7 +107,8 @@ fn get_from(alloc: Global, span: Span, first: u32, count: u32) -> Result<Command
     })
 }
 
-/// `get`s of so many keys each, which name the items of a span in an order that looks random.
+/// Returns `get`s of `each` keys each, which name the items of a span in an order that looks
+/// random.
 pub(crate) fn many_gets(alloc: Global, span: Span, each: u32) -> Result<Vec<Command>, Fault> {
     let mut gets = Vec::new(alloc);
     for nth in 0..span.count / each.max(1) {

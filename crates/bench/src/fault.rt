@@ -1,4 +1,4 @@
-//! Why the program ends early: its line on standard error, and its exit status.
+//! Why the program ends early: its line on standard error and its exit status.
 
 use std::alloc::{AllocError, AllocFailed};
 use std::io;
@@ -7,18 +7,18 @@ use tc_item::{KeyFault, NoMemory};
 /// Why the program ends early.
 #[derive(Clone, Copy, Debug)]
 pub(crate) enum Fault {
-    /// The words after the program's name ask for nothing that there is.
+    /// The words after the program's name are neither none nor `--measure` alone.
     Usage,
-    /// Memory was refused.
+    /// The allocator refused memory.
     NoMemory,
     /// The clock, the arguments or standard output failed.
     System,
-    /// A key that is made to be measured was refused.
+    /// A key made for measuring was refused.
     Unfit,
 }
 
 impl Fault {
-    /// The line on standard error.
+    /// Returns the line for standard error.
     pub(crate) fn text(self) -> &'static str {
         match self {
             Fault::Usage => "usage: bench [--measure]",
@@ -28,7 +28,7 @@ impl Fault {
         }
     }
 
-    /// The exit status.
+    /// Returns the exit status: 2 for wrong usage, 1 for all else.
     pub(crate) fn status(self) -> u8 {
         match self {
             Fault::Usage => 2,

@@ -1,6 +1,7 @@
-//! Measures a user's cache: `bench --measure` prints what its calls take, by how many items it holds.
+//! Measures one user's cache: `bench --measure` prints the time of its calls, by the number of
+//! items that it holds.
 //!
-//! Without that word it does a little of each, and prints what the calls came to and no times.
+//! Without `--measure` the program does a little of each, and prints counts and no times.
 //! bench/README.md says what is measured.
 #![tactic(auto)]
 
@@ -15,7 +16,8 @@ use measuring::Extent;
 use std::env;
 use std::process::ExitCode;
 
-/// How much the words ask for, the program's name first.
+/// Returns how much the words ask for, after the program's name. Fails with `Fault::Usage` unless
+/// they are none or `--measure` alone.
 fn parse(words: &[String]) -> Result<Extent, Fault> {
     match words {
         [] | [_] => Ok(Extent::Counted),
@@ -24,6 +26,7 @@ fn parse(words: &[String]) -> Result<Extent, Fault> {
     }
 }
 
+/// Reads the program's arguments.
 fn read_words(rt: &HostRuntime) -> Result<Extent, Fault> {
     let words: Vec<String> = env::args(rt)?.collect(rt.alloc())?;
     parse(&words)

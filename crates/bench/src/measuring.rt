@@ -1,55 +1,55 @@
-//! How often work is done, what a call takes, and the lines of output.
+//! How much is measured, what calls took, and the lines of output.
 
 use crate::fault::Fault;
 use std::time::Duration;
 
-/// How much is done.
+/// How much the program does.
 #[derive(Clone, Copy)]
 pub(crate) enum Extent {
-    /// A little, of which only counts are printed.
+    /// A little; only counts are printed.
     Counted,
-    /// As much as times want.
+    /// Enough for stable times, which are printed.
     Measured,
 }
 
-/// How many calls were made, and what they came to. The sums are printed, which keeps the calls
-/// from being left out.
+/// How many calls were made, and the sum of their results. The program prints the sum, which keeps
+/// the compiler from leaving the calls out.
 #[derive(Clone, Copy)]
 pub(crate) struct Tally {
     pub(crate) calls: u32,
     pub(crate) sum: u32,
 }
 
-/// What calls took together, and how many they were.
+/// The time of some calls together, and their tally.
 #[derive(Clone, Copy)]
 pub(crate) struct Spent {
     pub(crate) time: Duration,
     pub(crate) tally: Tally,
 }
 
-/// What a line of output speaks of.
+/// What a line of output is about.
 #[derive(Clone, Copy)]
 pub(crate) struct Topic<'a> {
     pub(crate) part: &'a str,
-    /// What was called.
+    /// What the calls were.
     pub(crate) calls: &'a str,
-    /// What the calls came to.
+    /// What the sum counts.
     pub(crate) sum: &'a str,
 }
 
-/// Nanoseconds of one of so many calls.
+/// Returns the nanoseconds of one call, on average.
 fn nanos_a_call(spent: Duration, calls: u32) -> f64 {
     spent.as_secs_f64() * 1e9 / f64::from(calls)
 }
 
-/// Prints how many calls there were, and what they came to.
+/// Prints how many calls there were, and their sum.
 pub(crate) fn print_count(rt: &HostRuntime, topic: Topic, tally: Tally) -> Result<(), Fault> {
     let Topic { part, calls, sum } = topic;
     println!(rt; "{part}, {calls}: {}; {sum}: {}", tally.calls, tally.sum)?;
     Ok(())
 }
 
-/// Prints what a call took, and what it came to on the average.
+/// Prints the time of a call in nanoseconds, and its part of the sum, both on average.
 pub(crate) fn print_time(
     rt: &HostRuntime,
     topic: Topic,
@@ -63,7 +63,7 @@ pub(crate) fn print_time(
     Ok(())
 }
 
-/// Prints what calls came to, with what they took where that is asked for.
+/// Prints the counts of some calls, or their averages if the program measures.
 pub(crate) fn print_spent(
     rt: &HostRuntime,
     topic: Topic,

@@ -1,7 +1,9 @@
-//! The program: `partcached run` reads a script from standard input, runs it, and prints what each
-//! connection was sent; `partcached serve` listens and serves clients; `partcached check` says what
-//! settings come to. `tc_asking` reads the command line, `tc_command` does what it asks for, and
-//! tc_net's `serve` serves, which starts threads and so is called here.
+//! The program. `partcached run` runs a script from standard input and prints what each connection
+//! was sent. `partcached serve` listens and serves clients. `partcached check` says what is
+//! wrong with settings, or how much memory they take.
+//!
+//! `tc_asking` reads the command line, and `tc_command` does what it asks for. Only `main` calls
+//! tc_net's `serve`, since `serve` starts threads.
 #![tactic(auto)]
 
 use std::io;
@@ -18,7 +20,7 @@ use tc_partition::Fast;
 fn main(rt: HostRuntime) -> io::Result<ExitCode> {
     let status = match read_command_line(&rt) {
         Ok(Asked::Run(reading)) => run_input(&rt, reading)?,
-        Ok(Asked::Check { config }) => check_file(&rt, config)?,
+        Ok(Asked::Check(checking)) => check_file(&rt, checking)?,
         Ok(Asked::Serve(serving)) => match make_ready(&rt, &serving) {
             Ok(
                 Ready {

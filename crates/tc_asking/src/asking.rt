@@ -1,4 +1,4 @@
-//! What the command line asks for.
+//! Reads the command line.
 use crate::words::command;
 use clap::error::ErrorKind;
 use clap::{ArgMatches, Error};
@@ -6,61 +6,77 @@ use std::alloc::{AllocError, Global};
 use std::net::SocketAddr;
 use std::{env, io};
 
-/// Where a demo listens if nothing else is asked for.
+/// The address of a demo without `--listen`.
 const DEMO_LISTEN: &str = "127.0.0.1:11211";
 
-/// Over which cache a script is run.
+/// The bytes of a key and of data for which a check estimates memory if the command line names none.
+const USUAL_KEY: u32 = 32;
+
+const USUAL_DATA: u32 = 100;
+
+/// The cache that a script runs over.
 #[derive(Clone, Copy, PartialEq, Eq)]
 pub enum Reading {
-    /// The fast one, which a server runs.
+    /// The fast cache, which a server runs.
     Served,
-    /// The plain one, which is the definition's reading.
+    /// The plain cache, which follows the definition.
     Reference,
 }
 
-/// Where a server's settings come from.
+/// The source of a server's settings.
 #[derive(Drop)]
 pub enum Source {
     /// A file.
     File(String),
-    /// The program's own, with this address to listen on, which is a loopback address.
+    /// The program's own settings, with this address to listen on: a loopback address and a port.
     Demo(String),
 }
 
-/// What is asked of a server.
+/// The options of `serve`.
 #[derive(Drop)]
 pub struct Serving {
     pub source: Source,
-    /// Each connection stays with the worker that it came to.
+    /// Each connection stays with the worker that first had it.
     pub spread: bool,
-    /// It ends once so many connections were closed.
+    /// The server ends once this many connections were closed.
     pub until: Option<u32>,
-    /// At the end it does users' last calls again on the definition.
+    /// The server audits at the end: it repeats users' last calls on the definition.
     pub audit: bool,
-    /// It does not print what becomes of connections.
+    /// The server prints no lines about connections.
     pub quiet: bool,
 }
 
-/// What the program is to do.
+/// A check of settings.
+#[derive(Drop)]
+pub struct Checking {
+    /// The settings file.
+    pub config: String,
+    /// The bytes of an item's key for which memory is estimated: 1 to 250.
+    pub key: u32,
+    /// The bytes of an item's data for which memory is estimated: 0 to 1,048,576.
+    pub data: u32,
+}
+
+/// The request of a command line.
 #[derive(Drop)]
 pub enum Asked {
-    /// Run a script.
+    /// Run the script on standard input.
     Run(Reading),
-    /// Say what the settings in a file come to.
-    Check { config: String },
+    /// Check the settings in a file, and estimate their memory.
+    Check(Checking),
     Serve(Serving),
 }
 
-/// Why the command line asks for nothing.
+/// Why a command line makes no request.
 #[derive(Drop)]
 pub enum Unasked {
-    /// It is refused, or asks for help; the parser's own text says so.
+    /// It is wrong, or asks for help. The parser's own text says which.
     Usage(Error),
-    /// It asks for the version, which the parser's text has.
+    /// It asks for the version. The parser's text has it.
     Version(Error),
-    /// Its words cannot be read as text.
+    /// Its words are not text.
     Words(io::Error),
-    /// A demo is to listen on what is no loopback address and port.
+    /// The address for a demo is no loopback address with a port.
     NotLoopback,
     NoMemory,
 }
@@ -90,12 +106,12 @@ impl From<Error> for Unasked {
     }
 }
 
-/// A copy of an argument's text.
+/// Returns a copy of an argument's text, empty if it is missing.
 fn text_of(alloc: Global, matches: &ArgMatches<'_>, id: &str) -> Result<String, AllocError> {
     String::from_str(alloc, matches.get_str(id).unwrap_or(""))
 }
 
-/// Whether a text is a loopback address and a port.
+/// Whether the text is a loopback address and a port.
 fn is_loopback(text: &str) -> bool {
     match text.parse::<SocketAddr>() {
         Ok(address) => address.ip().is_loopback(),
@@ -103,7 +119,7 @@ fn is_loopback(text: &str) -> bool {
     }
 }
 
-/// Where the settings of a `serve` come from.
+/// Returns the source of the settings for a `serve`.
 fn source_by(alloc: Global, serve: &ArgMatches<'_>) -> Result<Source, Unasked> {
     if !serve.get_flag("demo") {
         return Ok(Source::File(text_of(alloc, serve, "config")?));
@@ -115,7 +131,16 @@ fn source_by(alloc: Global, serve: &ArgMatches<'_>) -> Result<Source, Unasked> {
     Ok(Source::Demo(String::from_str(alloc, listen)?))
 }
 
-/// What a `serve` asks for.
+/// Returns the options of a `check`.
+fn checking_by(alloc: Global, check: &ArgMatches<'_>) -> Result<Checking, AllocError> {
+    Ok(Checking {
+        config: text_of(alloc, check, "config")?,
+        key: check.get_one::<u32>("key").unwrap_or(USUAL_KEY),
+        data: check.get_one::<u32>("data").unwrap_or(USUAL_DATA),
+    })
+}
+
+/// Returns the options of a `serve`.
 fn serving_by(alloc: Global, serve: &ArgMatches<'_>) -> Result<Serving, Unasked> {
     Ok(Serving {
         source: source_by(alloc, serve)?,
@@ -126,7 +151,7 @@ fn serving_by(alloc: Global, serve: &ArgMatches<'_>) -> Result<Serving, Unasked>
     })
 }
 
-/// Over which cache a `run` asks for.
+/// Returns the cache for a `run`.
 fn reading_by(run: &ArgMatches<'_>) -> Reading {
     if run.get_flag("reference") {
         Reading::Reference
@@ -135,14 +160,13 @@ fn reading_by(run: &ArgMatches<'_>) -> Reading {
     }
 }
 
-/// What was asked for, by what was matched.
+/// Returns the request that the parser matched.
 fn asked_by(alloc: Global, matches: &ArgMatches<'_>) -> Result<Asked, Unasked> {
     if let Some(serve) = matches.subcommand_matches("serve") {
         return Ok(Asked::Serve(serving_by(alloc, serve)?));
     }
     if let Some(check) = matches.subcommand_matches("check") {
-        let config = text_of(alloc, check, "config")?;
-        return Ok(Asked::Check { config });
+        return Ok(Asked::Check(checking_by(alloc, check)?));
     }
     // The parser refuses all but these three.
     match matches.subcommand_matches("run") {
@@ -151,13 +175,13 @@ fn asked_by(alloc: Global, matches: &ArgMatches<'_>) -> Result<Asked, Unasked> {
     }
 }
 
-/// What the words of the command line ask for.
+/// Parses the words of the command line.
 fn parse(alloc: Global, words: &[String]) -> Result<Asked, Unasked> {
     let matches = command(alloc)?.try_get_matches_from(words)?;
     asked_by(alloc, &matches)
 }
 
-/// What the command line asks for, or why it asks for nothing.
+/// Reads the command line of the process, and returns its request, or why it makes none.
 pub fn read_command_line(rt: &HostRuntime) -> Result<Asked, Unasked> {
     let words: Vec<String> = env::args(rt)?.collect(rt.alloc())?;
     parse(rt.alloc(), words.as_slice())

@@ -1,11 +1,11 @@
-//! The words that the command line takes, as `clap` is told of them.
+//! The words of the command line, described for `clap`.
 use clap::{Arg, ArgAction, Command, value_parser};
 use std::alloc::{AllocError, Global};
 
-/// This release.
+/// The version of this release.
 pub const VERSION: &str = "1.15.0";
 
-/// `--config`, which `serve` and `check` take.
+/// Returns `--config`, which `serve` and `check` take.
 fn config_arg<'a>(alloc: Global) -> Arg<'a> {
     Arg::new(alloc, "config")
         .long("config")
@@ -13,14 +13,14 @@ fn config_arg<'a>(alloc: Global) -> Arg<'a> {
         .help("The settings, a TOML text")
 }
 
-/// `--config` of `serve`, which a demo needs not.
+/// Returns `--config` of `serve`, which must be there unless `--demo` is.
 fn settings_arg<'a>(alloc: Global) -> Result<Arg<'a>, AllocError> {
     config_arg(alloc)
         .required_unless_present("demo")?
         .conflicts_with("demo")
 }
 
-/// Where a demo listens.
+/// Returns `--listen`, the address of a demo.
 fn listen_arg<'a>(alloc: Global) -> Result<Arg<'a>, AllocError> {
     let listen = Arg::new(alloc, "listen")
         .long("listen")
@@ -29,13 +29,13 @@ fn listen_arg<'a>(alloc: Global) -> Result<Arg<'a>, AllocError> {
     listen.requires_arg("demo")
 }
 
-/// Whether the hall is audited at the end.
+/// Returns `--audit`, which requires `--until`.
 fn audit_arg<'a>(alloc: Global) -> Result<Arg<'a>, AllocError> {
     let help = "At the end do each user's last calls again on the definition";
     flag(alloc, "audit", help).requires_arg("until")
 }
 
-/// A word that takes no value.
+/// Returns an option without a value.
 fn flag<'a>(alloc: Global, name: &'a str, help: &'a str) -> Arg<'a> {
     Arg::new(alloc, name)
         .long(name)
@@ -43,7 +43,7 @@ fn flag<'a>(alloc: Global, name: &'a str, help: &'a str) -> Arg<'a> {
         .help(help)
 }
 
-/// After how many connections the server ends.
+/// Returns `--until`, the number of closed connections after which the server ends.
 fn until_arg<'a>(alloc: Global) -> Arg<'a> {
     Arg::new(alloc, "until")
         .long("until")
@@ -52,7 +52,7 @@ fn until_arg<'a>(alloc: Global) -> Arg<'a> {
         .help("End once N connections were closed")
 }
 
-/// The same command with one more argument, if there was memory for that.
+/// Adds an argument, if there was memory for it.
 fn with_arg<'a>(
     command: Command<'a>,
     arg: Result<Arg<'a>, AllocError>,
@@ -60,20 +60,20 @@ fn with_arg<'a>(
     command.arg(arg?)
 }
 
-/// The same with what is asked of a demo.
+/// Adds the options of a demo.
 fn with_demo<'a>(alloc: Global, serve: Command<'a>) -> Result<Command<'a>, AllocError> {
     let help = "Serve two users of the program's own, on a loopback address, without a file";
     let serve = serve.arg(flag(alloc, "demo", help))?;
     with_arg(serve, listen_arg(alloc))
 }
 
-/// The same with what is asked of the server's end.
+/// Adds the options about the server's end.
 fn with_end<'a>(alloc: Global, serve: Command<'a>) -> Result<Command<'a>, AllocError> {
     let serve = serve.arg(until_arg(alloc))?;
     with_arg(serve, audit_arg(alloc))
 }
 
-/// `serve` and its arguments.
+/// Returns `serve` with its options.
 fn serve_command<'a>(alloc: Global) -> Result<Command<'a>, AllocError> {
     let serve = Command::new(alloc, "serve").about("Listen, and serve memcached's clients");
     let serve = with_demo(alloc, with_arg(serve, settings_arg(alloc))?)?;
@@ -83,7 +83,7 @@ fn serve_command<'a>(alloc: Global) -> Result<Command<'a>, AllocError> {
     serve.arg(flag(alloc, "quiet", help))
 }
 
-/// `run` and its argument.
+/// Returns `run` with its option.
 fn run_command<'a>(alloc: Global) -> Result<Command<'a>, AllocError> {
     let help = "Run it over the plain cache, which is the definition's reading, and slow";
     Command::new(alloc, "run")
@@ -91,14 +91,33 @@ fn run_command<'a>(alloc: Global) -> Result<Command<'a>, AllocError> {
         .arg(flag(alloc, "reference", help))
 }
 
-/// `check` and its argument.
-fn check_command<'a>(alloc: Global) -> Result<Command<'a>, AllocError> {
-    Command::new(alloc, "check")
-        .about("Say what is wrong with settings, or what they come to")
-        .arg(config_arg(alloc).required(true))
+/// Returns `--key` of `check`.
+fn key_arg<'a>(alloc: Global) -> Arg<'a> {
+    Arg::new(alloc, "key")
+        .long("key")
+        .value_name("BYTES")
+        .value_parser(value_parser!(u32).range(1..=250))
+        .help("Estimate memory for keys of so many bytes, if not 32")
 }
 
-/// The program's name, version and purpose.
+/// Returns `--data` of `check`.
+fn data_arg<'a>(alloc: Global) -> Arg<'a> {
+    Arg::new(alloc, "data")
+        .long("data")
+        .value_name("BYTES")
+        .value_parser(value_parser!(u32).range(0..=1_048_576))
+        .help("Estimate memory for items of so many bytes of data, if not 100")
+}
+
+/// Returns `check` with its options.
+fn check_command<'a>(alloc: Global) -> Result<Command<'a>, AllocError> {
+    let check = Command::new(alloc, "check")
+        .about("Say what is wrong with settings, or how much memory they take")
+        .arg(config_arg(alloc).required(true))?;
+    check.arg(key_arg(alloc))?.arg(data_arg(alloc))
+}
+
+/// Returns the program's name, version and purpose.
 fn root_command<'a>(alloc: Global) -> Command<'a> {
     Command::new(alloc, "partcached")
         .version(VERSION)
@@ -106,7 +125,7 @@ fn root_command<'a>(alloc: Global) -> Command<'a> {
         .subcommand_required(true)
 }
 
-/// The same with one more subcommand, if there was memory for that.
+/// Adds a subcommand, if there was memory for it.
 fn with_subcommand<'a>(
     program: Command<'a>,
     subcommand: Result<Command<'a>, AllocError>,
@@ -114,7 +133,7 @@ fn with_subcommand<'a>(
     program.subcommand(subcommand?)
 }
 
-/// What the command line may be.
+/// Returns the whole command line for `clap`.
 pub fn command<'a>(alloc: Global) -> Result<Command<'a>, AllocError> {
     let program = with_subcommand(root_command(alloc), run_command(alloc))?;
     let program = with_subcommand(program, check_command(alloc))?;

@@ -1,110 +1,89 @@
-//! What settings come to, for those who wrote them.
+//! The lines that `partcached check` prints of good settings.
+use crate::sizing::{EMPTY_SERVER, ItemSize, MIB, Memory, full_user, items_of};
 use std::fmt::Style;
 use std::{io, str};
 use tc_settings::{MOST_CONNECTIONS, Settings};
 use tc_users::{Text, UserNo, UserSpec, Users};
 
-/// The bytes of a MiB.
-const MIB: u64 = 1_048_576;
-
-/// What an item weighs in a budget beside its key and data, in bytes.
-const WEIGHT: u64 = 64;
-
-/// What an item takes of memory beside its key and data, in bytes (docs/OPERATING.md, "Sizing").
-const TAKEN: u64 = 380;
-
-/// The bytes of a key, where memory is reckoned.
-const KEY: u64 = 12;
-
-/// What an empty server takes, and each user beside it, in bytes (docs/OPERATING.md, "Sizing").
-const EMPTY: u64 = 3_145_728;
-
-const EACH_USER: u64 = 83_886;
-
-/// What an entry of a journal takes beside what it keeps alive, in bytes.
+/// What an entry of a journal takes beside the data that it keeps alive, in bytes.
 const ENTRY: u64 = 208;
 
-/// What an audited server keeps of each item beside its data, in bytes, while a page is turned: the item's
-/// place in what the page began with, and in what the next one begins with.
+/// What an audited server keeps of each item beside its data while a page is turned, in bytes: the item's place in
+/// what the page began with, and in what the next one begins with.
 const COPIED: u64 = 128;
+
+/// What `MemoryMax` has for each user's connections that do not read, or that sent half a request, in bytes.
+const EACH_USERS_CONNECTIONS: u64 = 64 * MIB;
 
 /// The descriptors that a worker's poll takes.
 const EACH_WORKER: u64 = 2;
 
-/// Those of a server beside its connections' and its workers': the standard streams, the listeners, those who ask
-/// for the metrics, and some to spare.
+/// The descriptors that a server takes beside those of connections and workers: the standard streams, the listeners,
+/// connections that ask for metrics, and some to spare.
 const OTHERS: u64 = 32;
-
-/// The data bytes of the items for which memory is reckoned.
-const SMALL: u64 = 100;
-
-const LARGE: u64 = 1_000;
 
 /// So many bytes in MiB, rounded up.
 fn mib(bytes: u64) -> u64 {
     bytes.saturating_add(MIB - 1) / MIB
 }
 
-/// How many items of so many data bytes a budget holds.
-fn items(budget: u64, data: u64) -> u64 {
-    budget / (KEY + WEIGHT).saturating_add(data)
-}
-
-/// What a budget comes to in memory where it is full of items of so many data bytes.
-fn taken(budget: u64, data: u64) -> u64 {
-    items(budget, data).saturating_mul((KEY + TAKEN).saturating_add(data))
-}
-
-/// What the page of a user's journal keeps with `--audit` at most: so many stores of so many data bytes.
+/// The bytes that a page of a user's journal keeps with `--audit`: `journal` stores of so many data bytes.
 fn kept(journal: usize, data: u64) -> u64 {
     data.saturating_add(ENTRY).saturating_mul(journal as u64)
 }
 
-/// What `--audit` adds where a budget is full of items of so many data bytes, and each call stores one.
-fn audited(budget: u64, journal: usize, data: u64) -> u64 {
-    let copied = items(budget, data).saturating_mul(COPIED);
-    copied.saturating_add(kept(journal, data))
+/// The bytes that `--audit` adds for a user whose budget is full of items of this size, if each call stores one.
+fn audited(budget: u64, journal: usize, size: ItemSize) -> u64 {
+    let copied = items_of(budget, size).saturating_mul(COPIED);
+    copied.saturating_add(kept(journal, size.data))
 }
 
-/// What users come to in memory, in bytes.
+/// The budgets and the memory of some users, in bytes.
 #[derive(Clone, Copy)]
 struct Sums {
     budget: u64,
-    small: u64,
-    large: u64,
+    memory: Memory,
     audit: u64,
+    /// What `--audit` keeps of a page of stores of the largest items.
     largest: u64,
 }
 
 impl Sums {
-    /// What one user comes to.
-    fn of_user(row: &UserSpec, journal: usize) -> Sums {
+    /// Those of a server without users.
+    const NONE: Sums = Sums {
+        budget: 0,
+        memory: EMPTY_SERVER,
+        audit: 0,
+        largest: 0,
+    };
+
+    /// Those of one user.
+    fn of_user(row: &UserSpec, journal: usize, size: ItemSize) -> Sums {
         Sums {
             budget: row.budget,
-            small: taken(row.budget, SMALL).saturating_add(EACH_USER),
-            large: taken(row.budget, LARGE).saturating_add(EACH_USER),
-            audit: audited(row.budget, journal, SMALL),
+            memory: full_user(row.budget, size),
+            audit: audited(row.budget, journal, size),
             largest: kept(journal, row.largest),
         }
     }
 
-    /// What both come to.
+    /// Those of both.
     fn and(self, other: Sums) -> Sums {
         Sums {
             budget: self.budget.saturating_add(other.budget),
-            small: self.small.saturating_add(other.small),
-            large: self.large.saturating_add(other.large),
+            memory: self.memory.and(other.memory),
             audit: self.audit.saturating_add(other.audit),
             largest: self.largest.saturating_add(other.largest),
         }
     }
 
-    /// Prints a row of the table; the first column has this width.
+    /// Prints a row of the table. Its first column has this width, in characters.
     fn print(self, rt: &HostRuntime, name: &str, width: usize) -> io::Result<()> {
         let name = name.left().width(width);
         let budget = self.budget;
-        let (small, large, audit) = (mib(self.small), mib(self.large), mib(self.audit));
-        println!(rt; "{name}  {budget:>12}  {small:>8}  {large:>8}  {audit:>8}")
+        let (likely, at_most) = (mib(self.memory.likely), mib(self.memory.at_most));
+        let audit = mib(self.audit);
+        println!(rt; "{name}  {budget:>12}  {likely:>8}  {at_most:>8}  {audit:>8}")
     }
 }
 
@@ -113,7 +92,7 @@ pub fn name_of(row: &UserSpec) -> &str {
     str::from_utf8(row.name.as_bytes()).unwrap_or("?")
 }
 
-/// The width of the column of names.
+/// The width of the column of names, in characters.
 fn width_of(users: &Users) -> usize {
     let mut width = 4;
     for row in users.rows() {
@@ -122,43 +101,48 @@ fn width_of(users: &Users) -> usize {
     width
 }
 
-/// Prints what the columns are, and what an audit may keep beside.
-fn print_columns(rt: &HostRuntime, journal: usize, largest: u64) -> io::Result<()> {
-    println!(rt;
-        "budget in bytes; then MiB resident with budgets full of items of {SMALL} and of {LARGE} bytes,"
-    )?;
-    println!(rt;
-        "and what `--audit` adds to the first while it keeps the last {journal} calls of each user:"
-    )?;
-    let most = mib(largest);
-    println!(rt;
-        "up to {most} where these store the largest items; each page's turn takes 0.2 s a million items"
-    )
-}
-
-/// Prints what users come to, and all of them together.
-fn print_users(rt: &HostRuntime, users: &Users, journal: usize) -> io::Result<()> {
+/// Prints a row for each user and one for all. Returns the sums of all.
+fn print_users(
+    rt: &HostRuntime,
+    users: &Users,
+    journal: usize,
+    size: ItemSize,
+) -> io::Result<Sums> {
     let width = width_of(users);
     let name = "user".left().width(width);
-    println!(rt; "{name}        budget     small     large     audit")?;
-    let mut all = Sums {
-        budget: 0,
-        small: EMPTY,
-        large: EMPTY,
-        audit: 0,
-        largest: 0,
-    };
+    println!(rt; "{name}        budget    likely   at most     audit")?;
+    let mut all = Sums::NONE;
     for row in users.rows() {
-        let sums = Sums::of_user(row, journal);
+        let sums = Sums::of_user(row, journal, size);
         sums.print(rt, name_of(row), width)?;
         all = all.and(sums);
     }
     all.print(rt, "all", width)?;
-    print_columns(rt, journal, all.largest)
+    Ok(all)
 }
 
-/// How many connections the limits let be open: of all that have not logged in, and of each user. `None` where
-/// one of these has no limit.
+/// Prints what the columns are, and how much more an audit can keep.
+fn print_columns(rt: &HostRuntime, journal: usize, size: ItemSize, all: Sums) -> io::Result<()> {
+    let ItemSize { key, data } = size;
+    let largest = mib(all.largest);
+    print!(rt; "budget in bytes, then MiB resident with budgets full of items ")?;
+    println!(rt; "of {key} bytes of key and {data} of data")?;
+    print!(rt; "audit: what `--audit` adds for the last {journal} calls of each user; ")?;
+    println!(rt; "{largest} if these store the largest items")
+}
+
+/// The bytes that a systemd unit's `MemoryMax` should have: what all users take at most, half as much again for
+/// flushes that are refilled at once, and 64 MiB a user for connections.
+fn memory_max(all: Sums, users: usize) -> u64 {
+    let at_most = all.memory.at_most;
+    let connections = EACH_USERS_CONNECTIONS.saturating_mul(users as u64);
+    at_most
+        .saturating_add(at_most / 2)
+        .saturating_add(connections)
+}
+
+/// How many connections the limits allow in all: those that have not logged in, and each user's. `None` if one of
+/// these has no limit.
 fn most_open(settings: &Settings) -> Option<u64> {
     let mut most = u64::from(settings.limits.unbound_connections?);
     for place in 0..settings.users.rows().len() {
@@ -169,7 +153,7 @@ fn most_open(settings: &Settings) -> Option<u64> {
     Some(most)
 }
 
-/// Warns where some connections can leave a user without a place.
+/// Warns if others' connections can take all places of a user.
 fn warn_of_places(rt: &HostRuntime, settings: &Settings) -> io::Result<()> {
     match most_open(settings) {
         Some(most) if most <= u64::from(MOST_CONNECTIONS) => Ok(()),
@@ -182,7 +166,7 @@ fn warn_of_places(rt: &HostRuntime, settings: &Settings) -> io::Result<()> {
     }
 }
 
-/// How many descriptors a server of these settings wants.
+/// How many descriptors a server with these settings wants.
 fn wanted(settings: &Settings) -> u64 {
     let places = u64::from(MOST_CONNECTIONS);
     let connections = most_open(settings).unwrap_or(places).min(places);
@@ -190,7 +174,7 @@ fn wanted(settings: &Settings) -> u64 {
     connections.saturating_add(workers).saturating_add(OTHERS)
 }
 
-/// Warns where a process may open so many descriptors, and a server of these settings wants more. The error is standard
+/// Warns if a server with these settings wants more descriptors than the process may open. The error is standard
 /// output's.
 pub fn warn_of_descriptors(rt: &HostRuntime, settings: &Settings, allowed: u64) -> io::Result<()> {
     let wanted = wanted(settings);
@@ -202,7 +186,7 @@ pub fn warn_of_descriptors(rt: &HostRuntime, settings: &Settings, allowed: u64) 
     )
 }
 
-/// Whether a token is one of those in examples/partcached.toml.
+/// Whether a token is one of those in examples/partcached.toml, which begin with `change-me`.
 fn is_example(token: &Text) -> bool {
     token.as_bytes().starts_with(b"change-me")
 }
@@ -218,8 +202,17 @@ pub fn warn_of_tokens(rt: &HostRuntime, users: &Users) -> io::Result<()> {
     Ok(())
 }
 
-/// Prints what good settings come to.
-pub fn print_settings(rt: &HostRuntime, settings: &Settings) -> io::Result<()> {
+/// Prints the memory that a server with these settings takes with budgets full of items of this size.
+fn print_memory(rt: &HostRuntime, settings: &Settings, size: ItemSize) -> io::Result<()> {
+    let all = print_users(rt, &settings.users, settings.journal, size)?;
+    print_columns(rt, settings.journal, size, all)?;
+    let most = mib(memory_max(all, settings.users.rows().len()));
+    println!(rt; "MemoryMax={most}M")
+}
+
+/// Prints where a server with these settings listens, warnings, and the memory that it takes with budgets full of items
+/// of this size. The error is standard output's.
+pub fn print_settings(rt: &HostRuntime, settings: &Settings, size: ItemSize) -> io::Result<()> {
     let listen = settings.listen.as_str();
     let workers = settings.workers;
     println!(rt; "the settings are good: {listen}, {workers} workers")?;
@@ -229,5 +222,5 @@ pub fn print_settings(rt: &HostRuntime, settings: &Settings) -> io::Result<()> {
     }
     warn_of_places(rt, settings)?;
     warn_of_tokens(rt, &settings.users)?;
-    print_users(rt, &settings.users, settings.journal)
+    print_memory(rt, settings, size)
 }

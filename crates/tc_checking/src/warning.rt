@@ -1,17 +1,17 @@
-//! Warnings of what stands in settings and means nothing, and of a file that others can read.
+//! Warnings of unknown fields in settings, and of a settings file that others can read.
 use std::os::unix::fs::PermissionsExt;
 use std::{fs, io};
 use tc_settings::{is_field, is_metrics_field, is_user_field};
 use toml::{Table, Value};
 
-/// The bit of a file's mode by which others than its owner and its group can read it.
+/// The bit of a file's mode that lets others than its owner and its group read it.
 const OTHERS_READ: u32 = 0o004;
 
-/// Its bits that say who may do what.
+/// The bits of a file's mode that say who may do what.
 const RIGHTS: u32 = 0o777;
 
-/// Warns where others can read the file of the settings, which holds the tokens. A file whose mode the system does
-/// not say is passed over. The error is standard output's.
+/// Warns if others can read the settings file, which has the tokens. Prints nothing if the system does not say the
+/// file's mode. The error is standard output's.
 pub fn warn_of_mode(rt: &HostRuntime, path: &str) -> io::Result<()> {
     let Ok(metadata) = fs::metadata(rt, path) else {
         return Ok(());
@@ -25,7 +25,7 @@ pub fn warn_of_mode(rt: &HostRuntime, path: &str) -> io::Result<()> {
     )
 }
 
-/// Warns of each key of a user's table that is no field. Users are counted from 1.
+/// Warns of each unknown field in a user's table. Users count from 1.
 fn warn_of_user(rt: &HostRuntime, user: usize, table: &Table) -> io::Result<()> {
     for key in table.keys() {
         if !is_user_field(key.as_str()) {
@@ -35,7 +35,7 @@ fn warn_of_user(rt: &HostRuntime, user: usize, table: &Table) -> io::Result<()> 
     Ok(())
 }
 
-/// Warns of each key of the settings that is no field.
+/// Warns of each unknown field at the top of the settings.
 fn warn_of_table(rt: &HostRuntime, table: &Table) -> io::Result<()> {
     for key in table.keys() {
         if !is_field(key.as_str()) {
@@ -45,7 +45,7 @@ fn warn_of_table(rt: &HostRuntime, table: &Table) -> io::Result<()> {
     Ok(())
 }
 
-/// Warns of each key of the metrics' table that is no field.
+/// Warns of each unknown field in the table `metrics`.
 fn warn_of_metrics(rt: &HostRuntime, table: &Table) -> io::Result<()> {
     for key in table.keys() {
         if !is_metrics_field(key.as_str()) {
@@ -55,7 +55,7 @@ fn warn_of_metrics(rt: &HostRuntime, table: &Table) -> io::Result<()> {
     Ok(())
 }
 
-/// Warns of each user's keys that are no field.
+/// Warns of each unknown field in all users' tables.
 fn warn_of_users(rt: &HostRuntime, users: &[Value]) -> io::Result<()> {
     for (place, user) in users.iter().enumerate() {
         if let Some(table) = user.as_table() {
@@ -65,8 +65,8 @@ fn warn_of_users(rt: &HostRuntime, users: &[Value]) -> io::Result<()> {
     Ok(())
 }
 
-/// Prints a warning for each field that the settings have and that means nothing. A text that is not
-/// TOML has none. The error is of the kind `OutOfMemory`, or standard output's.
+/// Prints a warning for each unknown field in the settings, and none if the text is not TOML. The error is of the kind
+/// `OutOfMemory`, or standard output's.
 pub fn warn(rt: &HostRuntime, text: &str) -> io::Result<()> {
     let table = match toml::table_from_str(rt.alloc(), text) {
         Ok(table) => table,

@@ -1,11 +1,11 @@
-//! Where the settings have a server listen, looked at before it does.
+//! Checks of the addresses in settings, before a server listens there.
 use std::fmt::Display;
 use std::io;
 use std::io::ErrorKind;
 use std::net::{SocketAddr, TcpListener};
 use tc_settings::Settings;
 
-/// What a server does at an address of its settings.
+/// What a server does at an address in its settings.
 #[derive(Clone, Copy)]
 pub enum Deed {
     Listen,
@@ -13,7 +13,7 @@ pub enum Deed {
 }
 
 impl Deed {
-    /// Prints that it can't be done at this address, and why.
+    /// Prints that a server cannot do this at an address, and why.
     pub fn print_refusal<D: Display>(
         self,
         rt: &HostRuntime,
@@ -26,7 +26,7 @@ impl Deed {
         }
     }
 
-    /// Prints that it can't be done where a text is no address and port. The address, where it is one.
+    /// Reads an address and port. If the text is none, prints so and returns `None`.
     pub fn read_address(self, rt: &HostRuntime, text: &str) -> io::Result<Option<SocketAddr>> {
         match text.parse::<SocketAddr>() {
             Ok(address) => Ok(Some(address)),
@@ -37,8 +37,8 @@ impl Deed {
         }
     }
 
-    /// Whether it can be done there, as far as that is said of an address alone; else it's printed why not. Another
-    /// port of the same address is bound, and let go: that port may be a running server's, or want rights.
+    /// Whether the machine has this address; if not, prints why. Binds another port of the address for a moment, since
+    /// a running server may have the port itself, or it may need rights.
     fn is_possible(self, rt: &HostRuntime, text: &str) -> io::Result<bool> {
         let Some(mut address) = self.read_address(rt, text)? else {
             return Ok(false);
@@ -55,7 +55,7 @@ impl Deed {
     }
 }
 
-/// Whether a server of these settings can listen, as far as the addresses alone say; else it's printed why not.
+/// Whether the machine has the addresses in the settings; if not, prints why.
 pub fn can_listen(rt: &HostRuntime, settings: &Settings) -> io::Result<bool> {
     if !Deed::Listen.is_possible(rt, settings.listen.as_str())? {
         return Ok(false);

@@ -1,13 +1,13 @@
-//! A server to look at: two users with small budgets, whose tokens anyone may know.
+//! The demo: a server with two users, small budgets and public tokens.
 use std::io;
 use std::net::SocketAddr;
 
-/// The settings of the demo. Where it listens the command line says.
+/// The demo's settings. The command line says where it listens.
 pub const SETTINGS: &str = "listen = \"\"\nworkers = 2\n\
 [[user]]\nname = \"alice\"\ntoken = \"demo-1\"\nbudget = 1048576\n\
 [[user]]\nname = \"bob\"\ntoken = \"demo-2\"\nbudget = 1048576\n";
 
-/// Prints who may log in, and what to type.
+/// Prints the users, their tokens, and commands to type.
 pub fn print_guide(rt: &HostRuntime, address: SocketAddr) -> io::Result<()> {
     let host = address.ip();
     let port = address.port();

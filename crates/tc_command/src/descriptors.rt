@@ -1,17 +1,17 @@
-//! How many descriptors the process has open, and may have.
+//! The numbers of descriptors that the process has open and may open.
 use std::fs::{read_dir, read_to_string};
 use tc_net::Descriptors;
 
-/// Where Linux has an entry for each that is open (proc(5)).
+/// The folder in which Linux has an entry for each open descriptor (proc(5)).
 const OPEN: &str = "/proc/self/fd";
 
-/// Where it says, limit by limit, what the process may have: a name, the limit that holds, and others.
+/// The file of the process's limits, one a line: a name, the soft limit, and more (proc(5)).
 const LIMITS: &str = "/proc/self/limits";
 
-/// The name of the limit on descriptors, which is three words.
+/// The name of the limit on descriptors in that file.
 const LIMIT: &str = "Max open files";
 
-/// How many are open, but for the one by which they are counted; `None` where the system does not say.
+/// The number of open descriptors, without the one that reads the folder; `None` if the system does not say.
 fn count_open(rt: &HostRuntime) -> Option<u64> {
     let mut open = 0u64;
     for entry in read_dir(rt, OPEN).ok()? {
@@ -23,7 +23,7 @@ fn count_open(rt: &HostRuntime) -> Option<u64> {
     open.checked_sub(1)
 }
 
-/// How many may be open; `None` where the system does not say.
+/// The number of descriptors that may be open; `None` if the system does not say.
 pub fn allowed_descriptors(rt: &HostRuntime) -> Option<u64> {
     let text = read_to_string(rt, LIMITS).ok()?;
     for line in text.as_str().lines() {
@@ -34,7 +34,7 @@ pub fn allowed_descriptors(rt: &HostRuntime) -> Option<u64> {
     None
 }
 
-/// The descriptors of the process; `None` where the system does not say.
+/// Both numbers; `None` if the system does not say.
 pub fn descriptors(rt: &HostRuntime) -> Option<Descriptors> {
     Some(Descriptors {
         open: count_open(rt)?,

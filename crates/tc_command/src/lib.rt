@@ -1,7 +1,6 @@
-//! What `partcached` does for its command line: a script is run by tc_script's `run_script`, settings are checked,
-//! and a server is made ready, which `main` hands to tc_net's `serve`. Here are what a server begins with, the exit
-//! statuses, and the lines on standard error and standard output (docs/OPERATING.md). No clause says what is
-//! printed.
+//! The commands of `partcached`: `run` runs a script by tc_script's `run_script`, `check` checks settings, and `serve`
+//! makes a server ready, which `main` hands to tc_net's `serve`. This crate makes the exit statuses and the lines on
+//! standard error and standard output (docs/OPERATING.md). No clause says what is printed.
 #![tactic(auto)]
 
 mod addresses;

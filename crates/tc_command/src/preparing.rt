@@ -1,4 +1,4 @@
-//! What a server begins with: its settings, an empty cache for each user, and the hall's table.
+//! Makes a server's beginning: its settings, an empty cache for each user, and the hall's table.
 ghost use Rattle.std.specs.Prelude.{◌≡◌, IfOk};
 ghost use Rattle.tc_settings.specs.SettingsTable.{AreSoundNumbers};
 
@@ -16,10 +16,10 @@ use tc_partition::Fast;
 use tc_settings::Settings;
 use tc_users::SettingsFault;
 
-/// Why there is no server to begin, or settings say nothing.
+/// Why no server can begin, or why settings cannot be checked.
 #[derive(Debug, Drop)]
 pub enum Unready {
-    /// The settings are not there, or no text.
+    /// The settings file cannot be read, or is not text.
     Unreadable(io::Error),
     /// The settings are refused.
     Refused(SettingsFault),
@@ -62,7 +62,7 @@ pub fn read_text(rt: &HostRuntime, source: &Source) -> Result<String, Unready> {
     }
 }
 
-/// The settings of this text; a demo listens where its source says.
+/// Reads settings from a text. A demo listens at its source's address.
 pub fn read_settings(rt: &HostRuntime, text: &str, source: &Source) -> Result<Settings, Unready>
     ensures { IfOk result AreSoundNumbers }
 {
@@ -74,7 +74,7 @@ pub fn read_settings(rt: &HostRuntime, text: &str, source: &Source) -> Result<Se
     Ok(settings)
 }
 
-/// What a server of these settings goes by.
+/// The part of the settings that a server needs.
 fn server_settings(settings: Settings) -> ServerSettings
     ensures { result ≡ record {
       listen = settings.listen;
@@ -106,7 +106,7 @@ fn server_settings(settings: Settings) -> ServerSettings
     }
 }
 
-/// What a server of these settings begins with.
+/// The beginning of a server with these settings.
 pub fn prepare(rt: &HostRuntime, settings: Settings) -> Result<Beginning<Fast>, Unready>
     requires { AreSoundNumbers settings }
 {

@@ -1,5 +1,5 @@
-//! The exit statuses, and the lines on standard error that go with them (docs/OPERATING.md, "Exit
-//! statuses"). What a line says by a number or not at all, standard output says in words.
+//! The exit statuses, and their lines on standard error (docs/OPERATING.md, "Exit statuses"). If a line has only a
+//! number, or too little, standard output has the words.
 use crate::preparing::Unready;
 use clap::Error;
 use std::io;
@@ -7,13 +7,13 @@ use tc_asking::Unasked;
 use tc_net::{Found, Unserved};
 use tc_script::Ended;
 
-/// The exit status of a program that memory, a thread or random words were refused.
+/// Reports that memory, a thread or random words were refused. Returns the exit status.
 fn report_no_memory(rt: &HostRuntime) -> io::Result<u8> {
     eprintln!(rt; "partcached: out of memory")?;
     Ok(5)
 }
 
-/// The exit status of a run, and the line on standard error that says why it is not 0.
+/// Reports how a script's run ended. Returns the exit status.
 pub fn report_run(rt: &HostRuntime, ended: Ended) -> io::Result<u8> {
     match ended {
         Ended::Done => Ok(0),
@@ -26,13 +26,13 @@ pub fn report_run(rt: &HostRuntime, ended: Ended) -> io::Result<u8> {
     }
 }
 
-/// The exit status of a program that could not read or write a stream.
+/// Reports that a stream could not be read or written. Returns the exit status.
 fn report_stream(rt: &HostRuntime) -> io::Result<u8> {
     eprintln!(rt; "partcached: stream failed")?;
     Ok(6)
 }
 
-/// The exit status of a program that failed to print.
+/// Reports that printing failed. Returns the exit status.
 pub fn report_unprinted(rt: &HostRuntime, error: io::Error) -> io::Result<u8> {
     match error.kind() {
         io::ErrorKind::OutOfMemory => report_no_memory(rt),
@@ -40,7 +40,7 @@ pub fn report_unprinted(rt: &HostRuntime, error: io::Error) -> io::Result<u8> {
     }
 }
 
-/// The exit status of settings that say nothing, and its line.
+/// Reports why settings cannot be used. Returns the exit status.
 pub fn report_unready(rt: &HostRuntime, unready: Unready) -> io::Result<u8> {
     match unready {
         Unready::Unreadable(error) => {
@@ -58,13 +58,13 @@ pub fn report_unready(rt: &HostRuntime, unready: Unready) -> io::Result<u8> {
     }
 }
 
-/// The exit status of a server that can't listen, and its line.
+/// Reports that a server cannot listen. Returns the exit status.
 pub fn report_cannot_listen(rt: &HostRuntime) -> io::Result<u8> {
     eprintln!(rt; "partcached: cannot listen")?;
     Ok(4)
 }
 
-/// The exit status of a server, and its line.
+/// Reports how a server ended. Returns the exit status.
 pub fn report_served(rt: &HostRuntime, ended: Result<Found, Unserved>) -> io::Result<u8> {
     match ended {
         Ok(Found::Nothing) => Ok(0),
@@ -77,7 +77,7 @@ pub fn report_served(rt: &HostRuntime, ended: Result<Found, Unserved>) -> io::Re
     }
 }
 
-/// The exit status of a command line that asks for the version, which it prints.
+/// Prints the version. Returns the exit status.
 fn report_version(rt: &HostRuntime, version: Error) -> io::Result<u8> {
     match print!(rt; "{version}") {
         Ok(()) => Ok(0),
@@ -85,7 +85,7 @@ fn report_version(rt: &HostRuntime, version: Error) -> io::Result<u8> {
     }
 }
 
-/// The exit status of a command line that asks for nothing, and its text.
+/// Reports a command line that is refused, or that asks for help or the version. Returns the exit status.
 pub fn report_unasked(rt: &HostRuntime, unasked: Unasked) -> io::Result<u8> {
     match unasked {
         Unasked::NoMemory => return report_no_memory(rt),

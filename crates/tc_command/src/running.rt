@@ -1,4 +1,4 @@
-//! The script on standard input.
+//! The command `run`.
 use crate::reporting::report_run;
 use std::hash::RandomState;
 use std::io;
@@ -20,7 +20,7 @@ fn run(rt: &HostRuntime, reading: Reading) -> Ended {
     }
 }
 
-/// The exit status of a run of the script on standard input.
+/// Runs the script on standard input and reports how it ended. Returns the exit status.
 pub fn run_input(rt: &HostRuntime, reading: Reading) -> io::Result<u8> {
     report_run(rt, run(rt, reading))
 }

@@ -1,4 +1,4 @@
-//! A server that is ready to begin, and what it says on standard output.
+//! The command `serve`: makes a server ready, and prints its lines on standard output.
 ghost use Rattle.std.specs.Prelude.{IfOk};
 ghost use Rattle.tc_settings.specs.SettingsTable.{AreSoundNumbers};
 
@@ -19,28 +19,28 @@ use tc_partition::Fast;
 use tc_settings::Settings;
 use tc_users::{UserNo, Users};
 
-/// Prints how a server fares. What standard output refuses is lost, and no server ends for it.
+/// Prints a server's lines. A line that standard output refuses is lost, and the server goes on.
 #[derive(Drop)]
 pub struct Printing<'a> {
     rt: &'a HostRuntime,
     source: &'a Source,
     /// It prints no notices.
     quiet: bool,
-    /// Where the settings have it listen.
+    /// The settings' address to listen on.
     listen: String,
-    /// Where the settings have it tell its metrics; empty where nowhere.
+    /// The settings' address for metrics; empty if there is none.
     metrics: String,
     workers: usize,
     /// The users' names, in the order of their numbers.
     names: Vec<String>,
 }
 
-/// The ending of a word for so many things.
+/// The ending of a noun for so many things.
 fn plural(count: u64) -> &'static str {
     if count == 1 { "" } else { "s" }
 }
 
-/// What lines that are left out would say, in a few words.
+/// A few words for the cause of lines that are left out.
 fn words_of(cause: Cause) -> &'static str {
     match cause {
         Cause::NoPlace => "no place",
@@ -59,7 +59,7 @@ fn words_of(cause: Cause) -> &'static str {
 }
 
 impl Printing<'_> {
-    /// The line of a server that listens, and for a demo what to do next.
+    /// Prints that the server listens, and a demo's guide.
     fn print_listening(&self, address: SocketAddr) -> io::Result<()> {
         let (workers, users) = (self.workers, self.names.len());
         let (s, z) = (plural(workers as u64), plural(users as u64));
@@ -79,7 +79,7 @@ impl Printing<'_> {
         }
     }
 
-    /// The line of a user's audit.
+    /// Prints the result of a user's audit.
     fn print_audit(&self, user: UserNo, audit: &Audit) -> io::Result<()> {
         let name = self.name_of(user);
         let compared = audit.compared;
@@ -97,7 +97,7 @@ impl Printing<'_> {
         }
     }
 
-    /// The line of a notice.
+    /// Prints a notice.
     fn print_notice(&self, notice: &Notice) -> io::Result<()> {
         match notice {
             Notice::NoPlace { peer } => println!(self.rt;
@@ -131,7 +131,7 @@ impl Printing<'_> {
         }
     }
 
-    /// The line of so many that have none of their own.
+    /// Prints how many lines of one user and cause were left out.
     fn print_left_out(&self, user: Option<UserNo>, cause: Cause, count: u64) -> io::Result<()> {
         let name = match user {
             Some(user) => self.name_of(user),
@@ -147,7 +147,7 @@ impl Printing<'_> {
         println!(self.rt; "left out {count} more line{s} of {name}: {words}")
     }
 
-    /// The line of a connection whose time ran out.
+    /// Prints that a connection was closed by a timeout.
     fn print_timed_out(
         &self,
         peer: &SocketAddr,
@@ -168,7 +168,7 @@ impl Printing<'_> {
         }
     }
 
-    /// The line of a refused login.
+    /// Prints that a login was refused.
     fn print_refused(&self, peer: &SocketAddr, user: Option<UserNo>) -> io::Result<()> {
         match user {
             None => println!(self.rt; "refused login from {peer}: no user has that name"),
@@ -179,7 +179,7 @@ impl Printing<'_> {
         }
     }
 
-    /// The line of settings by which no server can listen.
+    /// Prints a line for each address in the settings that is no address and port.
     fn note_no_address(&self) {
         let _ = Deed::Listen.read_address(self.rt, self.listen.as_str());
         if !self.metrics.is_empty() {
@@ -239,8 +239,7 @@ impl Audience for Printing<'_> {
     }
 }
 
-/// Warns of a file that others can read, and of fields that mean nothing; where standard output refuses a warning, it
-/// is lost.
+/// Warns if others can read the settings file, and of unknown fields. A warning that standard output refuses is lost.
 fn warn_aside(rt: &HostRuntime, source: &Source, text: &str) -> Result<(), Unready> {
     if let Source::File(path) = source {
         let _ = warn_of_mode(rt, path.as_str());
@@ -251,8 +250,7 @@ fn warn_aside(rt: &HostRuntime, source: &Source, text: &str) -> Result<(), Unrea
     }
 }
 
-/// Warns where the process may open fewer descriptors than a server of these settings wants. Of a demo, which is there
-/// to look at, nothing is said.
+/// Warns if the process may open fewer descriptors than a server with these settings wants. Prints nothing for a demo.
 fn warn_of_shortage(rt: &HostRuntime, source: &Source, settings: &Settings) {
     if let Source::File(_) = source
         && let Some(allowed) = allowed_descriptors(rt)
@@ -270,7 +268,7 @@ fn names_of(alloc: Global, users: &Users) -> Result<Vec<String>, AllocError> {
     Ok(names)
 }
 
-/// Where the settings have a server tell its metrics; empty where nowhere.
+/// The settings' address for metrics; empty if there is none.
 fn metrics_of(alloc: Global, settings: &Settings) -> Result<String, AllocError> {
     match &settings.metrics {
         Some(metrics) => String::from_str(alloc, metrics.as_str()),
@@ -283,14 +281,14 @@ fn metrics_of(alloc: Global, settings: &Settings) -> Result<String, AllocError> 
 pub struct Ready<'a> {
     pub beginning: Beginning<Fast>,
     pub affinity: Affinity,
-    /// It ends once so many connections were closed.
+    /// The server ends after so many connections were closed.
     pub until: Option<u64>,
     pub at_end: AtEnd,
-    /// What it says on standard output.
+    /// Its lines on standard output.
     pub printing: Printing<'a>,
 }
 
-/// What a server of these settings says on standard output.
+/// The lines of a server with these settings on standard output.
 fn printing_of<'a>(
     rt: &'a HostRuntime,
     serving: &'a Serving,
@@ -308,7 +306,7 @@ fn printing_of<'a>(
     })
 }
 
-/// The settings that are asked for; fields of them that mean nothing are warned of, and tokens that others may know.
+/// Reads the settings, and warns of unknown fields, of the example's tokens and of too few descriptors.
 fn settings_of(rt: &HostRuntime, serving: &Serving) -> Result<Settings, Unready>
     ensures { IfOk result AreSoundNumbers }
 {
@@ -321,7 +319,7 @@ fn settings_of(rt: &HostRuntime, serving: &Serving) -> Result<Settings, Unready>
     Ok(settings)
 }
 
-/// Which worker is to serve a connection.
+/// The rule by which a connection gets its worker.
 fn affinity_of(serving: &Serving) -> Affinity {
     if serving.spread {
         Affinity::Spread
@@ -330,7 +328,7 @@ fn affinity_of(serving: &Serving) -> Affinity {
     }
 }
 
-/// What is to become of the hall.
+/// What the server does with the hall at its end.
 fn at_end_of(serving: &Serving) -> AtEnd {
     if serving.audit {
         AtEnd::Audits
@@ -339,7 +337,7 @@ fn at_end_of(serving: &Serving) -> AtEnd {
     }
 }
 
-/// Makes ready what is asked for.
+/// Makes the server ready that is asked for.
 pub fn make_ready<'a>(rt: &'a HostRuntime, serving: &'a Serving) -> Result<Ready<'a>, Unready> {
     let settings = settings_of(rt, serving)?;
     let printing = printing_of(rt, serving, &settings)?;

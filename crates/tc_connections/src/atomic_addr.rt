@@ -4,17 +4,17 @@ use std::net::{IpAddr, Ipv6Addr, SocketAddr};
 use std::sync::atomic::AtomicU64;
 use std::sync::atomic::Ordering::SeqCst;
 
-/// An address and a port in words, one of IPv4 as the one of IPv6 that stands for it. It is read as it is told
-/// (`canonical`). Who reads it while another is written may find parts of both.
+/// An address and a port in words, an IPv4 address as its IPv4-mapped IPv6 address. `load` returns
+/// it in `canonical` spelling. A load during a store may mix parts of both addresses.
 #[derive(Drop)]
 pub(crate) struct AtomicAddr {
-    /// The first half of its eight segments, and the second.
+    /// The first four of its eight segments, and the last four.
     high: AtomicU64,
     low: AtomicU64,
     port: AtomicU64,
 }
 
-/// Segments of an address, one behind the other.
+/// Joins segments of an address, the first in the highest bits.
 fn join(segments: &[u16]) -> u64 {
     let mut bits = 0u64;
     for segment in segments {
@@ -24,7 +24,7 @@ fn join(segments: &[u16]) -> u64 {
 }
 
 impl AtomicAddr {
-    /// No address: `[::]:0`.
+    /// Makes the address `[::]:0`, which is none.
     pub(crate) fn new() -> AtomicAddr {
         AtomicAddr {
             high: AtomicU64::new(0),

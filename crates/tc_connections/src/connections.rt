@@ -1,4 +1,4 @@
-//! Who is in: what the listener, the inlets, the wires and the keeper of a server share.
+//! The places of all connections, which a server's listener, inlets, wires and keeper share.
 use crate::atomic_addr::AtomicAddr;
 use crate::lines::Lines;
 use crate::notice::{Cause, Notice};
@@ -15,25 +15,25 @@ use tc_users::UserNo;
 /// The most open connections.
 const MOST_OPEN: usize = 1_024;
 
-/// The place of a connection. Its worker notes what it does; the listener and the keeper say that it is
-/// to go.
+/// The place of a connection. Its worker notes what it does; the listener, the keeper or a wire
+/// marks it to go.
 #[derive(Drop)]
 struct Place {
-    /// The number of the connection that has it, from 1; 0 where none has.
+    /// The number of the connection that has the place, from 1; 0 if none has it.
     holder: AtomicU64,
-    /// The number of its user; 0 before it is known.
+    /// The number of its user; 0 before its login.
     user: AtomicU64,
-    /// Where it comes from.
+    /// Its peer.
     peer: AtomicAddr,
-    /// The number of the user among whose open connections it is counted; 0 where it is nobody's.
+    /// The number of the user whose open connections count it; 0 if none do.
     counted: AtomicU64,
-    /// The second in which it came.
+    /// The second in which it arrived.
     came: AtomicU64,
-    /// The second in which bytes of it last came.
+    /// The second in which bytes last came from it.
     heard: AtomicU64,
-    /// The second since which nothing of what waits for it is taken; 0 where something is.
+    /// The second since which nothing of what waits for it was taken; 0 if something was.
     stuck: AtomicU64,
-    /// The number of a connection that is to go from here.
+    /// The number of a connection that was marked to go from here.
     ousted: AtomicU64,
 }
 
@@ -51,7 +51,7 @@ impl Place {
         }
     }
 
-    /// Gives it to a connection from there.
+    /// Gives the place to a connection from `peer`.
     fn give(&self, number: u64, peer: SocketAddr, second: u64) {
         self.user.store(0, SeqCst);
         self.peer.store(peer);
@@ -61,7 +61,7 @@ impl Place {
         self.holder.store(number, SeqCst);
     }
 
-    /// The number of the connection that has it and is not to go.
+    /// Returns the number of the connection that has the place and is not marked to go.
     fn staying(&self) -> Option<u64> {
         let holder = self.holder.load(SeqCst);
         if holder == 0 || holder == self.ousted.load(SeqCst) {
@@ -70,7 +70,7 @@ impl Place {
         Some(holder)
     }
 
-    /// The user of the connection that has it and is not to go.
+    /// Returns the user of the connection that has the place and is not marked to go.
     fn user(&self) -> Option<UserNo> {
         let _ = self.staying()?;
         match self.user.load(SeqCst) {
@@ -79,7 +79,8 @@ impl Place {
         }
     }
 
-    /// The number of the connection that has it, is not to go, and has no user yet.
+    /// Returns the number of the connection that has the place, is not marked to go, and has no
+    /// user yet.
     fn unbound(&self) -> Option<u64> {
         let holder = self.staying()?;
         if self.user.load(SeqCst) == 0 {
@@ -89,7 +90,8 @@ impl Place {
         }
     }
 
-    /// Whether a connection has it, is not to go, and nothing of what waits for it is taken.
+    /// Whether a connection has the place, is not marked to go, and is stuck: nothing of what waits
+    /// for it is taken.
     fn is_stuck(&self) -> bool {
         self.staying().is_some() && self.stuck.load(SeqCst) != 0
     }
@@ -104,34 +106,34 @@ impl Place {
     }
 }
 
-/// The places of all connections, the limits on them, how many were closed, and whether further ones
-/// come.
+/// The places of all connections, the limits on them, how many were closed, and whether the server
+/// has ended. The wire of a connection that is marked to go fails, so its worker drops it.
 #[derive(Drop)]
 pub struct Connections {
     places: Vec<Place>,
     limits: ConnectionLimits,
     user_limits: LimitsByUser,
-    /// How many each user has.
+    /// How many connections each user has.
     tallies: Tallies,
-    /// The second that it is, counted from 1 at the server's start.
+    /// The current second, counted from 1 at the server's start.
     second: AtomicU64,
     closed: AtomicU64,
     /// How many were closed, or not let in, for a limit.
     limited: AtomicU64,
     /// How many logins were refused.
     refused_logins: AtomicU64,
-    /// How often one was told to go.
+    /// How often one was marked to go.
     ousts: AtomicU64,
-    /// In how many seconds one was stuck, and is to be tried anew.
+    /// In how many seconds one was stuck, and must be tried again.
     retries: AtomicU64,
-    /// 1 once the server is to end.
+    /// 1 once the server must end.
     ended: AtomicU64,
-    /// What an operator is told next.
+    /// The notices for the operator.
     lines: Lines,
 }
 
 impl Connections {
-    /// No connection is open.
+    /// Makes the places, with no connection open.
     pub fn new(
         alloc: Global,
         limits: ConnectionLimits,
@@ -159,8 +161,8 @@ impl Connections {
         })
     }
 
-    /// The place of a connection that came from there, whose number is counted from 1. Where there is none, the
-    /// connection was counted as closed.
+    /// Gives a place to connection `number`, counted from 1, and returns it. If there is none, it
+    /// counts the connection as closed and returns `None`.
     pub fn enter(&self, number: u64, peer: SocketAddr) -> Option<usize> {
         for (at, place) in self.places.iter().enumerate() {
             if place.holder.load(SeqCst) == 0 {
@@ -173,7 +175,7 @@ impl Connections {
         None
     }
 
-    /// Gives a place up.
+    /// Frees a place, and counts its connection as closed.
     pub fn leave(&self, at: usize) {
         if let Some(place) = self.places.get(at) {
             self.count_out(place);
@@ -182,7 +184,8 @@ impl Connections {
         self.closed.fetch_add(1, SeqCst);
     }
 
-    /// Where as many connections have no user yet as may be, the oldest of them is to go. Whether it is.
+    /// If as many connections have no user as may be, marks the oldest of them to go. Returns
+    /// whether it did.
     pub fn make_room(&self) -> bool {
         let Some(most) = self.limits.unbound_connections else {
             return false;
@@ -196,7 +199,7 @@ impl Connections {
         }
     }
 
-    /// How many connections have no user yet.
+    /// Returns how many connections have no user yet.
     pub fn count_unbound(&self) -> u64 {
         let mut count = 0u64;
         for place in &self.places {
@@ -207,7 +210,7 @@ impl Connections {
         count
     }
 
-    /// The place of the oldest connection that has no user yet.
+    /// Returns the place of the oldest connection that has no user yet.
     fn oldest_unbound(&self) -> Option<usize> {
         let mut first = u64::MAX;
         let mut oldest = None;
@@ -222,7 +225,8 @@ impl Connections {
         oldest
     }
 
-    /// Has the connection go that has a place. Whether it was to stay.
+    /// Marks the connection of a place to go. Returns whether there was one that was not marked. It
+    /// wakes no worker.
     pub fn oust(&self, at: usize) -> bool {
         let Some(place) = self.places.get(at) else {
             return false;
@@ -237,7 +241,8 @@ impl Connections {
         true
     }
 
-    /// Notes whose connection has a place. One that is the user's too many is to go.
+    /// Notes whose connection has a place. If the user has as many others as it may, the connection
+    /// is marked to go.
     pub fn bind(&self, at: usize, user: UserNo) {
         let Some(place) = self.places.get(at) else {
             return;
@@ -245,11 +250,11 @@ impl Connections {
         place.user.store(u64::from(user.number()), SeqCst);
         let others = self.count_in(place, user);
         if self.is_too_many(user, others) && self.oust(at) {
-            self.lines.count(Some(user), Cause::UserFull, 1);
+            self.lines.count_alone(Some(user), Cause::UserFull);
         }
     }
 
-    /// Counts a connection among its user's. How many others the user has.
+    /// Counts a connection among its user's, and returns how many others the user has.
     fn count_in(&self, place: &Place, user: UserNo) -> u64 {
         let number = u64::from(user.number());
         let others = self.tallies.count_in(number);
@@ -257,12 +262,12 @@ impl Connections {
         others
     }
 
-    /// Counts a connection no more, where it is counted.
+    /// Removes a connection from its user's count, if it is counted.
     fn count_out(&self, place: &Place) {
         self.tallies.count_out(place.counted.swap(0, SeqCst));
     }
 
-    /// Whether a connection is one more than a user may have, which has so many others.
+    /// Whether a user with `others` other connections may have no more.
     fn is_too_many(&self, user: UserNo, others: u64) -> bool {
         match self.user_limits.of(user) {
             Some(limits) => match limits.connections {
@@ -273,7 +278,7 @@ impl Connections {
         }
     }
 
-    /// What an operator is told of the connection that has a place, where it has stayed too long.
+    /// Returns the notice for the connection of a place, if it has stayed too long.
     fn overdue_at(&self, place: &Place, second: u64) -> Option<Notice> {
         let _ = place.staying()?;
         let user = place.user();
@@ -289,7 +294,7 @@ impl Connections {
         })
     }
 
-    /// Has each connection go that has stayed too long, and an operator told of it.
+    /// Marks each connection that has stayed too long, with a notice for the operator.
     fn oust_overdue<R: Wait>(&self, rt: &R, second: u64) {
         for (at, place) in self.places.iter().enumerate() {
             if let Some(notice) = self.overdue_at(place, second)
@@ -300,9 +305,11 @@ impl Connections {
         }
     }
 
-    /// Notes the second that it is, has each connection go that has stayed too long, and each that is stuck tried
-    /// anew: a poll says that a socket may be written only once a third of its room is free, and a client that reads
-    /// slowly may take longer for that than it may be stuck. Whether it is another second than before.
+    /// Notes the current second. Returns whether it is another one than before. If so, it marks
+    /// each connection that has stayed too long, and has each stuck one tried again.
+    ///
+    /// A poll reports a socket as writable only once a third of its room is free. A slow client may
+    /// take longer for that than the limit on stuck connections.
     pub fn note_second<R: Wait>(&self, rt: &R, second: u64) -> bool {
         if self.second.swap(second, SeqCst) == second {
             return false;
@@ -314,8 +321,8 @@ impl Connections {
         true
     }
 
-    /// Bytes came of the connection that has a place. A word is written where it changes alone: places of
-    /// several workers' connections lie in one line of memory, which goes to the processor that writes it.
+    /// Notes that bytes came from the connection of a place. It writes the word only if that
+    /// changes: places of several workers' connections share cache lines.
     pub fn note_heard(&self, at: usize) {
         let Some(place) = self.places.get(at) else {
             return;
@@ -326,7 +333,7 @@ impl Connections {
         }
     }
 
-    /// Something of what waits for the connection was taken, or nothing.
+    /// Notes whether something of what waits for the connection was taken.
     pub fn note_taken(&self, at: usize, is_taken: bool) {
         let Some(place) = self.places.get(at) else {
             return;
@@ -339,7 +346,7 @@ impl Connections {
         }
     }
 
-    /// Whether the connection that has a place is to go.
+    /// Whether the connection of a place is marked to go, or the server must end.
     pub fn is_over(&self, at: usize) -> bool {
         if self.has_ended() {
             return true;
@@ -350,17 +357,17 @@ impl Connections {
         }
     }
 
-    /// How often a connection was told to go.
+    /// Returns how often a connection was marked to go.
     pub fn ousts(&self) -> u64 {
         self.ousts.load(SeqCst)
     }
 
-    /// In how many seconds a connection was stuck.
+    /// Returns in how many seconds a connection was stuck.
     pub fn retries(&self) -> u64 {
         self.retries.load(SeqCst)
     }
 
-    /// Whether nothing is taken of what waits for the connection that has a place.
+    /// Whether nothing is taken of what waits for the connection of a place.
     pub fn is_stuck(&self, at: usize) -> bool {
         match self.places.get(at) {
             Some(place) => place.is_stuck(),
@@ -368,69 +375,75 @@ impl Connections {
         }
     }
 
-    /// How many connections were closed, those among them that might not stay.
+    /// Returns how many connections were closed, with those that got no place.
     pub fn closed(&self) -> u64 {
         self.closed.load(SeqCst)
     }
 
-    /// How many connections were closed, or not let in, for a limit.
+    /// Returns how many connections were closed, or not let in, for a limit.
     pub fn limited(&self) -> u64 {
         self.limited.load(SeqCst)
     }
 
-    /// How many logins were refused.
+    /// Returns how many logins were refused.
     pub fn refused_logins(&self) -> u64 {
         self.refused_logins.load(SeqCst)
     }
 
-    /// The second that it is, counted from 1 at the server's start.
+    /// Returns the current second, counted from 1 at the server's start.
     pub fn second(&self) -> u64 {
         self.second.load(SeqCst)
     }
 
-    /// How many places there are.
+    /// Returns how many places there are.
     pub fn len(&self) -> usize {
         self.places.len()
     }
 
-    /// Where the connection comes from that has a place.
+    /// Returns the peer of the connection that has a place, or had it last.
     pub fn peer_at(&self, at: usize) -> Option<SocketAddr> {
         Some(self.places.get(at)?.peer.load())
     }
 
-    /// Whose connection has a place.
+    /// Returns the user of the connection of a place; `None` before its login, or once it is marked
+    /// to go.
     pub fn user_at(&self, at: usize) -> Option<UserNo> {
         self.places.get(at)?.user()
     }
 
-    /// Has an operator told.
+    /// Notes something for the operator. It may spin for a moment while another thread uses the
+    /// queue of notices.
     pub fn note<R: Wait>(&self, rt: &R, notice: Notice) {
         self.lines.note(rt, self.second.load(SeqCst), notice);
     }
 
-    /// Counts a login that was refused.
+    /// Counts a refused login.
     pub fn count_refused_login(&self) {
         self.refused_logins.fetch_add(1, SeqCst);
     }
 
-    /// What an operator is to be told in this second, put in the place of what stands there: ten notices at most,
-    /// shared out by user and cause.
+    /// Replaces `told` with the notices of this second: ten at most, shared out by user and cause.
     pub fn take_notices<R: Wait>(&self, rt: &R, told: &mut Vec<Notice>) {
         told.clear();
         self.lines.tell(rt, told);
     }
 
-    /// How many notices had no line of their own since the start.
+    /// Returns how many notices had no line of their own since the start.
     pub fn left_out(&self) -> u64 {
         self.lines.dropped()
     }
 
-    /// The server is to end: no further connection comes, and those that are open are dropped.
+    /// Returns how often a cause arose for a user, or for nobody, since the start.
+    pub fn total(&self, user: Option<UserNo>, cause: Cause) -> u64 {
+        self.lines.total(user, cause)
+    }
+
+    /// Ends the server: no further connection enters, and workers drop the open ones.
     pub fn end(&self) {
         self.ended.store(1, SeqCst);
     }
 
-    /// Whether the server is to end.
+    /// Whether the server must end.
     pub fn has_ended(&self) -> bool {
         self.ended.load(SeqCst) != 0
     }

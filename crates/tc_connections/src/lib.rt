@@ -1,20 +1,27 @@
-//! Who is connected to a server: the books that its listener, its wires, its inlets and its keeper share. No
-//! socket, poll or thread is here.
+//! The state of a server's connections that its listener, its wires, its inlets and its keeper
+//! share. No socket, poll or thread is here.
 //!
-//! Each connection has a place among the `Connections`, which know its user and where it comes from, count it by
-//! user (`tallies.rt`), and say which is to go: the oldest that has not logged in where too many have not, a
-//! user's one too many, and one that stayed too long (`specs/Deadlines.antt`). A `Notice` is what an operator is
-//! told of it, with the address in one spelling (`canonical`); ten of a second are shared out by user and cause
-//! (`lines.rt`). A `Readiness` has a word for each socket of one
-//! worker's poll, and what the worker did (`Counts`).
+//! Each connection has a place among the `Connections`. They know its user and its peer, count it
+//! by user (`tallies.rt`), and mark a connection to go for one of four reasons:
 //!
-//! 1. A place among the `Connections` is written by the wire that has it, and told to go by the listener, the keeper
-//!    or a wire.
-//! 2. A place of a `Readiness` is written by its worker's thread alone.
-//! 3. `Counts` are written by one worker.
+//! - it is the oldest one without a login, and too many have none,
+//! - its user has too many,
+//! - it stayed too long (`specs/Deadlines.antt`),
+//! - it holds up others of its user.
 //!
-//! Contracts are those of `overdue`, which time ran out for a connection, and of `canonical`. Of what threads share
-//! by words that each writes in one step no clause says anything.
+//! A `Notice` tells the operator of it, with the address in one spelling (`canonical`). At most ten
+//! a second get a line, shared out by user and cause (`lines.rt`). A `Readiness` has a word for
+//! each socket of one worker's poll, and what the worker did (`Counts`).
+//!
+//! 1. The listener fills a place among the `Connections`. The wire that has it writes it and frees
+//!    it; without a wire, whoever drops the connection frees it. The listener, the keeper or a wire
+//!    marks it to go.
+//! 2. Only the worker's thread writes a place of its `Readiness`.
+//! 3. Only one worker writes each `Counts`.
+//!
+//! There are contracts for `overdue`, which says which time ran out for a connection, and for
+//! `canonical`. Threads share the rest by words that each change in one atomic step, and no clause
+//! covers those.
 #![tactic(auto)]
 
 mod address;

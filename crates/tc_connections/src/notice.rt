@@ -1,53 +1,56 @@
-//! What an operator is told while a server serves.
+//! What an operator learns while a server serves.
 use crate::overdue::Timeout;
 use std::net::SocketAddr;
 use tc_users::UserNo;
 
-/// What became of a connection, in a line of its own; or of several, in one line.
+/// What happened to a connection, in a line of its own; or to several, in one line.
 #[derive(Clone, Copy, PartialEq, Eq)]
 pub enum Notice {
-    /// All places are taken, so a connection from there was closed at once.
+    /// All places are taken, so a connection from this peer was closed at once.
     NoPlace {
         peer: SocketAddr,
     },
-    /// The process has no descriptor for a further connection beside so many that are open: it waits until one closes.
+    /// The process has no descriptor for another connection beside the `open` ones: it waits until
+    /// one closes.
     NoDescriptor {
         open: u64,
     },
-    /// As many connections have not logged in as may be, so the oldest of them goes for one from there.
+    /// As many connections have no login as the limit allows, so the oldest of them goes for one
+    /// from this peer.
     UnboundFull {
         peer: SocketAddr,
     },
-    /// A login from there was refused: that of this user, or of none, where its name is nobody's.
+    /// A login was refused. `user` is the user whose name it gave; `None` if the name is nobody's.
     LoginRefused {
         peer: SocketAddr,
         user: Option<UserNo>,
     },
-    /// A connection from there has not logged in, and sent a block longer than a login's may be.
+    /// A connection that has not logged in sent a block longer than a login's may be.
     LongBlock {
         peer: SocketAddr,
     },
-    /// A connection from there speaks the binary protocol, and was closed.
+    /// A connection spoke the binary protocol, and was closed.
     Binary {
         peer: SocketAddr,
     },
-    /// A connection from there sent half a block and no more, while others of its user waited, and goes.
+    /// A connection sent half a block and stopped, while others of its user waited, and must go.
     HoldsUp {
         peer: SocketAddr,
         user: Option<UserNo>,
     },
-    /// This time ran out for a connection from there, of this user where it has logged in, and it goes.
+    /// A connection's time ran out, and it must go. `user` is `None` before its login.
     TimedOut {
         peer: SocketAddr,
         user: Option<UserNo>,
         timeout: Timeout,
     },
-    /// Memory was refused to a command from there, or to its reply.
+    /// Memory was refused to a command of a connection, or to its reply.
     NoMemory {
         peer: SocketAddr,
         user: Option<UserNo>,
     },
-    /// So many have no line of their own, of this cause, and of this user where they are some user's.
+    /// `count` notices of this cause have no line of their own. `user` is `None` for those of no
+    /// user.
     LeftOut {
         user: Option<UserNo>,
         cause: Cause,
@@ -55,7 +58,7 @@ pub enum Notice {
     },
 }
 
-/// Why an operator is told of a connection.
+/// Why an operator gets a notice.
 #[derive(Clone, Copy, PartialEq, Eq)]
 pub enum Cause {
     NoPlace,
@@ -67,7 +70,8 @@ pub enum Cause {
     HoldsUp,
     TimedOut(Timeout),
     NoMemory,
-    /// Its user had as many connections as it may, so it goes behind its login. It never has a line of its own.
+    /// Its user had as many connections as it may, so it goes after its login. This cause never has
+    /// a line of its own.
     UserFull,
 }
 
@@ -88,7 +92,7 @@ pub(crate) const CAUSES: [Cause; 12] = [
 ];
 
 impl Cause {
-    /// Its place among all causes.
+    /// Returns its index in `CAUSES`.
     pub(crate) fn place(self) -> usize {
         match self {
             Cause::NoPlace => 0,
@@ -108,7 +112,7 @@ impl Cause {
 }
 
 impl Notice {
-    /// Why an operator is told.
+    /// Returns its cause.
     pub fn cause(&self) -> Cause {
         match self {
             Notice::NoPlace { .. } => Cause::NoPlace,
@@ -124,7 +128,7 @@ impl Notice {
         }
     }
 
-    /// Of whose connection, where it is some user's.
+    /// Returns whose connection it concerns, if it is some user's.
     pub fn user(&self) -> Option<UserNo> {
         match self {
             Notice::LoginRefused { user, .. }

@@ -7,26 +7,26 @@ use tc_limits::{ConnectionLimits, UserLimits};
 /// Which time ran out for a connection.
 #[derive(Clone, Copy, Debug, PartialEq, Eq)]
 pub enum Timeout {
-    /// That to log in: `login_seconds`.
+    /// The time to log in: `login_seconds`.
     Login,
-    /// That in which a user's connection sends a byte: `idle_seconds`.
+    /// The time in which a user's connection must send a byte: `idle_seconds`.
     Idle,
-    /// That in which a byte of what waits for it is taken: `stalled_seconds`.
+    /// The time in which its peer must take a byte of what waits for it: `stalled_seconds`.
     Stalled,
 }
 
-/// What a connection's stay is judged by, in seconds of the server.
+/// The times of a connection's stay, in seconds of the server.
 #[derive(Clone, Copy, PartialEq, Eq)]
 pub(crate) struct Stay {
-    /// When it came.
+    /// When it arrived.
     pub(crate) came: u64,
-    /// When bytes of it last came.
+    /// When bytes last came from it.
     pub(crate) heard: u64,
-    /// Since when nothing of what waits for it is taken.
+    /// Since when nothing of what waits for it was taken; `None` if something was.
     pub(crate) stuck: Option<u64>,
 }
 
-/// Whether more seconds than the limit went by.
+/// Whether more seconds than the limit went by; never without a limit.
 fn is_past(limit: Option<u32>, since: u64, now: u64) -> bool
     ensures { result ≡ is_past limit since now }
 {
@@ -49,7 +49,8 @@ fn is_stalled(limit: Option<u32>, stuck: Option<u64>, now: u64) -> bool
     }
 }
 
-/// Whether it has not logged in for too long; or where its user is known, whether it asked for nothing.
+/// Whether it has not logged in for too long; or, if its user has limits, whether it sent nothing
+/// for too long.
 fn is_silent(limits: ConnectionLimits, own: Option<UserLimits>, stay: Stay, now: u64) -> bool
     ensures { result ≡ is_silent limits own stay now }
 {
@@ -59,7 +60,8 @@ fn is_silent(limits: ConnectionLimits, own: Option<UserLimits>, stay: Stay, now:
     }
 }
 
-/// Which time runs out for a connection that is silent, of a user whose limits are given where it has one.
+/// Returns which time runs out for a silent connection: `Idle` if its user's limits are given,
+/// otherwise `Login`.
 fn silence_of(own: Option<UserLimits>) -> Timeout
     ensures { result ≡ silence_of own }
 {
@@ -69,7 +71,8 @@ fn silence_of(own: Option<UserLimits>) -> Timeout
     }
 }
 
-/// Which time ran out for a connection, under these limits and those of its user; `None` where none did.
+/// Returns which time ran out for a connection, under these limits and those of its user; `None` if
+/// none did. Silence comes before a stall.
 pub(crate) fn overdue(
     limits: ConnectionLimits,
     own: Option<UserLimits>,

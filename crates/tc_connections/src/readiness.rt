@@ -1,4 +1,4 @@
-//! What the poll of one worker said of each of its sockets, and what the worker did.
+//! What the poll of one worker reported of each of its sockets, and what the worker did.
 use crate::counts::Counts;
 use std::alloc::{AllocError, Global};
 use std::sync::atomic::AtomicU64;
@@ -7,27 +7,28 @@ use std::sync::atomic::Ordering::SeqCst;
 /// A socket may be read.
 pub const READABLE: u64 = 1;
 
-/// A socket's peer sends no more, or it failed: it is read until it says so.
+/// A socket's peer sends no more, or the socket failed. It stays readable, so that a read finds the
+/// end.
 pub const ENDING: u64 = 2;
 
 /// A socket may be written.
 pub const WRITABLE: u64 = 4;
 
-/// The place is some socket's.
+/// A socket has the place.
 const TAKEN: u64 = 8;
 
-/// One socket that the worker's poll watches.
+/// A socket that the worker's poll watches.
 #[derive(Drop)]
 struct Watched {
     said: AtomicU64,
-    /// Under which key the worker has the socket.
+    /// The worker's key of the socket.
     key: AtomicU64,
-    /// Which place the socket has among the connections.
+    /// The socket's place among the connections.
     connection: AtomicU64,
 }
 
-/// A place for each socket of a worker, and what the worker did. The words are atomic since the worker's
-/// inlet and its wires share them; one thread writes all of them.
+/// A place for each socket of a worker, and what the worker did. Only the worker's thread writes
+/// the words. They are atomic since its inlet and its wires share them.
 #[derive(Drop)]
 pub struct Readiness {
     places: Vec<Watched>,
@@ -35,7 +36,7 @@ pub struct Readiness {
 }
 
 impl Readiness {
-    /// Places for so many sockets, of one worker of so many.
+    /// Makes `count` places, for one of `workers` workers.
     pub fn new(alloc: Global, count: usize, workers: usize) -> Result<Readiness, AllocError> {
         let counts = Counts::new(alloc, workers)?;
         let mut places = Vec::with_capacity(alloc, count)?;
@@ -49,18 +50,18 @@ impl Readiness {
         Ok(Readiness { places, counts })
     }
 
-    /// What the worker did.
+    /// Returns what the worker did.
     pub fn counts(&self) -> &Counts {
         &self.counts
     }
 
-    /// How many places there are.
+    /// Returns how many places there are.
     pub fn len(&self) -> usize {
         self.places.len()
     }
 
-    /// Takes a place that no socket has, as one that may be read and written, for the socket that has
-    /// this one among the connections.
+    /// Takes a free place for a socket with this place among the connections, and marks it as
+    /// readable and writable. `None` if none is free.
     pub fn claim(&self, connection: usize) -> Option<usize> {
         for at in 0..self.places.len() {
             let place = &self.places[at];
@@ -73,7 +74,8 @@ impl Readiness {
         None
     }
 
-    /// The place among the connections of the socket that has a place here.
+    /// Returns the place among the connections of the socket that has this place; `None` if none
+    /// has it.
     pub fn connection(&self, at: usize) -> Option<usize> {
         let place = self.places.get(at)?;
         if place.said.load(SeqCst) & TAKEN == 0 {
@@ -82,14 +84,14 @@ impl Readiness {
         Some(place.connection.load(SeqCst) as usize)
     }
 
-    /// Gives a place up.
+    /// Frees a place.
     pub fn free(&self, at: usize) {
         if let Some(place) = self.places.get(at) {
             place.said.store(0, SeqCst);
         }
     }
 
-    /// Whether one of these bits is set of a place.
+    /// Whether one of these bits of a place is set.
     pub fn has(&self, at: usize, bit: u64) -> bool {
         match self.places.get(at) {
             Some(place) => place.said.load(SeqCst) & bit != 0,
@@ -111,14 +113,14 @@ impl Readiness {
         }
     }
 
-    /// Notes under which key the worker has the socket of a place.
+    /// Sets the worker's key of the socket that has a place.
     pub fn set_key(&self, at: usize, key: usize) {
         if let Some(place) = self.places.get(at) {
             place.key.store(key as u64, SeqCst);
         }
     }
 
-    /// The key of a place that a socket has.
+    /// Returns the worker's key of the socket that has a place; `None` if none has it.
     pub fn key(&self, at: usize) -> Option<usize> {
         let place = self.places.get(at)?;
         if place.said.load(SeqCst) & TAKEN == 0 {

@@ -5,22 +5,22 @@ use std::sync::atomic::Ordering::SeqCst;
 use tc_limits::LimitsByUser;
 use tc_users::UserNo;
 
-/// A user's connections, counted.
+/// The count of one user's connections.
 #[derive(Drop)]
 struct Tally {
-    /// How many are open and not to go.
+    /// How many are open and not marked to go.
     open: AtomicU64,
 }
 
-/// What each user that has limits has, in the order of the users' numbers. A user is named by its number, and 0 is
-/// nobody's.
+/// The count of each user that has limits, in the order of the users' numbers. Callers name a user
+/// by its number; 0 is nobody.
 #[derive(Drop)]
 pub(crate) struct Tallies {
     rows: Vec<Tally>,
 }
 
 impl Tallies {
-    /// No user has a connection.
+    /// Makes the counts of users without connections.
     pub(crate) fn new(alloc: Global, user_limits: &LimitsByUser) -> Result<Tallies, AllocError> {
         let mut rows = Vec::new(alloc);
         for number in 1..=u32::MAX {
@@ -34,7 +34,7 @@ impl Tallies {
         Ok(Tallies { rows })
     }
 
-    /// How many users there are.
+    /// Returns how many users there are.
     pub(crate) fn len(&self) -> usize {
         self.rows.len()
     }
@@ -43,8 +43,8 @@ impl Tallies {
         self.rows.get(user.checked_sub(1)? as usize)
     }
 
-    /// Counts a connection, in one step, so that of two that come at once one is the first. How many others the
-    /// user has.
+    /// Counts a connection, and returns how many others the user has. It is one atomic step, so
+    /// that of two connections at once one is the first.
     pub(crate) fn count_in(&self, user: u64) -> u64 {
         match self.of(user) {
             Some(tally) => tally.open.fetch_add(1, SeqCst),
@@ -52,7 +52,7 @@ impl Tallies {
         }
     }
 
-    /// Counts a connection no more.
+    /// Removes a connection from the count.
     pub(crate) fn count_out(&self, user: u64) {
         if let Some(tally) = self.of(user) {
             tally.open.fetch_sub(1, SeqCst);

@@ -1,4 +1,4 @@
-//! What connections were sent.
+//! All that connections were sent.
 ghost use Rattle.std.specs.Prelude.{◌≡◌, map, IfOk};
 ghost use Rattle.tc_core.specs.Steps.{numbered_of};
 ghost use Rattle.tc_core.specs.Sending.{output_of};
@@ -25,7 +25,7 @@ impl Model for Sent {
 }
 
 impl Sent {
-    /// A copy of what waits to be sent by a session.
+    /// Copies all bytes that a session has to send.
     pub(crate) fn copied(alloc: Global, session: &Session) -> Result<Sent, NoMemory>
         ensures { IfOk result (λ sent. sent ≡ session.now.out) }
     {
@@ -34,7 +34,7 @@ impl Sent {
         })
     }
 
-    /// The bytes.
+    /// Returns the bytes.
     pub fn as_bytes(&self) -> &[u8]
         ensures { result.now ≡ self.now }
     {
@@ -42,7 +42,7 @@ impl Sent {
     }
 }
 
-/// What one connection was sent, and whether it is closed.
+/// All that one connection was sent, and whether it is closed.
 #[derive(Drop)]
 pub struct Output {
     pub connection: ConnectionNo,
@@ -50,7 +50,7 @@ pub struct Output {
     pub bytes: Sent,
 }
 
-/// What each opened connection was sent, by rising number.
+/// All that each opened connection was sent, by rising number.
 #[derive(Drop)]
 pub struct Outputs {
     outputs: Vec<Output>,
@@ -66,14 +66,14 @@ impl Model for Outputs {
 }
 
 impl Outputs {
-    /// These outputs.
+    /// Takes over the outputs.
     pub(crate) fn new(outputs: Vec<Output>) -> Outputs
         ensures { result ≡ outputs.items }
     {
         Outputs { outputs }
     }
 
-    /// The outputs.
+    /// Returns the outputs, by rising number of connection.
     pub fn as_slice(&self) -> &[Output]
         ensures { result.now ≡ self.now }
     {
@@ -81,7 +81,7 @@ impl Outputs {
     }
 }
 
-/// What each session was sent.
+/// Returns all that each session was sent, by rising number.
 pub(crate) fn outputs_of(
     alloc: Global,
     sessions: &BTreeMap<u32, Session>,

@@ -1,4 +1,4 @@
-//! All steps of a server, and what is promised of them.
+//! All steps of a server, and the promise about them.
 ghost use Rattle.std.specs.Prelude.{◌≡◌, map, IfOk};
 ghost use Rattle.tc_fresh.specs.Beginning.{fresh_cache};
 ghost use Rattle.tc_core.specs.Steps.{step_of};
@@ -12,16 +12,19 @@ use tc_item::NoMemory;
 use tc_plain::{Cache, advancing, freshness};
 use tc_users::Users;
 
-/// Does all steps from the beginning, and gives what each connection was sent. It stops at the first
-/// refusal of memory.
+/// Does all steps from the beginning, and returns all that each connection was sent. It stops, and
+/// fails, at the first refusal of memory.
 ///
-/// Whatever the users, the cache and the steps are: connections are sent what the machine of the
-/// protocol and the plain user cache sends (`sent`); each user's connections are sent what the
-/// machine of that user alone sends on those connections' steps and the clock's (`isolated`); a
-/// connection that is bound to nobody is sent what its own steps alone have it sent (`untouched`);
-/// and a user with the same row in another table, and the same steps there, is sent the same
-/// (`indifferent`); and each hit that a user's connections are shown is what that user's commands before
-/// it last left under its key (`fresh`): never an item expired, deleted or flushed.
+/// The clauses hold for any users, cache and steps, if each user's cache is fresh:
+///
+/// - `sent`: connections are sent what the machine of the protocol and the plain cache sends.
+/// - `isolated`: each user's connections are sent what the machine of that user alone sends on
+///   the steps of those connections and of the clock.
+/// - `untouched`: what a connection bound to nobody is sent depends on its own steps alone.
+/// - `indifferent`: a user with the same row in another table, and the same steps there, is sent
+///   the same.
+/// - `fresh`: each hit shown to a user's connections is what the user's earlier commands last
+///   left under its key, never an expired, deleted or flushed item.
 pub fn run<C: Cache>(
     alloc: Global,
     users: Users,

@@ -1,4 +1,4 @@
-//! A server: users, their caches, the clock and all connections.
+//! A server in memory: users, their caches, the clock and all connections.
 ghost use Rattle.std.specs.Prelude.{◌≡◌, ℕ, List, [], map, OnOk, OnErr, IfOk};
 ghost use Rattle.tc_model.specs.Connection.{user_at};
 ghost use Rattle.tc_model.specs.Server.{step as machine_step, maintained, On};
@@ -18,7 +18,7 @@ use tc_plain::Cache;
 use tc_session::Session;
 use tc_users::Users;
 
-/// All connections, users and caches, and the clock.
+/// The users, their caches, the clock and all connections.
 #[derive(Drop)]
 pub struct Server<C: Cache> {
     users: Users,
@@ -44,7 +44,7 @@ impl<C: Cache> Model for Server<C> {
     } };
 }
 
-/// Maintains a user's cache.
+/// Does up to `limit` pieces of deferred work in a user's cache. An unknown user is left alone.
 fn maintain<C: Cache>(caches: &mut Vec<C>, clock: Moment, user: u32, limit: u32)
     ensures { map C.settled caches.new.items
         ≡ maintained server_machine clock (map C.settled caches.old.items) user
@@ -58,8 +58,8 @@ fn maintain<C: Cache>(caches: &mut Vec<C>, clock: Moment, user: u32, limit: u32)
 }
 
 impl<C: Cache> Server<C> {
-    /// A server of these users, each with the cache at its place; no connection is open, and the
-    /// clock is at 0.
+    /// Returns a server of these users, each with the cache at the same position. No connection is
+    /// open, and the clock is at 0.
     pub fn new(alloc: Global, users: Users, caches: Vec<C>) -> Server<C>
         ensures { result ≡ record {
           users = users;
@@ -74,11 +74,13 @@ impl<C: Cache> Server<C> {
         }
     }
 
-    /// One step of the machine. Memory is refused to steps of connections alone, and what a refusal
-    /// leaves is said by kind. A piece or an opening changes nothing. An act leaves its request unread
-    /// and changes nothing; or its request is spent, was a call, and out-of-memory stands in place of
-    /// the reply: the cache refused the command, and is unchanged, or the reply to a look-up or to
-    /// `stats` was refused, and the command is done.
+    /// Does one step of the machine. Only a connection's step can be refused memory. Then the
+    /// users, the clock, and all other connections and caches are unchanged.
+    ///
+    /// A refused opening or piece changes nothing. A refused act may leave its request unread, and
+    /// changes nothing. Otherwise its request was a call, and is spent. Its reply is `SERVER_ERROR
+    /// out of memory`, unless its line has `noreply`. Either the cache refused the command and is
+    /// unchanged, or the reply to a look-up or to `stats` was refused, and the command is done.
     pub fn step(&mut self, alloc: Global, step: &Step) -> Result<(), NoMemory>
         ensures users { self.new.users ≡ self.old.users }
         ensures world { OnOk result (self.new.world
@@ -98,7 +100,7 @@ impl<C: Cache> Server<C> {
         }
     }
 
-    /// A step of a connection.
+    /// Does a step of a connection.
     fn connection_step(
         &mut self,
         alloc: Global,
@@ -122,7 +124,7 @@ impl<C: Cache> Server<C> {
         )
     }
 
-    /// What each opened connection was sent, by rising number.
+    /// Returns all that each opened connection was sent, by rising number.
     pub fn outputs(&self, alloc: Global) -> Result<Outputs, NoMemory>
         ensures { IfOk result (λ outputs. outputs ≡ map output_of self.now.world.connections) }
     {

@@ -2,31 +2,31 @@
 
 use tc_item::Moment;
 
-/// The number of a connection, which the caller gives it.
+/// The number of a connection, chosen by the caller.
 pub type ConnectionNo = u32;
 
-/// What may come to a connection.
+/// An event of a connection.
 #[derive(Clone, Copy)]
 pub enum Happening<'a> {
-    /// It is opened.
+    /// It opens.
     Open,
-    /// Bytes come on it.
+    /// These bytes arrive on it.
     Piece(&'a [u8]),
-    /// Its next whole request is done, if one is there.
+    /// It does its next request, if a whole one is there.
     Act,
-    /// It is shut.
+    /// It closes.
     Shut,
 }
 
-/// A step. Connections are numbered by the caller, users from 1. A step on a connection that is not
-/// open does nothing, but for opening one that never was; nor does opening one again, or a step on an
-/// unknown user.
+/// A step of the server. Callers number connections; users count from 1. A step on a connection
+/// that is not open does nothing, unless it opens one that never was. Opening a connection again
+/// does nothing, and neither does a step on an unknown user.
 #[derive(Clone, Copy)]
 pub enum Step<'a> {
-    /// Something comes to a connection.
+    /// An event of a connection.
     On(ConnectionNo, Happening<'a>),
-    /// The clock comes to this moment, unless it is there already.
+    /// The clock advances to this moment; it never goes back.
     Tick(Moment),
-    /// A user's cache does deferred work, at most so many pieces of it.
+    /// A user's cache does deferred work, at most this many pieces of it: user, limit.
     Maintain(u32, u32),
 }

@@ -1,8 +1,8 @@
 //! Number text: how `incr` and `decr` read the number in an item's data, and write it back.
 //!
-//! What is counter text, and what it spells, is `specs/CounterText.antt`. `read` says that it is
-//! `None` exactly where the bytes spell no number, and that it reads back what `write_into` wrote.
-//! Nothing is said of where the bytes come from.
+//! `specs/CounterText.antt` defines counter text and what it spells. `read` returns `None` exactly
+//! if the bytes spell no number, and reads back what `write_into` wrote. Contracts do not say where
+//! the bytes come from.
 #![tactic(auto)]
 
 ghost use Rattle.std.specs.Prelude.{◌≡◌, ◌==◌, ◌<◌, ◌≤◌, ◌+◌, ◌^◌, ◌++◌, ℕ, length, replicate, vec_len, vec_capacity, OnOk};
@@ -13,11 +13,11 @@ ghost use Rattle.tc_counter.specs.CounterText.{Spells, number_in, text_of, raise
 use itoa::Buffer;
 use tc_item::NoMemory;
 
-/// The most digits of a number in data, leading zeros among them.
+/// The most digits of a number in data, leading zeros included.
 const MOST_DIGITS: usize = 20;
 
-/// The number that data spells: 1 to 20 decimal digits of a value up to 2^64-1, then any number of
-/// spaces. `None` for all other data.
+/// Returns the number that data spells: 1 to 20 decimal digits of a value up to 2^64-1, and any
+/// number of spaces behind them. `None` for all other data.
 pub fn read(text: &[u8]) -> Option<u64>
     ensures value { result ≡ number_in text.now }
     ensures spelling { MatchOption result ((n : ℕ) → ¬ (Spells text.now n))
@@ -28,7 +28,7 @@ pub fn read(text: &[u8]) -> Option<u64>
     scan(text)
 }
 
-// The number of a text in one pass, which ends at the first byte that decides.
+// Reads the number in one pass, which ends at the first byte that decides.
 fn scan(text: &[u8]) -> Option<u64>
     ensures { result ≡ number_in text.now }
 {
@@ -45,15 +45,15 @@ fn scan(text: &[u8]) -> Option<u64>
     (!text.is_empty()).then_some(value)
 }
 
-// Whether each byte is a space.
+// Whether all bytes are spaces. Empty text passes.
 fn are_spaces(bytes: &[u8]) -> bool
     ensures { result ≡ list_all (λ c. c == 32) bytes.now }
 {
     bytes.iter().all(|byte| *byte == b' ')
 }
 
-/// Appends the one spelling of `number` without leading zeros or spaces.
-/// Where memory is refused, `out` is as it was.
+/// Appends `number` in decimal, without leading zeros, sign or spaces. If memory is refused, `out`
+/// is unchanged; that happens only if it lacks room for the digits.
 pub fn write_into(number: u64, out: &mut Vec<u8>) -> Result<(), NoMemory>
     ensures written { OnOk result (out.new.items ≡ out.old.items ++ text_of number) }
     ensures unchanged { OnErr result (out.new.items ≡ out.old.items) }
@@ -65,14 +65,14 @@ pub fn write_into(number: u64, out: &mut Vec<u8>) -> Result<(), NoMemory>
     Ok(())
 }
 
-/// What `incr` makes of a number: the sum, which wraps at 2^64.
+/// Returns the sum, which wraps at 2^64, as `incr` does.
 pub fn incr(number: u64, by: u64) -> u64
     ensures { result ≡ raised_by number by }
 {
     number.wrapping_add(by)
 }
 
-/// What `decr` makes of a number: the difference, which stops at 0.
+/// Returns the difference, which stops at 0, as `decr` does.
 pub fn decr(number: u64, by: u64) -> u64
     ensures { result ≡ lowered_by number by }
 {

@@ -1,76 +1,84 @@
-//! The policy by which users whose worker has no time left are served by several.
+//! The policy that lets several workers serve the users of a worker that has no time left.
 //!
-//! It looks, many times a second, at what the workers did, and changes how many of them serve the users
-//! of a home (its width) by trial: the width is doubled, and stays so where the users are sent a twelfth
-//! more with it. Further helpers take the time of several workers, so with them a byte may not cost more
-//! than before, or a quarter more is sent. The width is halved, and stays so where the users are sent
-//! nearly as much without it. A trial begins
-//! once a load has been the same for some looks, so that its rise is not put down to a helper. After a
-//! trial that failed the next one waits, longer each time, until the load is another one. Helpers also go
-//! where fewer workers have time enough, or where their own users want their time. Nothing here is
-//! promised: whoever serves a connection, its client is sent the same bytes.
+//! It looks at what the workers did, at most once in 20 ms. For each home it changes the width,
+//! which is the number of workers that serve the home's users, by trial.
+//!
+//! - **More.** A trial doubles the width. The new width stays if at least a twelfth more is sent.
+//!   Beyond two workers a byte must also cost at most a twelfth more time, or a quarter more must
+//!   be sent: further helpers take the time of several workers.
+//! - **Fewer.** A trial halves the width. The new width stays unless more than a twenty-fourth less
+//!   is sent.
+//!
+//! A trial begins once its home is full for five looks in a row in which much the same was sent.
+//! Otherwise a rise of the load could pass for a helper's work. After a trial that failed the next
+//! one waits, longer each time, until the load changes. Helpers also leave if fewer workers have
+//! time enough, or if their own users need their time.
+//!
+//! No clause covers any of this: whoever serves a connection, its client is sent the same bytes.
 use crate::did::Did;
 use crate::shares::{Shares, helper_of};
 use std::alloc::{AllocError, Global};
 use std::sync::Arc;
 
-/// Workers that waited for less than so many thousandths of their time have little left.
+/// A worker that was busy for at least this many thousandths of its time has little left.
 const BUSY: u64 = 700;
 
-/// One that worked for less than so many thousandths has time to help.
+/// A worker that was busy for less than this many thousandths of its time can help.
 const FREE: u64 = 500;
 
-/// Workers that have no time left are full by a home whose users take so many thousandths of it.
+/// A home is full only if its users take at least this many thousandths of its workers' time, on
+/// average.
 const MOSTLY: u64 = 500;
 
-/// A helper with no time left is wanted by its own users where they take so many thousandths of it.
+/// A busy helper is crowded if its own users take at least this many thousandths of its time.
 const WANTED: u64 = 200;
 
-/// Half the workers would do where they would be busy for less than so many thousandths of their time.
+/// Half the workers suffice if each of them would be busy for less than this many thousandths of
+/// its time.
 const SPARE: u64 = 600;
 
-/// After so many looks on end that its workers were full, and much the same was sent, a trial begins.
+/// A trial begins after this many looks in a row at which the workers were full and much the same
+/// was sent.
 const PATIENCE: u32 = 5;
 
-/// So many looks at the beginning of a trial are left out, in which connections move.
+/// The first looks of a trial, in which connections move. They don't count.
 const SETTLING: u32 = 2;
 
-/// So many looks make a trial.
+/// The looks of a trial that count.
 const LOOKS: u32 = 5;
 
-/// After so many looks on end at which half the workers would do, half of them go.
+/// After this many looks in a row at which half the workers would suffice, half of them go.
 const SLACK: u32 = 20;
 
-/// After so many looks on end at which their own users want them, half of them go.
+/// After this many looks in a row at which a helper's own users need it, half of the workers go.
 const CROWDED: u32 = 4;
 
-/// After so many looks on end at which much more or much less was sent, the load is another one.
+/// After this many looks in a row at which much more or much less was sent, the load has changed.
 const CHANGED: u32 = 2;
 
-/// After a trial that failed, so many looks pass before the next of its kind: the least and the most.
+/// The fewest and the most looks between a trial that failed and the next of its kind.
 const LEAST_REST: u32 = 50;
 
 const MOST_REST: u32 = 3_200;
 
-/// After a trial that showed that helpers pay, so many looks pass at least before it is tried to do with
-/// fewer.
+/// The fewest looks between a trial that showed that helpers pay and a trial with fewer.
 const LEAST_STAY: u32 = 400;
 
-/// Helpers stay where one part more of so many is sent with them.
+/// Helpers stay if one part in this many more is sent with them.
 const GAIN: u64 = 12;
 
-/// Further helpers stay whatever a byte costs where one part more of so many is sent with them.
+/// Further helpers stay at any cost of a byte if one part in this many more is sent with them.
 const LARGE_GAIN: u64 = 4;
 
-/// Whether twice as many workers are tried, or half of them.
+/// Whether a trial doubles the workers or halves them.
 #[derive(Clone, Copy, PartialEq, Eq)]
 enum Way {
     More,
     Fewer,
 }
 
-/// A trial: how many workers there were before it, how many looks are left of it, and at those made what
-/// was sent, and which load it was.
+/// A trial: the width before it, how many looks are left, and the sums of bytes sent and of load
+/// over the looks that count.
 #[derive(Clone, Copy)]
 struct Trial {
     way: Way,
@@ -80,7 +88,7 @@ struct Trial {
     load: u64,
 }
 
-/// How long trials of a kind wait.
+/// How many looks are left until the next trial of a kind, and how long the last pause was.
 #[derive(Clone, Copy)]
 struct Rest {
     left: u32,
@@ -88,7 +96,7 @@ struct Rest {
 }
 
 impl Rest {
-    /// None yet; the first is of so many looks.
+    /// Makes a pause that has passed; the first real one lasts `first` looks.
     fn of(first: u32) -> Rest {
         Rest {
             left: 0,
@@ -100,7 +108,7 @@ impl Rest {
         self.left = self.left.saturating_sub(1);
     }
 
-    /// A trial failed.
+    /// Begins a pause of twice the last one's looks, at most 3,200.
     fn lengthen(&mut self) {
         self.last = self.last.saturating_mul(2).min(MOST_REST);
         self.left = self.last;
@@ -112,13 +120,13 @@ impl Rest {
 struct Seen {
     /// How many bytes came from its users and went to them.
     sent: u64,
-    /// Which part of its workers' time they took, in thousandths of one worker's.
+    /// How much of its workers' time they took, in thousandths of one worker's time.
     load: u64,
     /// Its workers have little time left, and its users take it.
     is_full: bool,
     /// Half of its workers would have time enough.
     is_slack: bool,
-    /// A helper has no time left, and its own users want it.
+    /// A helper has no time left, and its own users need it.
     is_crowded: bool,
 }
 
@@ -131,12 +139,12 @@ struct Home {
     trial: Option<Trial>,
     more: Rest,
     fewer: Rest,
-    /// For how many looks on end it was so.
+    /// For how many looks in a row each was so.
     full: u32,
     slack: u32,
     crowded: u32,
     changed: u32,
-    /// What is sent at a look, and the load, both smoothed.
+    /// The bytes sent at a look, and the load, both smoothed.
     usual: u64,
     usual_load: u64,
 }
@@ -174,7 +182,7 @@ impl Home {
         }
     }
 
-    /// The load is another one.
+    /// Starts again with another load.
     fn begin_anew(&mut self, seen: Seen) {
         self.usual = seen.sent;
         self.usual_load = seen.load;
@@ -184,7 +192,7 @@ impl Home {
         self.fewer = Rest::of(LEAST_STAY);
     }
 
-    /// Half of the workers go.
+    /// Halves the width.
     fn narrow(&mut self) {
         self.width = (self.width / 2).max(1);
         self.slack = 0;
@@ -192,13 +200,13 @@ impl Home {
         self.full = 0;
     }
 
-    /// Half of the workers go since others want them.
+    /// Halves the width since others need the helpers.
     fn yield_helpers(&mut self) {
         self.narrow();
         self.more.lengthen();
     }
 
-    /// Whether more workers pay where so much is sent a look with them, at such a load.
+    /// Whether more workers pay, if `sent` bytes are sent a look with them, at this load.
     fn pays(&self, sent: u64, load: u64) -> bool {
         if sent < self.usual.saturating_add(self.usual / GAIN) {
             return false;
@@ -207,7 +215,7 @@ impl Home {
         self.width <= 2 || more >= self.usual / LARGE_GAIN || self.is_as_cheap(sent, load)
     }
 
-    /// Whether a byte costs about as much time as usual, or less.
+    /// Whether a byte costs at most a twelfth more time than usual.
     fn is_as_cheap(&self, sent: u64, load: u64) -> bool {
         let most = self.usual_load.saturating_add(self.usual_load / GAIN);
         load.saturating_mul(self.usual) <= most.saturating_mul(sent)
@@ -223,7 +231,7 @@ impl Home {
         });
     }
 
-    /// A trial is over, at which so much was sent a look, at such a load. Whether it failed.
+    /// Ends a trial that averaged `sent` bytes and `load` a look. Returns whether it failed.
     fn end_trial(&mut self, way: Way, sent: u64, load: u64) -> bool {
         self.trial = None;
         self.full = 0;
@@ -240,7 +248,7 @@ impl Home {
         if !has_failed {
             self.usual = sent;
             self.usual_load = load;
-            // The load was the same all along, so the next trial begins at once.
+            // The load was steady throughout, so the next trial begins at once.
             self.full = PATIENCE - 1;
         }
         has_failed
@@ -262,7 +270,7 @@ impl Home {
     }
 }
 
-/// Deals the work out anew, as the shares then say.
+/// Deals out the work, and sets the shares accordingly.
 #[derive(Drop)]
 pub struct Balance {
     shares: Arc<Shares, Global>,
@@ -270,7 +278,7 @@ pub struct Balance {
 }
 
 impl Balance {
-    /// The policy for so many workers, each of which serves its users alone so far.
+    /// Makes the policy for `workers` workers, each of which serves its users alone at first.
     pub fn new(
         alloc: Global,
         shares: Arc<Shares, Global>,
@@ -289,7 +297,7 @@ impl Balance {
         }
     }
 
-    /// The worker at a place among those of a home.
+    /// Returns the worker at a place among those of a home; place 0 is the home itself.
     fn member(&self, own: usize, home: &Home, place: usize) -> usize {
         match place.checked_sub(1) {
             None => own,
@@ -307,7 +315,7 @@ impl Balance {
         did.load(own) >= MOSTLY.saturating_mul(home.width as u64)
     }
 
-    /// Whether a helper of a home has no time left, and its own users want it.
+    /// Whether a helper of a home has no time left, and its own users need it.
     fn is_crowded(&self, did: &Did, own: usize, home: &Home) -> bool {
         for place in 1..home.width {
             let helper = self.member(own, home, place);
@@ -318,7 +326,7 @@ impl Balance {
         false
     }
 
-    /// What a look shows of a home.
+    /// Returns what a look shows of a home.
     fn see(&self, did: &Did, own: usize, home: &Home) -> Seen {
         let half = home.width as u64 / 2;
         Seen {
@@ -330,13 +338,13 @@ impl Balance {
         }
     }
 
-    /// Whether a worker has time to help, which its own users leave it.
+    /// Whether a worker can help: it has time, and its own users don't need it.
     fn is_free(&self, did: &Did, worker: usize) -> bool {
         did.busy(worker) < FREE && did.load_on(worker, worker) < WANTED
     }
 
-    /// The first helper of a home, counted from it: the worker with the most time, where one has time to
-    /// help.
+    /// Returns the first helper of a home, counted from it: the worker with the most time. `None`
+    /// if none can help.
     fn most_free(&self, did: &Did, own: usize) -> Option<usize> {
         let mut best = None;
         let mut least = FREE;
@@ -350,7 +358,7 @@ impl Balance {
         best
     }
 
-    /// The home with twice its workers, or all there are, where those that come have time to help.
+    /// Returns the home with twice its workers, or all there are, if the new ones can help.
     fn doubled(&self, did: &Did, own: usize, home: &Home) -> Option<Home> {
         let mut wider = *home;
         wider.width = home.width.saturating_mul(2).min(self.homes.len());
@@ -389,7 +397,7 @@ impl Balance {
         }
     }
 
-    /// One look while nothing is on trial.
+    /// One look without a trial.
     fn settle(&self, did: &Did, own: usize, home: &mut Home, seen: Seen) {
         home.note(seen);
         if home.slack >= SLACK {
@@ -406,7 +414,7 @@ impl Balance {
         self.homes.iter().any(|home| home.trial.is_some())
     }
 
-    /// Begins a trial, where one may begin.
+    /// Begins a trial, if one may begin.
     fn begin(&self, did: &Did, own: usize, home: &mut Home) {
         if self.is_trying() {
             return;
@@ -424,17 +432,17 @@ impl Balance {
     }
 }
 
-/// One more where it goes on, else none.
+/// Returns one more if it goes on, otherwise 0.
 fn next_count(count: u32, goes_on: bool) -> u32 {
     if goes_on { count.saturating_add(1) } else { 0 }
 }
 
-/// What is usual, with one look more.
+/// Returns the usual value after one more look, which has a quarter of the weight.
 fn smoothed(usual: u64, seen: u64) -> u64 {
     (usual / 4).saturating_mul(3).saturating_add(seen / 4)
 }
 
-/// Whether much more was sent than usual, or much less.
+/// Whether more than half as much again was sent than usual, or less than half.
 fn is_another(sent: u64, usual: u64) -> bool {
     let most = usual.saturating_add(usual / 2);
     let least = usual / 2;

@@ -1,16 +1,18 @@
 //! How turns are dealt out among the users of a worker.
 //!
-//! A user here is all its connections, and those that have not logged in are one user. Each turn pays
-//! each user a share of work; what was done beyond its shares it owes. While connections of several
-//! users have something to do, those of one that owes a share or more are left out of a turn. A user
-//! with whom nobody waits owes nothing when its turn begins, and its turn ends after some shares, so
-//! that who comes is soon seen.
+//! A user here is all its connections; those that have not logged in are one user. Each turn pays
+//! each user a share of work, and a user owes what it did beyond its shares. While several users'
+//! connections have something to do, those of a user that owes a share or more are left out of a
+//! turn. A user with whom nobody waits owes nothing when its turn begins. Its turn ends after four
+//! shares, so that a user who arrives is soon seen.
 //!
-//! The first time that a user comes in a second of the clock, its cache is maintained, a piece of work
-//! that the user owes as any other. While more is left its connections are left out, too.
+//! The first time that a user is served in a second of the clock, its cache is maintained first. If
+//! more deferred work is left after that, the user owes the work done, and its connections are left
+//! out of the turn.
 //!
-//! What waits to be sent to a user's connections is summed. Where it comes to more than the user may have,
-//! each of them with more than a few bytes that wait is full: it reads nothing and does no request.
+//! What waits to be sent to a user's connections is summed. A connection is full if more waits for
+//! it than the user's others leave of 8,388,608 bytes, but at least 16,384 and at most 1,048,576. A
+//! full one reads nothing and does no request.
 ghost use Rattle.std.specs.Prelude.{◌≡◌, ◌≢◌, ◌<◌, ◌↔◌, ◌+◌, ◌-◌, ◌^◌, ◌≤◌, min, IsTrue, IfSome, slice_set};
 ghost use Rattle.tc_fairness.specs.Dealing.{idle, paid_at, charged, after_progress, account_of};
 ghost use Rattle.tc_fairness.specs.Dealing.{least_out, most_out, with_backlog, without_backlog};
@@ -22,45 +24,46 @@ use tc_plain::Progress;
 /// What a turn pays each user, in quarters of a microsecond: half a millisecond.
 pub const SHARE: u64 = 2_000;
 
-/// The most that is done in a turn of one user alone.
+/// The most work in a turn of one user alone, in quarters of a microsecond.
 const ALONE: u64 = 8_000;
 
 /// How many pieces of deferred work are done at a time before a user is served in a new second.
 pub const PIECES: u32 = 2_048;
 
-/// What so many cost: a third of a microsecond each.
+/// The cost of these, in quarters of a microsecond: a third of a microsecond each.
 const PIECES_COST: u64 = 2_730;
 
-/// With more bytes that wait to be sent to it, a connection reads nothing and does no request.
+/// A connection to which more bytes than this wait reads nothing and does no request.
 const MOST_OUT: usize = 1_048_576;
 
-/// A connection to which no more wait is never full.
+/// A connection to which at most this many bytes wait is never full.
 pub const LEAST_OUT: usize = 16_384;
 
-/// How many bytes may wait to be sent to all connections of a user before those with more are full.
+/// The bytes that a user's connections share for what waits to be sent. Each is full above what the
+/// others leave of them, within `LEAST_OUT` and `MOST_OUT`.
 const MOST_OF_USER: usize = 8_388_608;
 
-/// How many bytes wait to be sent to a connection, and whose it is.
+/// How many bytes wait to be sent to a connection, and to which user it belongs.
 #[derive(Clone, Copy)]
 pub struct Backlog {
     pub user: usize,
     pub bytes: usize,
 }
 
-/// What a user did that no share has paid, how far its cache is maintained, and what waits for it.
+/// What a user owes, how far its cache is maintained, and what waits for it.
 #[derive(Clone, Copy)]
 struct Account {
     owed: u64,
-    /// The turn whose share was paid last.
+    /// The last turn whose share was paid.
     paid: u64,
-    /// The moment at which nothing of its cache's deferred work was left.
+    /// The moment at which none of its cache's deferred work was left.
     kept_up: Moment,
     /// How many bytes wait to be sent to its connections.
     backlog: usize,
 }
 
 impl Account {
-    /// Of a user who did nothing before this turn.
+    /// Makes the account of a user who did nothing before this turn.
     fn new(turn: u64) -> Account
         ensures { result ≡ record idle { paid = turn } }
     {
@@ -72,7 +75,7 @@ impl Account {
         }
     }
 
-    /// Owes nothing from this turn on.
+    /// Clears what the user owes, as of this turn.
     fn forgive(&mut self, turn: u64)
         ensures { self.new ≡ record self.old { owed = 0; paid = turn } }
     {
@@ -80,7 +83,7 @@ impl Account {
         self.paid = turn;
     }
 
-    /// Pays a share for each turn since the last that was paid. Nothing is saved up.
+    /// Pays a share for each turn since the last paid one. Nothing is saved up.
     fn pay(&mut self, turn: u64)
         ensures { self.new ≡ paid_at turn self.old }
     {
@@ -89,14 +92,14 @@ impl Account {
         self.paid = turn;
     }
 
-    /// Owes so much more.
+    /// Adds to what the user owes.
     fn charge(&mut self, work: u64)
         ensures { self.new ≡ charged work self.old }
     {
         self.owed = self.owed.saturating_add(work);
     }
 
-    /// Notes how far maintenance at a moment came. Where more is left, what was done is owed.
+    /// Notes how far maintenance at a moment got. If more is left, the user owes what was done.
     fn note(&mut self, now: Moment, progress: Progress)
         ensures { self.new ≡ after_progress now progress self.old }
     {
@@ -106,7 +109,7 @@ impl Account {
         }
     }
 
-    /// So many bytes more wait.
+    /// Adds bytes that wait.
     fn add(&mut self, bytes: usize)
         ensures { self.new ≡ record self.old {
           backlog = min (self.old.backlog + bytes) (2 ^ 64 - 1);
@@ -115,14 +118,14 @@ impl Account {
         self.backlog = self.backlog.saturating_add(bytes);
     }
 
-    /// So many bytes wait no more.
+    /// Removes bytes that waited.
     fn take_off(&mut self, bytes: usize)
         ensures { self.new ≡ record self.old { backlog = self.old.backlog - bytes } }
     {
         self.backlog = self.backlog.saturating_sub(bytes);
     }
 
-    /// With how many bytes that wait a connection is not full yet, for which so many wait.
+    /// Returns with how many waiting bytes a connection is not full yet, if `own` wait for it.
     fn most_out(&self, own: usize) -> usize
         ensures { result ≡ most_out self.now.backlog own }
     {
@@ -133,7 +136,7 @@ impl Account {
             .min(MOST_OUT)
     }
 
-    /// Whether less is owed than may be.
+    /// Whether the user owes less than `most`.
     fn is_below(&self, most: u64) -> bool
         ensures { IsTrue result ↔ (self.now.owed < most) }
     {
@@ -141,20 +144,21 @@ impl Account {
     }
 }
 
-/// The accounts of a worker's users. One who has none, since memory was refused, is never left out.
+/// The accounts of a worker's users. A user without one, since memory was refused, is never left
+/// out.
 #[derive(Drop)]
 pub struct Dealing {
-    /// By the users' numbers; the first is that of all who have not logged in.
+    /// By the users' numbers; the first is that of all connections without a login.
     accounts: Vec<Account>,
     /// How many turns began.
     turn: u64,
-    /// Who owes so much is left out of this turn.
+    /// A user who owes this much is left out of this turn.
     most: u64,
     ghost some: { 0 < most },
 }
 
 impl Dealing {
-    /// Before the first turn.
+    /// Makes the accounts before the first turn.
     pub fn new(alloc: Global) -> Dealing {
         Dealing {
             accounts: Vec::new(alloc),
@@ -163,12 +167,12 @@ impl Dealing {
         }
     }
 
-    /// The turn that began last.
+    /// Returns the number of the turn that began last.
     pub fn turn(&self) -> u64 {
         self.turn
     }
 
-    /// Begins a turn in which `sole` alone has something to do, or several users of so many.
+    /// Begins a turn among `users` users. Only `sole` has something to do, if it is given.
     pub fn begin(&mut self, users: usize, sole: Option<usize>)
         ensures alone { IfSome sole (λ user. (account_of self.new.accounts.items user).owed ≡ 0) }
     {
@@ -180,7 +184,7 @@ impl Dealing {
         }
     }
 
-    /// Begins a turn of one user, who owes nothing.
+    /// Begins a turn of one user, who then owes nothing.
     fn begin_alone(&mut self, user: usize)
         ensures { (account_of self.new.accounts.items user).owed ≡ 0 }
     {
@@ -190,8 +194,8 @@ impl Dealing {
         }
     }
 
-    /// Opens accounts for so many users, and for those who have not logged in. Where memory is refused,
-    /// it is asked for again in the next turn.
+    /// Opens accounts for `users` users, and for those without a login. If memory is refused, it
+    /// tries again in the next turn.
     fn open(&mut self, users: usize) {
         let accounts = users.saturating_add(1);
         if self.accounts.len() < accounts {
@@ -199,7 +203,7 @@ impl Dealing {
         }
     }
 
-    /// Whether a connection of this user is served now.
+    /// Pays a user its shares, and returns whether its connections are served in this turn.
     pub fn serves(&mut self, user: usize) -> bool
         ensures paid { self.new.accounts.items ≡ slice_set self.old.accounts.items user
             (paid_at self.old.turn (account_of self.old.accounts.items user)) }
@@ -225,7 +229,7 @@ impl Dealing {
         }
     }
 
-    /// Notes how far maintenance of a user's cache came at this moment.
+    /// Notes how far maintenance of a user's cache got at this moment.
     pub fn note_progress(&mut self, user: usize, now: Moment, progress: Progress)
         ensures { self.new.accounts.items ≡ slice_set self.old.accounts.items user
             (after_progress now progress (account_of self.old.accounts.items user)) }
@@ -235,7 +239,7 @@ impl Dealing {
         }
     }
 
-    /// With how many bytes that wait to be sent this connection is not full yet.
+    /// Returns with how many bytes that wait to be sent this connection is not full yet.
     pub fn most_out(&self, backlog: Backlog) -> usize
         ensures most { result
             ≡ most_out (account_of self.now.accounts.items backlog.user).backlog backlog.bytes }
@@ -247,13 +251,13 @@ impl Dealing {
         }
     }
 
-    /// A connection came.
+    /// Enters a connection.
     pub fn enter(&mut self, backlog: Backlog) {
         self.open(backlog.user);
         self.add(backlog);
     }
 
-    /// So much more waits.
+    /// Adds bytes that wait.
     fn add(&mut self, backlog: Backlog)
         ensures { self.new.accounts.items ≡ with_backlog backlog self.old.accounts.items }
     {
@@ -262,7 +266,7 @@ impl Dealing {
         }
     }
 
-    /// A connection goes.
+    /// Removes a connection, and what waits for it.
     pub fn leave(&mut self, backlog: Backlog)
         ensures { self.new.accounts.items ≡ without_backlog backlog self.old.accounts.items }
     {
@@ -271,7 +275,7 @@ impl Dealing {
         }
     }
 
-    /// What waits for a connection was so much, and is so much now.
+    /// Replaces what waits for a connection.
     pub fn note_backlog(&mut self, before: Backlog, after: Backlog)
         ensures { self.new.accounts.items
             ≡ with_backlog after (without_backlog before self.old.accounts.items) }
@@ -280,7 +284,7 @@ impl Dealing {
         self.add(after);
     }
 
-    /// Notes what was done for a user.
+    /// Charges a user for work.
     pub fn charge(&mut self, user: usize, work: u64)
         ensures { self.new.accounts.items ≡ slice_set self.old.accounts.items user
             (charged work (account_of self.old.accounts.items user)) }

@@ -6,22 +6,22 @@ use std::alloc::{AllocError, Global};
 pub struct Traffic {
     /// How often it read and wrote.
     pub calls: u64,
-    /// How many bytes came and went.
+    /// How many bytes it read and wrote.
     pub bytes: u64,
 }
 
-/// What each worker did, and for the users of which home.
+/// What each worker did for the users of each home.
 #[derive(Drop)]
 pub struct Did {
     workers: usize,
-    /// Of a thousand parts of the time, those in which each did not wait.
+    /// For each worker, the thousandths of the time in which it did not wait.
     busy: Vec<u64>,
-    /// Worker by worker, what each did for each home.
+    /// Worker by worker, what it did for each home.
     traffic: Vec<Traffic>,
 }
 
 impl Did {
-    /// So many workers that did nothing.
+    /// Makes the record of `workers` workers that did nothing.
     pub fn new(alloc: Global, workers: usize) -> Result<Did, AllocError> {
         let nothing = Traffic { calls: 0, bytes: 0 };
         Ok(Did {
@@ -31,14 +31,14 @@ impl Did {
         })
     }
 
-    /// A worker was busy for so many thousandths of the time.
+    /// Sets for how many thousandths of the time a worker was busy.
     pub fn set_busy(&mut self, worker: usize, busy: u64) {
         if let Some(place) = self.busy.get_mut(worker) {
             *place = busy;
         }
     }
 
-    /// A worker did this for the users of a home.
+    /// Sets what a worker did for the users of a home.
     pub fn set_traffic(&mut self, worker: usize, home: usize, traffic: Traffic) {
         let at = self.place(worker, home);
         if let Some(place) = self.traffic.get_mut(at) {
@@ -46,12 +46,12 @@ impl Did {
         }
     }
 
-    /// Where a worker's work for a home stands.
+    /// Returns the index of a worker's work for a home.
     fn place(&self, worker: usize, home: usize) -> usize {
         worker.saturating_mul(self.workers).saturating_add(home)
     }
 
-    /// Of a thousand parts of the time, those in which a worker did not wait.
+    /// Returns the thousandths of the time in which a worker did not wait.
     pub(crate) fn busy(&self, worker: usize) -> u64 {
         match self.busy.get(worker) {
             Some(busy) => *busy,
@@ -59,7 +59,7 @@ impl Did {
         }
     }
 
-    /// What a worker did for the users of a home.
+    /// Returns what a worker did for the users of a home.
     fn traffic(&self, worker: usize, home: usize) -> Traffic {
         match self.traffic.get(self.place(worker, home)) {
             Some(traffic) => *traffic,
@@ -67,7 +67,8 @@ impl Did {
         }
     }
 
-    /// How many thousandths of its time a worker had for the users of a home.
+    /// Returns how many thousandths of its time a worker spent on the users of a home, by its reads
+    /// and writes.
     pub(crate) fn load_on(&self, worker: usize, home: usize) -> u64 {
         let mut all = 0u64;
         for other in 0..self.workers {
@@ -77,7 +78,7 @@ impl Did {
         self.busy(worker).saturating_mul(own) / all.max(1)
     }
 
-    /// The same of all workers.
+    /// Returns the same, summed over all workers.
     pub(crate) fn load(&self, home: usize) -> u64 {
         let mut all = 0u64;
         for worker in 0..self.workers {
@@ -86,7 +87,7 @@ impl Did {
         all
     }
 
-    /// How many bytes came from the users of a home and went to them.
+    /// Returns how many bytes came from the users of a home and went to them.
     pub(crate) fn bytes(&self, home: usize) -> u64 {
         let mut all = 0u64;
         for worker in 0..self.workers {

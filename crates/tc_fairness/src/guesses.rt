@@ -5,13 +5,14 @@ ghost use Rattle.tc_fairness.specs.Guesses.{free, held_seconds};
 
 use tc_item::Moment;
 
-/// So many refused logins of a connection are answered at once.
+/// This many refused logins of a connection are answered at once.
 const FREE: u32 = 3;
 
-/// How many whole seconds of the clock pass until a reply that waits is sent: one second at least.
+/// By how many seconds the clock must advance before a held reply is sent. That takes one to two
+/// seconds of real time.
 const HELD_SECONDS: u64 = 2;
 
-/// How many logins of a connection were refused, and since when the reply to the last one waits.
+/// How many logins of a connection were refused, and since when the reply to the last one is held.
 #[derive(Clone, Copy)]
 pub struct Guesses {
     refused: u32,
@@ -19,7 +20,7 @@ pub struct Guesses {
 }
 
 impl Guesses {
-    /// No login was refused.
+    /// Makes the record of a connection without refused logins.
     pub fn none() -> Guesses
         ensures { (result.refused ≡ 0) × (result.waits ≡ None) }
     {
@@ -29,7 +30,7 @@ impl Guesses {
         }
     }
 
-    /// A login was refused: from the fourth on the reply waits.
+    /// Counts a refused login. From the fourth on its reply is held.
     pub fn add(&mut self, now: Moment)
         ensures first { self.old.refused < free → self.new.waits ≡ self.old.waits }
         ensures fourth { free ≤ self.old.refused → self.new.waits ≡ Some now }
@@ -40,14 +41,14 @@ impl Guesses {
         self.refused = self.refused.saturating_add(1);
     }
 
-    /// Whether a reply waits.
+    /// Whether a reply is held.
     pub fn waits(&self) -> bool
         ensures { IsTrue result ↔ IsSome self.now.waits }
     {
         self.waits.is_some()
     }
 
-    /// Ends the wait once a second passed. Whether a reply still waits.
+    /// Ends the wait once the clock advanced by two seconds. Returns whether a reply is still held.
     pub fn still_waits(&mut self, now: Moment) -> bool
         ensures until { MatchOption self.old.waits (result ≡ false)
             (λ since. IsTrue result ↔ (now < since + held_seconds)) }

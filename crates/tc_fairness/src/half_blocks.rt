@@ -1,10 +1,10 @@
-//! How much of requests that are not whole yet is kept for the users of a worker.
+//! How many bytes of incomplete requests are kept for the users of a worker.
 //!
-//! A user here is all its connections, and those that have not logged in are one user. The unread bytes
-//! of its connections are summed. While those of its others come to more than may be, a connection with
-//! more than a few is read no further, but for one, which leads: so one request after another becomes
-//! whole. One that leads and of which nothing more comes gives way to another that waits, and is to be
-//! closed.
+//! A user here is all its connections; those that have not logged in are one user. The unread bytes
+//! of its connections are summed. A connection with more than 16,384 unread bytes is read no
+//! further while the user's others have more than 16,777,216. One connection, the lead, is exempt,
+//! so that one request after another becomes complete. A lead from which nothing came for over 5
+//! seconds gives way to another connection that waits, and must close.
 ghost use Rattle.std.specs.Prelude.{◌≡◌, ◌≢◌, ◌⊎◌, ◌<◌, ◌≤◌, ◌+◌, ◌-◌, ◌^◌, ℕ, min, MatchOption};
 ghost use Rattle.tc_fairness.specs.HalfBlocks.{least_part, most_parts, lead_seconds, lead_but, lead_heard};
 ghost use Rattle.tc_fairness.specs.HalfBlocks.{parts_of, with_part, without_part, without_lead, with_heard};
@@ -12,16 +12,17 @@ ghost use Rattle.tc_fairness.specs.HalfBlocks.{parts_of, with_part, without_part
 use std::alloc::Global;
 use tc_item::Moment;
 
-/// A connection of which no more bytes are unread is always read.
+/// A connection with at most this many unread bytes is always read.
 const LEAST: usize = 16_384;
 
-/// How many bytes of a user's other connections may be unread before one with more is read no further.
+/// How many bytes of a user's other connections may be unread before one with more than `LEAST` is
+/// read no further.
 const MOST: usize = 16_777_216;
 
-/// For how many seconds a connection leads of which nothing more comes, while others of its user wait.
+/// For how many seconds a connection leads without sending anything, while others of its user wait.
 const SECONDS: u64 = 5;
 
-/// How many bytes of a connection are unread, its key, and whose it is.
+/// How many bytes of a connection are unread, its key, and its user.
 #[derive(Clone, Copy)]
 pub struct Part {
     pub user: usize,
@@ -29,15 +30,15 @@ pub struct Part {
     pub bytes: usize,
 }
 
-/// The one connection of a user that is read while others wait, and when bytes of it last came, or it
-/// began to lead.
+/// The one connection of a user that is read while others wait, and when bytes last came from it or
+/// it began to lead.
 #[derive(Clone, Copy)]
 struct Lead {
     key: usize,
     heard: Moment,
 }
 
-/// How many bytes of a user's connections are unread, and which of these leads.
+/// How many bytes of a user's connections are unread, and which connection leads.
 #[derive(Clone, Copy)]
 struct Parts {
     bytes: usize,
@@ -48,13 +49,13 @@ struct Parts {
 #[derive(Clone, Copy, PartialEq, Eq)]
 pub enum Reads {
     Yes,
-    /// In the place of the one under this key, of which nothing more comes.
+    /// Yes, in place of the one under this key, from which nothing comes.
     For(usize),
     No,
 }
 
 impl Parts {
-    /// Of a user of whom nothing is unread.
+    /// Makes the sum of a user without unread bytes.
     fn none() -> Parts {
         Parts {
             bytes: 0,
@@ -62,7 +63,7 @@ impl Parts {
         }
     }
 
-    /// So many bytes more are unread.
+    /// Adds unread bytes.
     fn add(&mut self, bytes: usize)
         ensures { self.new ≡ record self.old {
           bytes = min (self.old.bytes + bytes) (2 ^ 64 - 1);
@@ -71,14 +72,14 @@ impl Parts {
         self.bytes = self.bytes.saturating_add(bytes);
     }
 
-    /// So many bytes are unread no more.
+    /// Removes unread bytes.
     fn take_off(&mut self, bytes: usize)
         ensures { self.new ≡ record self.old { bytes = self.old.bytes - bytes } }
     {
         self.bytes = self.bytes.saturating_sub(bytes);
     }
 
-    /// A key's connection leads no more, if it did.
+    /// Ends the lead of a key's connection, if it leads.
     fn end_lead(&mut self, key: usize)
         ensures { self.new ≡ record self.old { lead = lead_but key self.old.lead } }
     {
@@ -88,7 +89,7 @@ impl Parts {
         }
     }
 
-    /// Bytes of a key's connection came at this moment.
+    /// Notes that bytes of a key's connection came at this moment.
     fn hear(&mut self, key: usize, now: Moment)
         ensures { self.new ≡ record self.old { lead = lead_heard key now self.old.lead } }
     {
@@ -98,7 +99,7 @@ impl Parts {
         }
     }
 
-    /// Whether a connection is read at this moment.
+    /// Returns whether a connection is read at this moment. It may begin to lead.
     fn reads(&mut self, part: Part, now: Moment) -> Reads
         ensures least { part.bytes ≤ least_part → result ≡ Reads.Yes }
         ensures few { self.old.bytes - part.bytes ≤ most_parts → result ≡ Reads.Yes }
@@ -129,24 +130,24 @@ impl Parts {
     }
 }
 
-/// The unread bytes of a worker's users. A user of whom none are summed, since memory was refused, is
-/// always read.
+/// The unread bytes of a worker's users. A user without a sum, since memory was refused, is always
+/// read.
 #[derive(Drop)]
 pub struct HalfBlocks {
-    /// By the users' numbers; the first is that of all who have not logged in.
+    /// By the users' numbers; the first is that of all connections without a login.
     users: Vec<Parts>,
 }
 
 impl HalfBlocks {
-    /// Of a worker with no connection.
+    /// Makes the sums of a worker with no connection.
     pub fn new(alloc: Global) -> HalfBlocks {
         HalfBlocks {
             users: Vec::new(alloc),
         }
     }
 
-    /// Sums are kept of so many users, and of those who have not logged in. Where memory is refused, it is
-    /// asked for again in the next turn.
+    /// Opens sums for `users` users, and for those without a login. If memory is refused, it tries
+    /// again in the next turn.
     pub fn open(&mut self, users: usize) {
         let users = users.saturating_add(1);
         if self.users.len() < users {
@@ -154,7 +155,7 @@ impl HalfBlocks {
         }
     }
 
-    /// Whether a connection is read at this moment.
+    /// Returns whether a connection is read at this moment. It may begin to lead.
     pub fn reads(&mut self, part: Part, now: Moment) -> Reads
         ensures least { part.bytes ≤ least_part → result ≡ Reads.Yes }
         ensures few { (parts_of self.old.users.items part.user).bytes - part.bytes ≤ most_parts
@@ -176,13 +177,13 @@ impl HalfBlocks {
         }
     }
 
-    /// A connection came.
+    /// Enters a connection.
     pub fn enter(&mut self, part: Part) {
         self.open(part.user);
         self.add(part);
     }
 
-    /// So much more is unread.
+    /// Adds unread bytes.
     fn add(&mut self, part: Part)
         ensures { self.new.users.items ≡ with_part part self.old.users.items }
     {
@@ -191,7 +192,7 @@ impl HalfBlocks {
         }
     }
 
-    /// So much is unread no more.
+    /// Removes unread bytes.
     fn take_off(&mut self, part: Part)
         ensures { self.new.users.items ≡ without_part part self.old.users.items }
     {
@@ -200,7 +201,7 @@ impl HalfBlocks {
         }
     }
 
-    /// A connection leads no more, if it did.
+    /// Ends the lead of a connection, if it leads.
     fn end_lead(&mut self, part: Part)
         ensures { self.new.users.items ≡ without_lead part self.old.users.items }
     {
@@ -209,7 +210,7 @@ impl HalfBlocks {
         }
     }
 
-    /// Bytes of a connection came at this moment.
+    /// Notes that bytes of a connection came at this moment.
     fn hear(&mut self, part: Part, now: Moment)
         ensures { self.new.users.items ≡ with_heard part now self.old.users.items }
     {
@@ -218,7 +219,7 @@ impl HalfBlocks {
         }
     }
 
-    /// A connection goes.
+    /// Removes a connection.
     pub fn leave(&mut self, part: Part)
         ensures { self.new.users.items
             ≡ without_lead part (without_part part self.old.users.items) }
@@ -227,7 +228,8 @@ impl HalfBlocks {
         self.end_lead(part);
     }
 
-    /// So much of a connection was unread, and so much is now. With a few bytes it leads no more.
+    /// Replaces what is unread of a connection. One with few bytes, or with another user, leads no
+    /// more.
     pub fn note(&mut self, before: Part, after: Part, now: Moment)
         ensures came { least_part < after.bytes → after.user ≡ before.user
             → before.bytes < after.bytes → self.new.users.items

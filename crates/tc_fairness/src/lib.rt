@@ -1,12 +1,14 @@
 //! How a worker is fair to its users and their clients, and who helps it.
 //!
-//! Turns are dealt out by user (`dealing.rt`): each turn pays each user a share of work, and who did more
-//! than its shares is left out while others have something to do. What waits to be sent to a user is
-//! bounded there, too, and what is unread of half blocks in `half_blocks.rt`. A client that guesses tokens
-//! waits for its replies (`guesses.rt`). A worker with no time left gets helpers by trial (`balance.rt`), by
-//! what all workers did (`did.rt`) and as the shares then say (`shares.rt`).
+//! - `dealing.rt` deals turns out by user. Each turn pays each user a share of work. A user who did
+//!   more than its shares is left out while others have something to do. It also bounds what waits
+//!   to be sent to a user.
+//! - `half_blocks.rt` bounds the unread bytes of half blocks of a user.
+//! - `guesses.rt` delays the replies to a client that guesses tokens.
+//! - `balance.rt` gives helpers by trial to a worker with no time left. It goes by what all workers
+//!   did (`did.rt`), and sets the shares by which helpers serve (`shares.rt`).
 //!
-//! Nothing here touches a socket, a lock or a cache. Nothing is promised of helpers: whoever serves a
+//! Nothing here touches a socket, a lock or a cache. No clause covers helpers: whoever serves a
 //! connection, its client is sent the same bytes.
 #![tactic(auto)]
 

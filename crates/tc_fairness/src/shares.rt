@@ -3,12 +3,12 @@ use std::alloc::{AllocError, Global};
 use std::sync::atomic::AtomicU64;
 use std::sync::atomic::Ordering::SeqCst;
 
-/// 2^32 divided by the golden ratio: numbers that follow one another, taken as often, lie evenly
-/// spread over 2^32 places.
+/// 2^32 divided by the golden ratio. Consecutive numbers times it lie evenly spread over 2^32
+/// places.
 const GOLDEN: u32 = 2_654_435_769;
 
-/// The nth helper of a home, of so many workers: the others in the order of their numbers, from the home
-/// on, beginning with the one that is its first.
+/// Returns the nth helper of a home, from 0, among `workers` workers. Helpers are the other workers
+/// by number, from the home on, beginning `first` places behind its successor.
 pub(crate) fn helper_of(home: usize, first: usize, nth: usize, workers: usize) -> usize {
     let others = workers.saturating_sub(1).max(1);
     let place = first.wrapping_add(nth) % others;
@@ -24,15 +24,15 @@ struct Share {
     first: AtomicU64,
 }
 
-/// Who helps each worker with the connections of its users. All workers read it, and whoever deals out
-/// the work writes it.
+/// Who helps each worker with the connections of its users. All workers read it, and whoever deals
+/// out the work writes it.
 #[derive(Drop)]
 pub struct Shares {
     shares: Vec<Share>,
 }
 
 impl Shares {
-    /// Each of so many workers serves its users alone.
+    /// Makes the shares of `workers` workers, each of which serves its users alone.
     pub fn new(alloc: Global, workers: usize) -> Result<Shares, AllocError> {
         let mut shares = Vec::with_capacity(alloc, workers)?;
         for _ in 0..workers {
@@ -44,7 +44,7 @@ impl Shares {
         Ok(Shares { shares })
     }
 
-    /// From now on a home has so many workers: itself, and helpers from `first` on, counted from it.
+    /// Sets how many workers a home has: itself, and helpers from `first` on, counted from it.
     pub fn set(&self, home: usize, width: usize, first: usize) {
         if let Some(share) = self.shares.get(home) {
             share.first.store(first as u64, SeqCst);
@@ -52,7 +52,7 @@ impl Shares {
         }
     }
 
-    /// Which helper of a home serves a connection; `None` where the home itself does.
+    /// Returns the helper of a home that serves a connection; `None` if the home itself does.
     pub fn helper(&self, home: usize, conn: u32) -> Option<usize> {
         let share = self.shares.get(home)?;
         let width = share.width.load(SeqCst).min(u64::from(u32::MAX));

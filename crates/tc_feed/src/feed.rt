@@ -1,7 +1,8 @@
-//! The unread bytes of a stream: what comes is put behind them, and whole requests are taken from their front.
+//! The unread bytes of a stream: `push` appends what arrives, and `next` takes whole requests from
+//! the front.
 //!
-//! `line_end.rt` and `reading.rt` read a request's line and block, and `passing.rt` passes over them. A feed
-//! takes bytes that it is handed, and knows no socket.
+//! `line_end.rt` and `reading.rt` read a request's line and block, and `passing.rt` skips them. A
+//! feed takes the bytes that its caller has, and knows no socket.
 ghost use Rattle.std.specs.Prelude.{◌≡◌, ◌+◌, ◌<◌, ◌≤◌, [], take, drop, None, Some, OnOk, OnErr, IfOk, IsTrue};
 ghost use Rattle.std.specs.Prelude.{option_map, length as list_length};
 ghost use Rattle.tc_grammar.specs.Reading.{reading};
@@ -23,33 +24,34 @@ use std::marker::Model;
 use tc_grammar::{Fault, Head, Line, parse_line};
 use tc_item::NoMemory;
 
-/// The most room that is kept once all bytes are read.
+/// The most capacity, in bytes, that a feed keeps once all bytes are read.
 const KEPT_ROOM: usize = 131_072;
 
-/// The first byte of the names of look-ups: `get`, `gets`, `gat` and `gats`. No other command's name begins so.
+/// The first byte of `get`, `gets`, `gat` and `gats`. No other command's name begins with it.
 const LOOK_UP: u8 = b'g';
 
-/// A whole request that was read ahead, where blocks of so many bytes at most are taken.
+/// A whole request that was read ahead, with the limit of blocks by which it was read.
 #[derive(Drop)]
 pub(crate) struct Ahead {
     limit: u32,
     framed: Framed,
 }
 
-/// The unread bytes of a stream, and how many of those to come are skipped.
+/// The unread bytes of a stream, and the number of bytes to come that are skipped.
 #[derive(Drop)]
 pub struct Feed {
     bytes: Vec<u8>,
-    /// Where the unread bytes begin.
+    /// Index of the first unread byte.
     start: usize,
-    /// How many of the unread bytes were looked through for a line feed, and hold none.
+    /// This many of the unread bytes were searched and hold no line feed.
     scanned: usize,
-    /// The limit of blocks at the last look, and how many unread bytes a request needs by it: at least one.
+    /// The limit of blocks at the last search, and the number of unread bytes that a request needs
+    /// by it: at least one.
     limit: u32,
     needed: usize,
-    /// How many bytes to come are skipped.
+    /// This many bytes to come are skipped.
     owed: usize,
-    /// The request that the unread bytes begin with, where it was read ahead.
+    /// The request at the front of the unread bytes, if it was read ahead.
     ahead: Option<Ahead>,
 }
 
@@ -71,7 +73,7 @@ impl Model for Feed {
 }
 
 impl Feed {
-    /// Nothing has come.
+    /// Returns a feed that received nothing.
     pub fn new(alloc: Global) -> Feed
         ensures { result ≡ empty }
     {
@@ -86,7 +88,8 @@ impl Feed {
         }
     }
 
-    /// Takes the next piece of the stream. A refusal leaves the unread bytes as they were.
+    /// Appends the next piece of the stream, less the bytes that it must skip. If memory is
+    /// refused, nothing changes.
     pub fn push(&mut self, piece: &[u8]) -> Result<(), NoMemory>
         ensures more { OnOk result (self.new ≡ more self.old piece.now) }
         ensures longer { list_length self.new.unread
@@ -106,7 +109,7 @@ impl Feed {
         Ok(())
     }
 
-    /// Gives up the room of bytes that were read, once they are more than those that are left.
+    /// Frees the room of bytes already read, once they outnumber the unread ones.
     fn compact(&mut self)
         ensures { self.new ≡ self.old }
     {
@@ -116,16 +119,17 @@ impl Feed {
         }
     }
 
-    /// How many bytes are unread.
+    /// Returns the number of unread bytes.
     pub fn unread_len(&self) -> usize
         ensures { result ≡ list_length self.now.unread }
     {
         self.bytes.len() - self.start
     }
 
-    /// The next whole request, where blocks of at most `limit` bytes are taken: `None` only where no
-    /// whole request begins the unread bytes, which are then at most 65,538 and the limit. A refusal
-    /// leaves the request unread, and comes only where those bytes begin with a whole line.
+    /// Takes the next whole request; a block may have at most `limit` bytes. Returns `None` only if
+    /// no whole request begins the unread bytes, of which there are then at most `limit` + 65,538.
+    /// If memory is refused, nothing changes; that happens only if the unread bytes begin with a
+    /// whole line.
     pub fn next(&mut self, alloc: Global, limit: u32) -> Result<Option<Request>, NoMemory>
         ensures found { IfOk result (λ request. request ≡ found limit self.old) }
         ensures after { OnOk result (self.new ≡ after_first limit self.old) }
@@ -141,8 +145,9 @@ impl Feed {
         }
     }
 
-    /// Reads the next whole request ahead, so that `next` has it at once, where blocks of at most `limit` bytes
-    /// are taken and it seems to be a look-up. Nothing is taken; where memory is refused, `next` meets that.
+    /// Reads the next whole request ahead if it seems to be a look-up, so that `next` has it at
+    /// once. Takes nothing out. If memory is refused, nothing is read ahead, and `next` tries
+    /// again.
     pub fn read_ahead(&mut self, alloc: Global, limit: u32)
         ensures { self.new ≡ self.old }
     {
@@ -154,7 +159,7 @@ impl Feed {
         }
     }
 
-    /// The next whole request, which may have been read ahead. It is not taken out of the unread bytes.
+    /// Returns the next whole request, read ahead or not. It stays among the unread bytes.
     fn front(&mut self, alloc: Global, limit: u32) -> Result<Option<Framed>, NoMemory>
         ensures next { IfOk result (IsNext limit self.old) }
         ensures unchanged { self.new ≡ self.old }
@@ -166,7 +171,7 @@ impl Feed {
         }
     }
 
-    /// The next whole request, sought among the unread bytes and not taken out of them.
+    /// Searches the unread bytes for the next whole request. It stays among them.
     fn seek(&mut self, alloc: Global, limit: u32) -> Result<Option<Framed>, NoMemory>
         ensures next { IfOk result (IsNext limit self.old) }
         ensures unchanged { self.new ≡ self.old }
@@ -182,7 +187,8 @@ impl Feed {
         }
     }
 
-    /// What is next where the room of a line holds no line feed.
+    /// Returns the fault of a line that is too long, or `None` if the line may still end. The first
+    /// 65,537 unread bytes must hold no line feed.
     fn next_without_end(&mut self, limit: u32) -> Option<Framed>
         requires none { line_length (take line_room self.old.unread) ≡ None }
         ensures next { IsNext limit self.old result }
@@ -200,7 +206,7 @@ impl Feed {
         Some(Framed::whole(request, LONGEST_LINE + 1))
     }
 
-    /// The request of the first line, which ends at a place.
+    /// Reads the request whose line ends at `end`.
     fn next_line(
         &mut self,
         alloc: Global,
@@ -228,7 +234,7 @@ impl Feed {
         }))
     }
 
-    /// The request of the first line, which ends at a place, and of the block that it needs.
+    /// Reads the request of a storage line that ends at `end`, if its whole block is there.
     fn next_block(
         &mut self,
         alloc: Global,
@@ -256,7 +262,7 @@ impl Feed {
         Ok(Some(Framed::whole(request, needed)))
     }
 
-    /// Takes a request out of the unread bytes, with those after it that are skipped.
+    /// Takes a request out of the unread bytes, and skips the bytes behind it that go with it.
     fn take(&mut self, alloc: Global, taken: Framed) -> Request
         requires { taken.length ≤ list_length self.old.unread }
         ensures request { result ≡ taken.request }
@@ -267,8 +273,8 @@ impl Feed {
         taken.request
     }
 
-    /// Remembers a look that found no whole request: that so many bytes hold no line feed, and how many
-    /// a request needs.
+    /// Remembers a search that found no whole request: how many bytes hold no line feed, and how
+    /// many a request needs.
     fn wait(&mut self, limit: u32, scanned: usize, needed: usize)
         requires scanned { IsScanned 0 scanned 0 self.old.unread }
         requires awaited { IsAwaited limit needed self.old.unread }
@@ -280,9 +286,9 @@ impl Feed {
         self.needed = needed;
     }
 
-    /// Passes over the next whole request, where blocks of at most `limit` bytes are taken: it is gone,
-    /// with its block, and what stands behind it stays. It takes no memory. `None` only where no whole
-    /// request begins the unread bytes.
+    /// Drops the next whole request with its block, and says what it was. Takes no memory. A block
+    /// may have at most `limit` bytes. Returns `None` only if no whole request begins the unread
+    /// bytes.
     pub fn pass_over(&mut self, alloc: Global, limit: u32) -> Option<Passed>
         ensures passed { result ≡ option_map passed_of (found limit self.old) }
         ensures after { self.new ≡ after_first limit self.old }
@@ -298,8 +304,8 @@ impl Feed {
         }
     }
 
-    /// Whether the last look says that no whole request is there yet, where blocks of at most `limit` bytes
-    /// are taken.
+    /// Whether the last search, by the same limit of blocks, already shows that no whole request is
+    /// there.
     pub fn is_waiting(&self, limit: u32) -> bool
         ensures none { IsTrue result → found limit self.now ≡ None }
         ensures stays { IsTrue result → after_first limit self.now ≡ self.now }
@@ -308,12 +314,12 @@ impl Feed {
         self.limit == limit && self.unread_len() < self.needed
     }
 
-    /// What the request that begins so many bytes behind the first unread one seems to ask for. It is a guess.
+    /// Guesses what the request that begins `at` bytes behind the first unread one asks for.
     pub fn peek(&self, at: usize) -> Option<Peeked<'_>> {
         peek(self.bytes.get(self.start.saturating_add(at)..)?)
     }
 
-    /// Goes past the bytes of a request, and past more of those that came or are to come.
+    /// Moves past `length` bytes of a request and `skip` more, which may still have to come.
     fn pass(&mut self, alloc: Global, length: usize, skip: usize)
         requires { length ≤ list_length self.old.unread }
         ensures after { self.new
@@ -334,14 +340,14 @@ impl Feed {
     }
 }
 
-/// Forgets a request that was read ahead.
+/// Drops a request that was read ahead.
 fn forget(ahead: &mut Option<Ahead>)
     ensures { ahead.new ≡ None }
 {
     *ahead = None;
 }
 
-/// Empties the bytes, and gives up their room where it is large.
+/// Empties the vector, and frees its room if that is over `KEPT_ROOM`.
 fn clear(alloc: Global, bytes: &mut Vec<u8>)
     ensures { bytes.new.items ≡ [] }
 {

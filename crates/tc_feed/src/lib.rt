@@ -1,10 +1,14 @@
-//! Requests in a stream of bytes, whatever way the stream is cut.
+//! Requests in a stream of bytes, however the stream is cut.
 //!
-//! The definitions are `specs/Stream.antt`: `more` is what a piece adds to a reader, `first` the
-//! first whole request of unread bytes. `Feed::push` is `more` and `Feed::next` is `first`: it
-//! answers `None` only where no whole request begins the unread bytes. A `Feed` is seen as its unread
-//! bytes and the number of bytes still to be skipped; how much room it keeps is not said. The law of
-//! cutting is the contract of `cutting`.
+//! The definitions are in `specs/Stream.antt`: `more` is what a piece adds to a reader, and `first`
+//! the first whole request of unread bytes. `Feed::push` does `more`, and `Feed::next` returns
+//! `first`. It returns `None` only if no whole request begins the unread bytes. `Feed::pass_over`
+//! drops the same request without memory, and returns it without its keys and its block
+//! (`specs/Passing.antt`).
+//!
+//! Contracts see a `Feed` as its unread bytes and the number of bytes still to be skipped. They do
+//! not say how much room it keeps, how often it looks at a byte, or what `peek` guesses. `cutting`
+//! has the law of cutting.
 #![tactic(auto)]
 
 mod feed;

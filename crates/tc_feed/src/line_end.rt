@@ -1,4 +1,4 @@
-//! Where a line ends.
+//! Finds the end of a line.
 ghost use Rattle.std.specs.Prelude.{◌≡◌, ◌==◌, if◌then◌else◌, ◌+◌, ◌≤◌, length, take, drop, None};
 ghost use Rattle.std.specs.List.{prefix_len};
 ghost use Rattle.std.specs.Int.{w64, trailing_zeros};
@@ -8,13 +8,13 @@ ghost use Rattle.tc_feed.specs.Stream.{line_length, trimmed};
 use memchr::memchr;
 use std::simd::prelude::*;
 
-/// The most bytes of a line before its line feed, a carriage return among them.
+/// The most bytes of a line before its line feed, carriage return included.
 pub const LONGEST_LINE: usize = 65_536;
 
-/// How many bytes are looked at together.
+/// The width of the first step of a search, in bytes.
 const LANES: usize = 16;
 
-/// The place of the lowest bit that is set, or how many lanes there are.
+/// Returns the position of the lowest set bit, or 16 if no bit is set.
 #[inline(always)]
 fn lowest_set(mask: u64) -> usize
     ensures { result ≡ (if mask == 0 then 16 else trailing_zeros w64 mask) }
@@ -26,7 +26,7 @@ fn lowest_set(mask: u64) -> usize
     }
 }
 
-/// How many of the 16 bytes from a place on stand before a line feed.
+/// Of the 16 bytes from `at` on, counts those before a line feed.
 #[inline(always)]
 fn run_in_lanes(bytes: &[u8], at: usize) -> usize
     requires { at + 16 ≤ length bytes.now }
@@ -36,7 +36,7 @@ fn run_in_lanes(bytes: &[u8], at: usize) -> usize
     lowest_set(lanes.simd_eq(u8x16::splat(b'\n')).to_bitmask())
 }
 
-/// The place of the first line feed of bytes whose first `from` have none.
+/// Returns the index of the first line feed. The first `from` bytes must hold none.
 fn seek_line(bytes: &[u8], from: usize) -> Option<usize>
     requires within { from ≤ length bytes.now }
     requires none { line_length (take from bytes.now) ≡ None }
@@ -48,7 +48,7 @@ fn seek_line(bytes: &[u8], from: usize) -> Option<usize>
     }
 }
 
-/// The same. Most lines are short, so a few bytes are looked at first.
+/// Does what `seek_line` does, but looks at 16 bytes first, since most lines are short.
 pub(crate) fn find_line(bytes: &[u8], from: usize) -> Option<usize>
     requires within { from ≤ length bytes.now }
     requires none { line_length (take from bytes.now) ≡ None }
@@ -64,7 +64,7 @@ pub(crate) fn find_line(bytes: &[u8], from: usize) -> Option<usize>
     seek_line(bytes, from + LANES)
 }
 
-/// The line without a carriage return at its end.
+/// Returns the line without the carriage return at its end, if it has one.
 pub(crate) fn trim_line(line: &[u8]) -> &[u8]
     ensures { result.now ≡ trimmed line.now }
 {

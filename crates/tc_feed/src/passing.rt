@@ -1,4 +1,4 @@
-//! Passing over the first request of unread bytes: it takes no memory. The bytes are only read.
+//! Skips the first request of unread bytes without memory. These functions only read the bytes.
 ghost use Rattle.std.specs.Prelude.{◌≡◌, ◌+◌, ◌<◌, ◌≤◌, ◌^◌, length, take, drop, None, option_map};
 ghost use Rattle.tc_grammar.specs.Reading.{reading};
 ghost use Rattle.tc_grammar.specs.declared.command.Head.{Head};
@@ -9,18 +9,18 @@ use crate::line_end::{LONGEST_LINE, trim_line};
 use crate::reading::{ends_line, find_end};
 use tc_grammar::{Fault, Outline, outline_line};
 
-/// What is known of a whole request that was passed over, without its keys and its block.
+/// A whole request that was skipped, without its keys and its block.
 #[derive(Clone, Copy, Debug, PartialEq, Eq)]
 pub enum Passed {
-    /// A command other than `quit`; it is not answered where it is quiet.
+    /// A command other than `quit`. It gets no reply if `quiet`.
     Command { quiet: bool },
-    /// A line that ends its connection.
+    /// `quit`, which ends the connection.
     Quit,
-    /// A fault, which is not answered where it is quiet.
+    /// A fault. It gets no reply if `quiet`.
     Refused { fault: Fault, quiet: bool },
 }
 
-/// A request, how many bytes it takes, and how many bytes after it are skipped.
+/// A request, the number of bytes that it takes, and the number behind it that are skipped.
 #[derive(Clone, Copy, PartialEq, Eq)]
 pub(crate) struct Passing {
     pub request: Passed,
@@ -28,7 +28,8 @@ pub(crate) struct Passing {
     pub skip: usize,
 }
 
-/// The block of n bytes after a line, which is `line` bytes long with its end, if all of it is there.
+/// Skips a storage command: a line of `line` bytes with its end, and a block of `n`. Returns `None`
+/// if the block is not whole.
 fn pass_block(quiet: bool, line: usize, n: usize, bytes: &[u8]) -> Option<Passing>
     requires { line + (n + 2) < 2 ^ 64 }
     ensures { (head : Head) → head.quiet ≡ quiet
@@ -52,7 +53,7 @@ fn pass_block(quiet: bool, line: usize, n: usize, bytes: &[u8]) -> Option<Passin
     })
 }
 
-/// The request of the first line, which ends at a place.
+/// Skips the request whose line ends at `end`.
 fn pass_line(limit: u32, unread: &[u8], end: usize) -> Option<Passing>
     requires within { end < length unread.now }
     requires short { end ≤ longest_line }
@@ -75,7 +76,8 @@ fn pass_line(limit: u32, unread: &[u8], end: usize) -> Option<Passing>
     })
 }
 
-/// What is found in bytes whose room of a line holds no line feed: a line that is too long, or nothing.
+/// Returns the fault of a line that is too long, or `None` if the line may still end. The first
+/// 65,537 bytes must hold no line feed.
 fn pass_long_line(unread: &[u8]) -> Option<Passing>
     ensures { result ≡ option_map passing_of (first_by 0 unread.now None) }
 {
@@ -93,7 +95,8 @@ fn pass_long_line(unread: &[u8]) -> Option<Passing>
     })
 }
 
-/// The first whole request of unread bytes, of which the first `scanned` hold no line feed.
+/// Returns the first whole request of unread bytes. The first `scanned` of them must hold no line
+/// feed.
 pub(crate) fn first_passed(limit: u32, unread: &[u8], scanned: usize) -> Option<Passing>
     requires within { scanned ≤ length unread.now }
     requires short { scanned ≤ longest_line + 1 }

@@ -1,35 +1,36 @@
-//! A guess at what a request asks for, from its first bytes, for who reads memory ahead of its use. Nothing
-//! rests on a guess: the request is read as any other when its turn comes.
+//! Guesses from a request's first bytes what it asks for, so that a caller can read memory ahead of
+//! its use. Nothing rests on a guess: the feed reads the request in full when its turn comes.
 
 use tc_grammar::{Verb, verb_named};
 use tc_item::LONGEST_KEY;
 
-/// The most bytes of the name of a command with a key: of `prepend`.
+/// The longest name of a command with a key, `prepend`, in bytes.
 const LONGEST_NAME: usize = 7;
 
 /// The most digits of a number of a storage line.
 const LONGEST_NUMBER: usize = 20;
 
-/// The most bytes that are looked through for the end of a line, of which the key was seen.
+/// How far behind a key a guess looks for the end of the line, in bytes.
 const LINE_REST: usize = 16;
 
-/// What a request seems to ask for.
+/// A guess at a request.
 #[derive(Clone, Copy)]
 pub struct Peeked<'a> {
-    /// Its key.
+    /// The key, one or more bytes.
     pub key: &'a [u8],
-    /// Where the request behind it begins, where that was seen.
+    /// Where the next request begins, in bytes from the first byte of this one; `None` if unknown.
     pub end: Option<usize>,
 }
 
-/// The first word, of so many bytes at most, and what begins with the byte that ends it.
+/// Splits off the first word, if a space or control byte ends it within `most` bytes. The second
+/// part begins with that byte.
 fn split_word(bytes: &[u8], most: usize) -> Option<(&[u8], &[u8])> {
     let mut front = bytes.iter().take(most.saturating_add(1));
     let length = front.position(|byte| *byte <= b' ')?;
     Some((bytes.get(..length)?, bytes.get(length..)?))
 }
 
-/// What stands behind the next end of a line, where that is near.
+/// Returns the bytes behind the next line feed, if it is among the first 16 bytes.
 fn behind_line(bytes: &[u8]) -> Option<&[u8]> {
     let at = bytes
         .iter()
@@ -38,7 +39,7 @@ fn behind_line(bytes: &[u8]) -> Option<&[u8]> {
     bytes.get(at.saturating_add(1)..)
 }
 
-/// The number that digits spell.
+/// Returns the number that these bytes spell if they are digits, and otherwise any number.
 fn number_of(digits: &[u8]) -> usize {
     let mut number: usize = 0;
     for digit in digits {
@@ -48,8 +49,8 @@ fn number_of(digits: &[u8]) -> usize {
     number
 }
 
-/// What stands behind a block whose line goes on with these bytes: flags, when it is due, and how long the
-/// block is.
+/// Returns the bytes behind a block, from those behind the key of its line: flags, exptime and
+/// length come next.
 fn behind_block(bytes: &[u8]) -> Option<&[u8]> {
     let (_, bytes) = split_word(bytes.get(1..)?, LONGEST_NUMBER)?;
     let (_, bytes) = split_word(bytes.get(1..)?, LONGEST_NUMBER)?;
@@ -58,8 +59,8 @@ fn behind_block(bytes: &[u8]) -> Option<&[u8]> {
     behind_line(bytes)?.get(block..)
 }
 
-/// What the request that these bytes begin with seems to ask for; nothing where it looks several keys up,
-/// which are read ahead when it is done.
+/// Guesses at the request that begins these bytes. Returns `None` if no single key shows. A look-up
+/// of several keys reads their memory ahead when it is done.
 pub(crate) fn peek(bytes: &[u8]) -> Option<Peeked<'_>> {
     let (name, rest) = split_word(bytes, LONGEST_NAME)?;
     let verb = verb_named(name)?;

@@ -1,4 +1,4 @@
-//! The parts of unread bytes that a request is made of: where its line ends, and its block. They are only read.
+//! Finds the end of a request's line and reads its block. These functions only read the bytes.
 ghost use Rattle.std.specs.Prelude.{◌≡◌, ◌+◌, ◌<◌, ◌≤◌, length, take, None, IfOk, IfSome};
 ghost use Rattle.tc_feed.specs.Stream.{line_length, longest_line, line_room, ends_line, block_request};
 
@@ -8,7 +8,7 @@ use std::alloc::Global;
 use tc_grammar::{Command, Fault, Head};
 use tc_item::{Blob, NoMemory};
 
-/// Whether the two bytes behind the first n are a line end.
+/// Whether a carriage return and a line feed follow the first `n` bytes.
 pub(crate) fn ends_line(n: usize, bytes: &[u8]) -> bool
     requires { n + 2 ≤ length bytes.now }
     ensures { result ≡ ends_line n bytes.now }
@@ -16,7 +16,7 @@ pub(crate) fn ends_line(n: usize, bytes: &[u8]) -> bool
     bytes[n] == b'\r' && bytes[n + 1] == b'\n'
 }
 
-/// A storage line with its block of n bytes, of which `bytes` has all and two more.
+/// Returns a storage command with its block of `n` bytes, or a bad chunk if no line end follows it.
 pub(crate) fn read_block(
     alloc: Global,
     head: Head,
@@ -37,7 +37,8 @@ pub(crate) fn read_block(
     }
 }
 
-/// Where the first line of unread bytes ends, of which the first `scanned` hold no line feed.
+/// Returns where the first line ends, within the room of a line. The first `scanned` bytes must
+/// hold no line feed.
 pub(crate) fn find_end(unread: &[u8], scanned: usize) -> Option<usize>
     requires within { scanned ≤ length unread.now }
     requires short { scanned ≤ longest_line + 1 }

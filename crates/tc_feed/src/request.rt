@@ -1,4 +1,4 @@
-//! What stands next in a stream.
+//! The next request of a stream.
 ghost use Rattle.std.specs.Prelude.{◌≡◌};
 
 use tc_grammar::{Command, Fault};
@@ -6,13 +6,13 @@ use tc_grammar::{Command, Fault};
 /// A whole request, or a fault in its place.
 #[derive(Debug, PartialEq, Eq, Drop)]
 pub enum Request {
-    /// A command, with its block where it has one.
+    /// A command, with its block if it has one.
     Ask(Command),
-    /// A fault, which is not answered where it is quiet.
+    /// A fault. It gets no reply if `quiet`.
     Refused { fault: Fault, quiet: bool },
 }
 
-/// A request, how many bytes it takes, and how many bytes after it are skipped.
+/// A request, the number of bytes that it takes, and the number behind it that are skipped.
 #[derive(PartialEq, Eq, Drop)]
 pub(crate) struct Framed {
     pub request: Request,
@@ -21,7 +21,7 @@ pub(crate) struct Framed {
 }
 
 impl Framed {
-    /// A request of so many bytes, with none skipped after it.
+    /// Returns a request of `length` bytes that skips none.
     pub fn whole(request: Request, length: usize) -> Framed
         ensures { result ≡ record { request = request; length = length; skip = 0 } }
     {

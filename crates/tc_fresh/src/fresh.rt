@@ -7,7 +7,8 @@ use tc_item::NoMemory;
 use tc_plain::Plain;
 use tc_users::Users;
 
-/// An empty plain cache for each user, in the order of the users' numbers.
+/// Makes an empty plain cache for each user, in the order of the users' numbers. Fails if memory is
+/// refused.
 pub fn fresh_caches(alloc: Global, users: &Users) -> Result<Vec<Plain>, NoMemory>
     ensures caches { IfOk result (λ caches. caches.items ≡ map fresh_cache users.now) }
     ensures empty { IfOk result (λ _. All IsEmptyCache (map fresh_cache users.now)) }

@@ -1,4 +1,4 @@
-//! Commands: what a line asks of a cache.
+//! Commands: what a line asks a cache to do.
 ghost use Rattle.std.specs.Prelude.{◌≡◌, IfOk};
 ghost use Rattle.tc_grammar.specs.declared.command.Command.TheVariants.{Store, Get, Gat, Delete, Count, Touch};
 ghost use Rattle.tc_grammar.specs.Outlines.{is_quiet};
@@ -6,7 +6,7 @@ ghost use Rattle.tc_grammar.specs.Outlines.{is_quiet};
 use std::alloc::Global;
 use tc_item::{Blob, Key, Keys, NoMemory};
 
-/// Which of the six storage names.
+/// The six storage commands.
 #[derive(Clone, Copy, Debug, PartialEq, Eq)]
 pub enum StoreKind {
     Set,
@@ -17,14 +17,14 @@ pub enum StoreKind {
     Cas,
 }
 
-/// Whether items are shown with their cas numbers.
+/// Whether hits show their cas numbers: `gets` and `gats` do.
 #[derive(Clone, Copy, Debug, PartialEq, Eq)]
 pub enum Form {
     Bare,
     WithCas,
 }
 
-/// Which way a counter goes.
+/// The direction of a count.
 #[derive(Clone, Copy, Debug, PartialEq, Eq)]
 pub enum Way {
     Incr,
@@ -37,16 +37,16 @@ pub struct Head {
     pub kind: StoreKind,
     pub key: Key,
     pub flags: u32,
-    /// -2^31 to 2^32 - 1.
+    /// As on the line: -2^31 to 2^32 - 1 (`tc_item::exptime`).
     pub exptime: i64,
-    /// 0 but for `cas`.
+    /// The cas number that the line compares; 0 for all kinds but `cas`.
     pub cas_unique: u64,
     /// Whether the line has `noreply`.
     pub quiet: bool,
 }
 
 impl Head {
-    /// An equal head.
+    /// Returns an equal head.
     pub fn copy(&self, alloc: Global) -> Result<Head, NoMemory>
         ensures { IfOk result (λ head. head ≡ self.now) }
     {
@@ -62,7 +62,8 @@ impl Head {
     }
 }
 
-/// What a line asks for. `quiet` says that the line has `noreply`; an exptime is -2^31 to 2^32 - 1.
+/// A request for a cache, or for its connection (`Quit`). `quiet` means that the line has
+/// `noreply`. An exptime is -2^31 to 2^32 - 1.
 #[derive(Debug, PartialEq, Eq, Drop)]
 pub enum Command {
     /// A storage line and its block.
@@ -91,7 +92,7 @@ pub enum Command {
         exptime: i64,
         quiet: bool,
     },
-    /// A flush after so many seconds, 0 where the line has no delay.
+    /// A flush after `delay` seconds; 0 if the line names no delay.
     Flush {
         delay: u32,
         quiet: bool,
@@ -105,7 +106,7 @@ pub enum Command {
     Quit,
 }
 
-/// A storage command with an equal head, over the same block.
+/// Copies a storage command; the block is shared.
 fn copy_store(alloc: Global, head: &Head, blob: &Blob) -> Result<Command, NoMemory>
     ensures { IfOk result (λ command. command ≡ Store head.now blob.now) }
 {
@@ -114,7 +115,7 @@ fn copy_store(alloc: Global, head: &Head, blob: &Blob) -> Result<Command, NoMemo
     Ok(Command::Store(head, blob))
 }
 
-/// A look-up of equal keys.
+/// Copies a look-up.
 fn copy_get(alloc: Global, form: Form, keys: &Keys) -> Result<Command, NoMemory>
     ensures { IfOk result (λ command. command ≡ Get form keys.now) }
 {
@@ -122,7 +123,7 @@ fn copy_get(alloc: Global, form: Form, keys: &Keys) -> Result<Command, NoMemory>
     Ok(Command::Get { form, keys })
 }
 
-/// A look-up of equal keys with the same exptime.
+/// Copies a look-up with an exptime.
 fn copy_gat(alloc: Global, form: Form, exptime: i64, keys: &Keys) -> Result<Command, NoMemory>
     ensures { IfOk result (λ command. command ≡ Gat form exptime keys.now) }
 {
@@ -134,7 +135,7 @@ fn copy_gat(alloc: Global, form: Form, exptime: i64, keys: &Keys) -> Result<Comm
     })
 }
 
-/// A deletion of an equal key.
+/// Copies a deletion.
 fn copy_delete(alloc: Global, key: &Key, quiet: bool) -> Result<Command, NoMemory>
     ensures { IfOk result (λ command. command ≡ Delete key.now quiet) }
 {
@@ -142,7 +143,7 @@ fn copy_delete(alloc: Global, key: &Key, quiet: bool) -> Result<Command, NoMemor
     Ok(Command::Delete { key, quiet })
 }
 
-/// A count of an equal key by the same value.
+/// Copies a count.
 fn copy_count(
     alloc: Global,
     way: Way,
@@ -161,7 +162,7 @@ fn copy_count(
     })
 }
 
-/// A touch of an equal key with the same exptime.
+/// Copies a touch.
 fn copy_touch(alloc: Global, key: &Key, exptime: i64, quiet: bool) -> Result<Command, NoMemory>
     ensures { IfOk result (λ command. command ≡ Touch key.now exptime quiet) }
 {
@@ -174,7 +175,7 @@ fn copy_touch(alloc: Global, key: &Key, exptime: i64, quiet: bool) -> Result<Com
 }
 
 impl Command {
-    /// Whether the line has `noreply`.
+    /// Whether the line has `noreply`. A look-up never does.
     pub fn is_quiet(&self) -> bool
         ensures { result ≡ is_quiet self.now }
     {
@@ -193,7 +194,7 @@ impl Command {
         }
     }
 
-    /// An equal command. A block is shared and not copied.
+    /// Returns an equal command. A block is shared, not copied.
     pub fn copy(&self, alloc: Global) -> Result<Command, NoMemory>
         ensures { IfOk result (λ command. command ≡ self.now) }
     {

@@ -12,7 +12,8 @@ use crate::tokens::Tokens;
 use std::alloc::Global;
 use tc_item::{Key, NoMemory, is_key};
 
-/// What a line of `incr` or `decr` says, from the tokens after its name.
+/// Reads the tokens after `incr` or `decr`. The fault is `BadDelta` if all is well but the value,
+/// otherwise `BadFormat`.
 #[tactic(auto, unfolding(crate::specs::Counting::count_line))]
 pub fn read_count_line(alloc: Global, way: Way, mut tokens: Tokens) -> Result<Line, NoMemory>
     ensures reading { IfOk result (λ line. line ≡ count_line way tokens.entry) }

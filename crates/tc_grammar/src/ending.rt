@@ -1,10 +1,10 @@
-//! How a line ends.
+//! The end of a line: nothing more, or `noreply`.
 ghost use Rattle.std.specs.Prelude.{◌≡◌, ◌∷◌};
 ghost use Rattle.tc_grammar.specs.Ending.{quiet_of, without_zero};
 
 use crate::tokens::Tokens;
 
-/// Whether a line is quiet whose last token is to be this one.
+/// Returns `Some(true)` if `token` is `noreply` and the last of its line, otherwise `None`.
 #[tactic(auto, unfolding(crate::specs::Ending::quiet_of))]
 fn is_quiet(token: &[u8], mut rest: Tokens) -> Option<bool>
     ensures { result ≡ quiet_of (token.now ∷ rest.entry) }
@@ -18,7 +18,8 @@ fn is_quiet(token: &[u8], mut rest: Tokens) -> Option<bool>
     }
 }
 
-/// Whether a line is quiet that ends here or in `noreply`; nothing where it does neither.
+/// Reads the rest of a line: `Some(false)` if it is empty, `Some(true)` if it is `noreply` alone,
+/// otherwise `None`.
 #[tactic(auto, unfolding(crate::specs::Ending::quiet_of))]
 pub fn read_quiet(mut tokens: Tokens) -> Option<bool>
     ensures { result ≡ quiet_of tokens.entry }
@@ -29,7 +30,7 @@ pub fn read_quiet(mut tokens: Tokens) -> Option<bool>
     }
 }
 
-/// The same behind a `0`, which may stand there and is passed over.
+/// Reads the rest of a line as `read_quiet` does, but first skips one `0`, if it is there.
 #[tactic(auto, unfolding(crate::specs::Ending::quiet_of, crate::specs::Ending::without_zero))]
 pub fn read_quiet_after_zero(mut tokens: Tokens) -> Option<bool>
     ensures { result ≡ quiet_of (without_zero tokens.entry) }

@@ -1,43 +1,43 @@
-//! The faults, with their numbers and texts: the one place where either is written.
+//! All faults of the server, with their numbers and texts: the only place that has them.
 ghost use Rattle.std.specs.Prelude.{◌≡◌};
 ghost use Rattle.tc_grammar.specs.Faults.{fault_number, fault_text};
 
-/// Why a request is refused.
+/// Why the server refuses a request.
 #[derive(Clone, Copy, Debug, PartialEq, Eq)]
 pub enum Fault {
-    /// No token, or a name that is no command's.
+    /// The line has no token, or its first is no command's name.
     UnknownCommand = 1,
-    /// A known name whose tokens are not of its form.
+    /// The name is known, but the tokens behind it have another form.
     BadFormat,
-    /// A block that no line end follows.
+    /// No line end follows a block.
     BadChunk,
-    /// A line of more than 65,536 bytes.
+    /// The line has more than 65,536 bytes.
     LineTooLong,
-    /// A block over the limit, or an item with too much data or too heavy.
+    /// A block is over the limit, or an item has too much data or is too heavy.
     TooLarge,
-    /// Memory was refused.
+    /// The allocator refused memory.
     NoMemory,
-    /// Data to be counted that is no number.
+    /// `incr` or `decr` found data that is no number.
     NotNumeric,
-    /// A value to count by that is no number.
+    /// The value of an `incr` or `decr` is no number.
     BadDelta,
-    /// A command before a login.
+    /// A command came before a login.
     Unauthenticated,
-    /// A login refused.
+    /// The data of a login is not a user's name and token.
     AuthenticationFailure,
-    /// The last cas number was taken.
+    /// The last cas number is taken.
     CasWorn,
 }
 
 impl Fault {
-    /// The fault's number, 1 to 11.
+    /// Returns the fault's number, 1 to 11.
     pub fn number(self) -> u8
         ensures { result ≡ fault_number self }
     {
         self as u8
     }
 
-    /// What the fault is answered with, without the line end.
+    /// Returns the reply to the fault, without the line end.
     pub fn text(self) -> &'static str
         ensures { result.now ≡ fault_text self }
     {

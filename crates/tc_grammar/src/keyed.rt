@@ -12,7 +12,7 @@ use std::alloc::Global;
 use tc_item::{Key, NoMemory, is_key};
 
 #[tactic(auto, unfolding(crate::specs::Keyed::delete_of))]
-/// `delete`, from the tokens after its name.
+/// Reads the tokens after `delete`: a key, perhaps a `0`, and an ending.
 pub fn read_delete(alloc: Global, mut tokens: Tokens) -> Result<Line, NoMemory>
     ensures reading { IfOk result (λ line. line ≡ ready (delete_of tokens.entry)) }
     ensures bounded { IfOk result (IsBounded 0) }
@@ -32,7 +32,7 @@ pub fn read_delete(alloc: Global, mut tokens: Tokens) -> Result<Line, NoMemory>
 }
 
 #[tactic(auto, unfolding(crate::specs::Keyed::touch_of))]
-/// `touch`, from the tokens after its name.
+/// Reads the tokens after `touch`: a key, an exptime and an ending.
 pub fn read_touch(alloc: Global, mut tokens: Tokens) -> Result<Line, NoMemory>
     ensures reading { IfOk result (λ line. line ≡ ready (touch_of tokens.entry)) }
     ensures bounded { IfOk result (IsBounded 0) }

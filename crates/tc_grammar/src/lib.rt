@@ -1,11 +1,18 @@
-//! What a command line spells: the whole table of lines.
+//! What a command line spells: the whole table of lines, and all faults of the server.
 //!
-//! `parse_line` meets `reading` (`specs/Reading.antt`), a function of the line's tokens, which
-//! spaces part; a line is handed in without its end. The same table stands row by row, as a
-//! relation, in `specs/Table.antt`, and the contract of `each_line_spells_one_thing` says that a
-//! line spells its reading and nothing else: a command, a head that needs a block, or a fault.
-//! Callers see commands and heads as plain data over keys, lists of keys and blobs. All faults of
-//! the server, their numbers and their texts stand in `fault.rt` alone.
+//! `parse_line` takes a line without its end. It returns a command, the head of a storage command
+//! that needs its block, or a fault: `reading` in `specs/Reading.antt`, a function of the line's
+//! tokens, which spaces separate. `specs/Table.antt` has the same table row by row, as a relation.
+//! `each_line_spells_one_thing` states that a line spells its reading and nothing else.
+//!
+//! `outline_line` reads a line without taking memory, and returns how to pass it over (`outline_of`
+//! in `specs/Outlines.antt`). An `Outline` is a command other than `quit`, `quit`, a storage line
+//! with the length of its block, or a fault with what it skips. All but `quit` say whether they are
+//! quiet. It leaves out which command it is, its keys and its numbers.
+//!
+//! Contracts see commands and heads as plain data over keys, lists of keys and blobs. `parse_line`
+//! fails only if memory is refused; no clause says when that is. `fault.rt` alone has the faults'
+//! numbers and texts.
 #![tactic(auto)]
 
 mod command;

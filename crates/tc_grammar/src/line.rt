@@ -1,4 +1,4 @@
-//! What a line can come to.
+//! The result of reading a line.
 ghost use Rattle.std.specs.Prelude.{◌≡◌};
 ghost use Rattle.tc_grammar.specs.Lines.{unknown, bad_format, ready};
 
@@ -10,9 +10,10 @@ use crate::fault::Fault;
 pub enum Line {
     /// A whole command.
     Ready(Command),
-    /// A storage line, which a block of so many bytes and a line end follow.
+    /// A storage line. A block of this many bytes and a line end follow it.
     NeedsBlock(Head, u32),
-    /// A fault. It is not answered where it is quiet; so many bytes after the line are skipped.
+    /// A fault. It gets no reply if `quiet`. The reader skips `skip` bytes behind the line, at most
+    /// 2^31 + 1.
     Refused {
         fault: Fault,
         quiet: bool,
@@ -20,7 +21,7 @@ pub enum Line {
     },
 }
 
-/// A name that is no command's.
+/// Returns the fault of a name that no command has.
 pub(crate) fn refuse_unknown() -> Line
     ensures { result ≡ unknown }
 {
@@ -31,7 +32,7 @@ pub(crate) fn refuse_unknown() -> Line
     }
 }
 
-/// A line that is not of its form, with what is skipped after it.
+/// Returns the fault of a line of the wrong form, with the bytes to skip behind it.
 pub(crate) fn refuse_format(skip: u32) -> Line
     ensures { result ≡ bad_format skip }
 {
@@ -42,7 +43,7 @@ pub(crate) fn refuse_format(skip: u32) -> Line
     }
 }
 
-/// A command, where the tokens were of its form.
+/// Returns the line of a command, or a bad format if there is none.
 pub(crate) fn ready(command: Option<Command>) -> Line
     ensures { result ≡ ready command }
 {

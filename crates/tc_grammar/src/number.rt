@@ -2,10 +2,10 @@
 ghost use Rattle.std.specs.Prelude.{◌≡◌, ◌≤◌, ◌-◌, ◌^◌, IfSome};
 ghost use Rattle.tc_grammar.specs.Numbers.{number_of, exptime_of};
 
-/// The most digits of a number.
+/// The most digits of a number, leading zeros included.
 const LONGEST_NUMBER: usize = 20;
 
-/// The number that a token spells, where it is one and at most `greatest`.
+/// Returns the number that a token spells in 1 to 20 decimal digits, if it is at most `greatest`.
 pub fn read_number(token: &[u8], greatest: u64) -> Option<u64>
     ensures value { result ≡ number_of greatest token.now }
     ensures within { IfSome result (λ n. n ≤ greatest) }
@@ -26,7 +26,7 @@ pub fn read_number(token: &[u8], greatest: u64) -> Option<u64>
     Some(n)
 }
 
-/// The number of 32 bits that a token spells.
+/// Returns the number below 2^32 that a token spells.
 pub fn read_u32(token: &[u8]) -> Option<u32>
     ensures { result ≡ number_of (2 ^ 32 - 1) token.now }
 {
@@ -34,7 +34,8 @@ pub fn read_u32(token: &[u8]) -> Option<u32>
     Some(n as u32)
 }
 
-/// The exptime that a token spells.
+/// Returns the exptime that a token spells: a number below 2^32, or a minus sign and a number up to
+/// 2^31.
 pub fn read_exptime(token: &[u8]) -> Option<i64>
     ensures { result ≡ exptime_of token.now }
 {

@@ -1,4 +1,4 @@
-//! What a line is, without its keys: it takes no memory to know it.
+//! Reads a line without keeping its keys, and without memory.
 ghost use Rattle.std.specs.Prelude.{◌≡◌, None, Some, IsTrue, false, option_map};
 ghost use Rattle.tc_grammar.specs.Counting.{count_line};
 ghost use Rattle.tc_grammar.specs.Keyed.{delete_of, touch_of};
@@ -18,21 +18,23 @@ use crate::unkeyed::{read_end, read_flush, read_verbosity};
 use crate::verb::{Verb, verb_named};
 use tc_item::is_key;
 
-/// What is known of a line without its keys.
+/// What it takes to pass a line over: whether it gets a reply, and how many bytes belong to it. It
+/// lacks which command it is, its keys and its numbers.
 #[derive(Clone, Copy, PartialEq, Eq)]
 pub enum Outline {
-    /// A whole command other than `quit`; it is not answered where it is quiet.
+    /// A whole command other than `quit`. It gets no reply if `quiet`.
     Command {
         quiet: bool,
     },
-    /// A line that ends its connection.
+    /// `quit`, which ends the connection.
     Quit,
-    /// A storage line, which a block of so many bytes and a line end follow.
+    /// A storage line. A block of `length` bytes and a line end follow it. It gets no reply if
+    /// `quiet`.
     NeedsBlock {
         quiet: bool,
         length: u32,
     },
-    /// A fault. It is not answered where it is quiet; so many bytes after the line are skipped.
+    /// A fault. It gets no reply if `quiet`. The reader skips `skip` bytes behind the line.
     Refused {
         fault: Fault,
         quiet: bool,
@@ -40,7 +42,7 @@ pub enum Outline {
     },
 }
 
-/// A line that is not of its form, with what is skipped after it.
+/// Returns the fault of a line of the wrong form, with the bytes to skip behind it.
 fn bad_format(skip: u32) -> Outline
     ensures { result ≡ outline_of (bad_format skip) }
 {
@@ -51,7 +53,7 @@ fn bad_format(skip: u32) -> Outline
     }
 }
 
-/// A command that was read, where the tokens were of its form.
+/// Returns the outline of a command, or a bad format if there is none.
 fn outline_command(command: Option<Command>) -> Outline
     ensures { result ≡ outline_of (ready command) }
 {
@@ -64,7 +66,8 @@ fn outline_command(command: Option<Command>) -> Outline
     }
 }
 
-/// Whether a line that is of its form otherwise is quiet, if it is of its form.
+/// Checks all of a storage line but its length. Returns whether it is quiet, or `None` if it has
+/// the wrong form.
 #[tactic(auto, unfolding(crate::specs::Storage::head_of))]
 fn read_head_quiet(
     kind: StoreKind,
@@ -84,7 +87,7 @@ fn read_head_quiet(
     Some(quiet)
 }
 
-/// A storage line, from the tokens after its name.
+/// Outlines the tokens after a storage command's name.
 #[tactic(auto, unfolding(crate::specs::Storage::storage_line))]
 fn outline_storage(kind: StoreKind, mut tokens: Tokens, block_limit: u32) -> Outline
     ensures { result ≡ outline_of (storage_line block_limit kind tokens.entry) }
@@ -118,7 +121,7 @@ fn outline_storage(kind: StoreKind, mut tokens: Tokens, block_limit: u32) -> Out
     Outline::NeedsBlock { quiet, length }
 }
 
-/// `incr` and `decr`, from the tokens after the name.
+/// Outlines the tokens after `incr` or `decr`.
 #[tactic(auto, unfolding(crate::specs::Counting::count_line))]
 fn outline_count(way: Way, mut tokens: Tokens) -> Outline
     ensures { result ≡ outline_of (count_line way tokens.entry) }
@@ -145,7 +148,7 @@ fn outline_count(way: Way, mut tokens: Tokens) -> Outline
     Outline::Command { quiet }
 }
 
-/// Whether one or more keys stand up to the line's end.
+/// Whether all tokens are keys, and there is at least one.
 fn are_keys(mut tokens: Tokens) -> bool
     ensures keys { IsTrue result → keys_of tokens.entry ≡ Some tokens.entry }
     ensures none { result ≡ false → keys_of tokens.entry ≡ None }
@@ -164,7 +167,7 @@ fn are_keys(mut tokens: Tokens) -> bool
     true
 }
 
-/// `get` and `gets`, from the tokens after the name.
+/// Outlines the tokens after `get` or `gets`.
 #[tactic(auto, unfolding(crate::specs::Retrieval::get_of))]
 fn outline_get(form: Form, tokens: Tokens) -> Outline
     ensures { result ≡ outline_of (ready (get_of form tokens.entry)) }
@@ -176,7 +179,7 @@ fn outline_get(form: Form, tokens: Tokens) -> Outline
     }
 }
 
-/// `gat` and `gats`, from the tokens after the name.
+/// Outlines the tokens after `gat` or `gats`.
 #[tactic(auto, unfolding(crate::specs::Retrieval::gat_of))]
 fn outline_gat(form: Form, mut tokens: Tokens) -> Outline
     ensures { result ≡ outline_of (ready (gat_of form tokens.entry)) }
@@ -194,7 +197,7 @@ fn outline_gat(form: Form, mut tokens: Tokens) -> Outline
     }
 }
 
-/// `delete`, from the tokens after its name.
+/// Outlines the tokens after `delete`.
 #[tactic(auto, unfolding(crate::specs::Keyed::delete_of))]
 fn outline_delete(mut tokens: Tokens) -> Outline
     ensures { result ≡ outline_of (ready (delete_of tokens.entry)) }
@@ -211,7 +214,7 @@ fn outline_delete(mut tokens: Tokens) -> Outline
     Outline::Command { quiet }
 }
 
-/// `touch`, from the tokens after its name.
+/// Outlines the tokens after `touch`.
 #[tactic(auto, unfolding(crate::specs::Keyed::touch_of))]
 fn outline_touch(mut tokens: Tokens) -> Outline
     ensures { result ≡ outline_of (ready (touch_of tokens.entry)) }
@@ -234,7 +237,7 @@ fn outline_touch(mut tokens: Tokens) -> Outline
     Outline::Command { quiet }
 }
 
-/// What is known of a name and the tokens after it.
+/// Outlines the tokens after a name.
 fn outline_args(verb: Verb, tokens: Tokens, block_limit: u32) -> Outline
     ensures { result ≡ outline_of (said_by block_limit (Some verb) tokens.entry) }
 {
@@ -253,7 +256,7 @@ fn outline_args(verb: Verb, tokens: Tokens, block_limit: u32) -> Outline
     }
 }
 
-/// A name that is no command's.
+/// Returns the fault of a name that no command has.
 fn unknown() -> Outline
     ensures { result ≡ outline_of unknown }
 {
@@ -264,8 +267,8 @@ fn unknown() -> Outline
     }
 }
 
-/// What is known of a line without its end, where blocks of at most `block_limit` bytes are taken. It
-/// takes no memory.
+/// Returns the outline of what `parse_line` reads from the same line and limit, and takes no
+/// memory. The line comes without its end, and `block_limit` is in bytes.
 pub fn outline_line(line: &[u8], block_limit: u32) -> Outline
     ensures { result ≡ outline_of (reading block_limit line.now) }
 {

@@ -1,4 +1,4 @@
-//! What a line spells, by its name.
+//! Picks the reader of a line by its name.
 ghost use Rattle.std.specs.Prelude.{◌≡◌, IfOk, Some};
 ghost use Rattle.tc_grammar.specs.Lines.{IsAnswered, IsBounded};
 ghost use Rattle.tc_grammar.specs.Reading.{reading, said_by};
@@ -15,7 +15,7 @@ use crate::verb::{Verb, verb_named};
 use std::alloc::Global;
 use tc_item::NoMemory;
 
-/// What a name and the tokens after it say.
+/// Reads the tokens after a name.
 fn read_args(alloc: Global, verb: Verb, tokens: Tokens, block_limit: u32) -> Result<Line, NoMemory>
     ensures reading { IfOk result (λ line. line ≡ said_by block_limit (Some verb) tokens.entry) }
     ensures bounded { IfOk result (IsBounded block_limit) }
@@ -36,7 +36,8 @@ fn read_args(alloc: Global, verb: Verb, tokens: Tokens, block_limit: u32) -> Res
     }
 }
 
-/// What a line without its end spells. A block of at most `block_limit` bytes is taken.
+/// Reads a line, handed in without its end. A block of more than `block_limit` bytes is `TooLarge`.
+/// Fails only if memory is refused.
 pub fn parse_line(alloc: Global, line: &[u8], block_limit: u32) -> Result<Line, NoMemory>
     ensures reading { IfOk result (λ said. said ≡ reading block_limit line.now) }
     ensures bounded { IfOk result (IsBounded block_limit) }

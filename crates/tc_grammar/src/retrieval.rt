@@ -11,10 +11,10 @@ use crate::tokens::Tokens;
 use std::alloc::Global;
 use tc_item::{Key, Keys, NoMemory};
 
-/// A key has mostly at least so many bytes, with the space before it.
+/// What most keys take at least on a line, in bytes, with the space before them.
 const USUAL_WORD: usize = 9;
 
-/// Gives up the room of a list that has more than twice what it needs.
+/// Shrinks a list that has more than twice the room it needs.
 fn fit(keys: &mut Vec<Key>)
     ensures { keys.new.items ≡ keys.old.items }
 {
@@ -23,7 +23,7 @@ fn fit(keys: &mut Vec<Key>)
     }
 }
 
-/// A key, and those that follow up to the line's end.
+/// Reads the keys behind a first one, up to the line's end. Returns `None` if a token is no key.
 fn read_more_keys(alloc: Global, first: Key, mut tokens: Tokens) -> Result<Option<Keys>, NoMemory>
     requires { is_key first ≡ true }
     ensures { IfOk result (λ keys. keys ≡ keys_of (first ∷ tokens.entry)) }
@@ -40,7 +40,8 @@ fn read_more_keys(alloc: Global, first: Key, mut tokens: Tokens) -> Result<Optio
     Ok(Some(Keys::from_vec(alloc, keys)?))
 }
 
-/// One or more keys, up to the line's end. One alone takes no list.
+/// Reads one or more keys, up to the line's end; otherwise returns `None`. A single key takes no
+/// list.
 fn read_keys(alloc: Global, mut tokens: Tokens) -> Result<Option<Keys>, NoMemory>
     ensures { IfOk result (λ keys. keys ≡ keys_of tokens.entry) }
 {
@@ -58,7 +59,7 @@ fn read_keys(alloc: Global, mut tokens: Tokens) -> Result<Option<Keys>, NoMemory
 }
 
 #[tactic(auto, unfolding(crate::specs::Retrieval::get_of))]
-/// `get` and `gets`, from the tokens after the name.
+/// Reads the tokens after `get` or `gets`: one or more keys.
 pub fn read_get(alloc: Global, form: Form, tokens: Tokens) -> Result<Line, NoMemory>
     ensures reading { IfOk result (λ line. line ≡ ready (get_of form tokens.entry)) }
     ensures bounded { IfOk result (IsBounded 0) }
@@ -71,7 +72,7 @@ pub fn read_get(alloc: Global, form: Form, tokens: Tokens) -> Result<Line, NoMem
 }
 
 #[tactic(auto, unfolding(crate::specs::Retrieval::gat_of))]
-/// `gat` and `gats`, from the tokens after the name.
+/// Reads the tokens after `gat` or `gats`: an exptime and one or more keys.
 pub fn read_gat(alloc: Global, form: Form, mut tokens: Tokens) -> Result<Line, NoMemory>
     ensures reading { IfOk result (λ line. line ≡ ready (gat_of form tokens.entry)) }
     ensures bounded { IfOk result (IsBounded 0) }

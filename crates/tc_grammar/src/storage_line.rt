@@ -1,4 +1,4 @@
-//! Storage lines.
+//! The lines of `set`, `add`, `replace`, `append`, `prepend` and `cas`.
 ghost use Rattle.std.specs.Prelude.{◌≡◌, IfOk};
 ghost use Rattle.tc_item.specs.KeyRule.{is_key};
 ghost use Rattle.tc_grammar.specs.Lines.{IsAnswered, IsBounded};
@@ -13,10 +13,11 @@ use crate::tokens::{Tokens, Word};
 use std::alloc::Global;
 use tc_item::{Key, NoMemory};
 
-/// The most bytes that a block may be announced with.
+/// The greatest length that a line may announce for its block, in bytes.
 pub(crate) const LONGEST_BLOCK: u64 = (1 << 31) - 1;
 
-/// What follows the block's length: the cas unique, and whether the line is quiet.
+/// Reads what follows the block's length: for `cas` a number, and the ending. Returns the number,
+/// or 0, and whether the line is quiet.
 #[tactic(auto, unfolding(crate::specs::Storage::ending_of))]
 pub(crate) fn read_ending(kind: StoreKind, mut tokens: Tokens) -> Option<(u64, bool)>
     ensures { result ≡ ending_of kind tokens.entry }
@@ -30,7 +31,7 @@ pub(crate) fn read_ending(kind: StoreKind, mut tokens: Tokens) -> Option<(u64, b
     }
 }
 
-/// A line of its form, but for its block.
+/// Reads all of a storage line but its length; `None` if it has the wrong form.
 #[tactic(auto, unfolding(crate::specs::Storage::head_of))]
 fn read_head(
     alloc: Global,
@@ -66,7 +67,9 @@ fn read_head(
     }))
 }
 
-/// What a storage line says, from the tokens after its name.
+/// Reads the tokens after a storage command's name. A wrong form that names a length skips the
+/// block and its line end, and so does a block of more than `block_limit` bytes, which is
+/// `TooLarge`.
 #[tactic(auto, unfolding(crate::specs::Storage::storage_line))]
 pub fn read_storage_line(
     alloc: Global,

@@ -1,4 +1,4 @@
-//! The tokens of a line, read from its front.
+//! Cuts a line at its spaces, from the front.
 ghost use Rattle.std.specs.Prelude.{◌≡◌, ◌≤◌, ◌<◌, ◌∷◌, [], drop, length, MatchOption, IsTrue};
 ghost use Rattle.std.specs.List.{prefix_len};
 ghost use Rattle.tc_item.specs.KeyRule.{is_key, is_key_byte};
@@ -8,7 +8,7 @@ ghost use Rattle.tc_grammar.specs.Words.{word_length};
 use std::marker::Model;
 use tc_item::{LONGEST_KEY, key_run};
 
-/// The tokens of a line that are still to be read.
+/// The tokens of a line that are not read yet.
 #[derive(Drop)]
 pub struct Tokens<'a> {
     rest: &'a [u8],
@@ -23,7 +23,7 @@ impl<'a> Model for Tokens<'a> {
     ghost view = { λ t. tokens t.rest.now };
 }
 
-/// How many spaces stand at the front.
+/// Counts the spaces at the front.
 fn space_length(bytes: &[u8]) -> usize
     ensures within { result ≤ length bytes.now }
     ensures same { tokens (drop result bytes.now) ≡ tokens bytes.now }
@@ -37,7 +37,7 @@ fn space_length(bytes: &[u8]) -> usize
     bytes.len()
 }
 
-/// How many bytes stand before the first space, one by one.
+/// Counts the bytes before the first space, one by one.
 fn first_space(bytes: &[u8]) -> usize
     ensures value { result ≡ word_length bytes.now }
     ensures within { result ≤ length bytes.now }
@@ -57,7 +57,7 @@ pub struct Word<'a> {
     pub is_key: bool,
 }
 
-/// Whether a token is a key of which the first so many bytes may stand in one, and no more.
+/// Whether a token is a key, if its first `run` bytes may be in a key and the next may not.
 fn is_key_run(token: &[u8], run: usize) -> bool
     requires some { 0 < length token.now }
     requires run { prefix_len is_key_byte token.now ≡ run }
@@ -67,27 +67,27 @@ fn is_key_run(token: &[u8], run: usize) -> bool
 }
 
 impl<'a> Tokens<'a> {
-    /// The tokens of a line.
+    /// Begins at the front of a line.
     pub fn new(line: &'a [u8]) -> Tokens<'a>
         ensures { result ≡ tokens line.now }
     {
         Tokens { rest: line }
     }
 
-    /// Whether the line's end is reached.
+    /// Whether no byte is left. Trailing spaces count as bytes.
     pub fn is_at_end(&self) -> bool
         ensures { IsTrue result → self.now ≡ [] }
     {
         self.rest.is_empty()
     }
 
-    /// How many bytes are left, spaces among them.
+    /// Returns the number of bytes left, spaces included.
     pub fn bytes_left(&self) -> usize {
         self.rest.len()
     }
 
-    /// Takes the next token, and says whether it is a key. Most words are of bytes that may stand in a key,
-    /// and these are passed together.
+    /// Takes the next token, and says whether it is a key. It passes bytes that a key may have in
+    /// groups, since most tokens have no others.
     pub fn next_word(&mut self) -> Option<Word<'a>>
         ensures { MatchOption result ((self.old ≡ []) × (self.new ≡ []))
             (λ word. (self.old ≡ word.bytes.now ∷ self.new)

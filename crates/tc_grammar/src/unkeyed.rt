@@ -1,4 +1,4 @@
-//! `flush_all`, `verbosity` and the lines of one token.
+//! `flush_all`, `verbosity`, and the lines of a name alone.
 ghost use Rattle.std.specs.Prelude.{◌≡◌};
 ghost use Rattle.tc_grammar.specs.Ending.{ended};
 ghost use Rattle.tc_grammar.specs.Lines.{ready};
@@ -10,7 +10,7 @@ use crate::line::{Line, ready};
 use crate::number::read_u32;
 use crate::tokens::Tokens;
 
-/// A command whose line ends here.
+/// Returns the command if the line ends here.
 pub fn read_end(command: Command, mut tokens: Tokens) -> Option<Command>
     ensures { result ≡ ended command tokens.entry }
 {
@@ -30,7 +30,7 @@ fn read_delayed(delay: &[u8], rest: Tokens) -> Option<Command>
 }
 
 #[tactic(auto, unfolding(crate::specs::Unkeyed::flush_of))]
-/// `flush_all`, from the tokens after its name.
+/// Reads the tokens after `flush_all`: perhaps a delay in seconds, and an ending.
 pub fn read_flush(mut tokens: Tokens) -> Option<Command>
     ensures { result ≡ flush_of tokens.entry }
 {
@@ -51,7 +51,7 @@ pub fn read_flush(mut tokens: Tokens) -> Option<Command>
 }
 
 #[tactic(auto, unfolding(crate::specs::Unkeyed::verbosity_of))]
-/// `verbosity`, from the tokens after its name.
+/// Reads the tokens after `verbosity`: a level and an ending.
 pub fn read_verbosity(mut tokens: Tokens) -> Option<Command>
     ensures { result ≡ verbosity_of tokens.entry }
 {
@@ -60,21 +60,21 @@ pub fn read_verbosity(mut tokens: Tokens) -> Option<Command>
     Some(Command::Verbosity { level, quiet })
 }
 
-/// What a line says whose name is to stand alone.
+/// Reads a line whose name must be its only token.
 pub fn read_lone_name(command: Command, tokens: Tokens) -> Line
     ensures { result ≡ ready (ended command tokens.entry) }
 {
     ready(read_end(command, tokens))
 }
 
-/// What a line of `flush_all` says, from the tokens after its name.
+/// Returns what the tokens after `flush_all` spell.
 pub fn read_flush_line(tokens: Tokens) -> Line
     ensures { result ≡ ready (flush_of tokens.entry) }
 {
     ready(read_flush(tokens))
 }
 
-/// What a line of `verbosity` says, from the tokens after its name.
+/// Returns what the tokens after `verbosity` spell.
 pub fn read_verbosity_line(tokens: Tokens) -> Line
     ensures { result ≡ ready (verbosity_of tokens.entry) }
 {

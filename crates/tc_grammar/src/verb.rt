@@ -1,10 +1,10 @@
-//! The names that a line may begin with.
+//! The names that begin a line.
 ghost use Rattle.std.specs.Prelude.{◌≡◌};
 ghost use Rattle.tc_grammar.specs.Names.{named, retrieval_names, storage_names, other_names, verb_of};
 
 use crate::command::{Form, StoreKind, Way};
 
-/// What a line's name asks for.
+/// The command that a name asks for.
 #[derive(Clone, Copy)]
 pub enum Verb {
     Store(StoreKind),
@@ -95,7 +95,8 @@ fn other_named(name: &[u8]) -> Option<Verb>
     None
 }
 
-/// What a name asks for, or nothing where it is no command's.
+/// Returns the command of a name, in lower case as doc/protocol.txt has it; `None` for any other
+/// text.
 #[tactic(auto, unfolding(crate::specs::Names::verb_of))]
 pub fn verb_named(name: &[u8]) -> Option<Verb>
     ensures { result ≡ verb_of name.now }

@@ -1,4 +1,4 @@
-//! The index.
+//! The index: slots under tags, in shards.
 ghost use Rattle.std.specs.Prelude.{◌≡◌, ℕ, ◌+◌, ◌<◌, ◌≤◌, ◌^◌, Bool, true, IfOk, OnOk, OnErr, length};
 ghost use Rattle.tc_index.specs.Tags.{Tells, FindsRight, stands, one_at, shard_of};
 
@@ -8,18 +8,18 @@ use std::marker::Model;
 use std::vec::IntoIter;
 use tc_item::{NoMemory, Slot};
 
-/// The most slots: 32 bits number them.
+/// The most slots, so that 32 bits number them.
 const MOST_SLOTS: usize = 4_294_967_296;
 
-/// The most shards: eight bits of a tag name one.
+/// The most shards, so that eight bits of a tag name one.
 const MOST_SHARDS: usize = 256;
 
-/// Slots under tags.
+/// Slots under tags, in a power of two of shards.
 #[derive(Drop)]
 pub struct Index {
     shards: Vec<Shard>,
     slots: usize,
-    /// The shard that the last slot came to. Every other one has room for a slot more.
+    /// The shard that the last insertion used. All others have room for one more slot.
     last: usize,
 }
 
@@ -35,7 +35,7 @@ impl Model for Index {
     ghost invariant = { IsIndex };
 }
 
-/// The shard of a tag.
+/// Returns the shard of a tag.
 fn shard(shards: usize, tag: Tag) -> usize
     requires { 0 < shards }
     ensures value { result ≡ shard_of shards tag.0 }
@@ -45,8 +45,8 @@ fn shard(shards: usize, tag: Tag) -> usize
 }
 
 impl Index {
-    /// An index in which no slot stands, in so many shards: the next power of two, and 256 at most. Takes some 450
-    /// bytes for each.
+    /// Makes an empty index. It has `shards` shards, rounded up to a power of two, and at most 256.
+    /// Each takes some 450 bytes. Fails if memory is refused.
     pub fn new(alloc: Global, shards: usize) -> Result<Index, NoMemory>
         ensures none { IfOk result (λ i. (tag slot : ℕ) → stands i tag slot ≡ 0) }
     {
@@ -62,20 +62,21 @@ impl Index {
         })
     }
 
-    /// An index in which no slot stands, in as many shards as this one.
+    /// Makes an empty index with as many shards as this one. Fails if memory is refused.
     pub fn fresh(&self, alloc: Global) -> Result<Index, NoMemory>
         ensures none { IfOk result (λ i. (tag slot : ℕ) → stands i tag slot ≡ 0) }
     {
         Index::new(alloc, self.shards.len())
     }
 
-    /// The shards, of an index that is done with: each gives its memory back by itself.
+    /// Takes the index apart, so that each shard can be freed by itself.
     pub fn into_shards(self) -> IntoIter<Shard, Global> {
         self.shards.into_iter()
     }
 
-    /// Room for one more slot, whichever its tag, and numbers for all slots below this, which is refused beyond
-    /// 2^32. One shard grows at most. A refusal changes nothing.
+    /// Makes room for one more slot under any tag, and numbers for all slots below `slots`. It
+    /// fails if memory is refused, or beyond 2^32 slots, and then changes nothing. At most one
+    /// shard grows.
     pub fn reserve(&mut self, slots: usize) -> Result<(), NoMemory>
         ensures stands { (tag slot : ℕ) → stands self.new tag slot ≡ stands self.old tag slot }
         ensures kept { self.old.slots ≤ self.new.slots }
@@ -91,7 +92,7 @@ impl Index {
         Ok(())
     }
 
-    /// Takes all slots from under their tags.
+    /// Removes all slots. The room stays.
     pub fn clear(&mut self)
         ensures none { (tag slot : ℕ) → stands self.new tag slot ≡ 0 }
         ensures slots { self.new.slots ≡ self.old.slots }
@@ -102,12 +103,12 @@ impl Index {
         }
     }
 
-    /// The allocator that its memory is of.
+    /// Returns the allocator of its memory.
     pub fn allocator(&self) -> Global {
         *self.shards.allocator()
     }
 
-    /// A right slot under this tag, if there is one.
+    /// Returns a slot under this tag for which `is_right` holds, if there is one.
     pub fn find<F: Fn(Slot) -> bool>(&self, tag: Tag, is_right: F) -> Option<Slot>
         requires { F.IsAlwaysCallable is_right }
         ensures { (right : ℕ → Bool) → Tells (F.post is_right) right
@@ -128,7 +129,7 @@ impl Index {
         self.last = at;
     }
 
-    /// Takes a slot from under its tag.
+    /// Removes a slot from under its tag.
     pub fn remove(&mut self, slot: Slot, tag: Tag)
         requires { 0 < stands self.old tag.0 slot.0 }
         ensures stands { (t s : ℕ) → stands self.new t s + one_at tag.0 slot.0 t s ≡ stands self.old t s }

@@ -1,14 +1,14 @@
 //! Slots under tags, in shards of maps: an index that holds no keys.
 //!
-//! Terms: a slot is a number, and a tag is 32 bits of a hash. Who looks for a key asks for its tag, and is asked
-//! which of the slots under it is the right one. Who takes a slot out names its tag.
+//! A slot is a number, and a tag is 32 bits of a hash. To find a key, a caller passes its tag and a
+//! closure that says which slot under the tag is right. To remove a slot, it passes the slot's tag.
 //!
-//! Callers see how often each slot stands under each tag (`specs/Tags.antt`): once or not at all, where they put
-//! none twice. `new`, `fresh` and `reserve` alone take memory.
+//! Contracts see how often each slot is under each tag (`specs/Tags.antt`): once or not at all, if
+//! the caller puts no slot there twice. Only `new`, `fresh` and `reserve` take memory.
 //!
-//! Each tag has a shard, and a shard has a map from tags to slots. A further slot under a tag that the map has lies
-//! beside it in a list, which is nearly always empty. A shard grows by itself, so no growth costs more than to make
-//! one shard anew.
+//! Each tag has a shard, and a shard has a map from tags to slots. Further slots under a tag that
+//! the map has are in a list beside it, which is nearly always empty. Each shard grows by itself,
+//! so growth never costs more than one shard's rebuild.
 #![tactic(auto)]
 
 mod index;

@@ -1,4 +1,4 @@
-//! One shard: a map from tags to slots, and the slots whose tag another one has in the map.
+//! One shard: a map from tags to slots, and the further slots of these tags.
 ghost use Rattle.std.specs.Prelude.{◌≡◌, ℕ, ◌+◌, ◌<◌, ◌≤◌, ◌^◌, Bool, true, [], count_by, nat_eq, IfOk, OnOk, not};
 ghost use Rattle.std.specs.Map.{lookup};
 ghost use Rattle.indexmap.specs.IndexMap.{get, spare};
@@ -9,22 +9,23 @@ use std::alloc::Global;
 use std::marker::Model;
 use tc_item::{NoMemory, Slot};
 
-/// A map of which less than one place in so many is free, once it is made anew, grows instead.
+/// A full map grows if a rebuild would leave less than one place in this many free. Otherwise it is
+/// rebuilt.
 const FREE_OF: usize = 16;
 
-/// 32 bits of a hash.
+/// 32 bits of a key's hash.
 #[derive(Clone, Copy, PartialEq, Eq)]
 pub struct Tag(pub u32);
 
-/// Slots under tags.
+/// The slots under the tags of one shard.
 #[derive(Drop)]
 pub struct Shard {
-    /// A slot of each tag that has one.
+    /// One slot of each tag that has any.
     first: IndexMap<u32, u32>,
-    /// Further slots, each beside its tag.
+    /// Further slots, each with its tag.
     more: Vec<(u32, u32)>,
-    /// How many slots the map had room for when it last grew. Fewer fit after removals: the map counts a place that
-    /// was in use as free only once all its places are made anew.
+    /// How many slots the map had room for when it last grew. After removals it has room for fewer:
+    /// the map counts a place that was in use as free only after a rebuild.
     grown_to: usize,
 }
 
@@ -38,7 +39,7 @@ impl Model for Shard {
     ghost view = { tagged_shard_of };
 }
 
-/// The place of a slot under this tag, if it has one.
+/// Returns the place of a slot under this tag, if it has one.
 fn position_of(places: &[(u32, u32)], tag: Tag, slot: Slot) -> Option<usize>
     ensures { IsPlaceOf result tag.0 slot.0 places.now }
 {
@@ -50,7 +51,7 @@ fn position_of(places: &[(u32, u32)], tag: Tag, slot: Slot) -> Option<usize>
     None
 }
 
-/// A right slot under this tag, if there is one.
+/// Returns a slot under this tag for which `is_right` holds, if there is one.
 fn find_more<F>(places: &[(u32, u32)], tag: Tag, is_right: &F) -> Option<Slot>
 where
     F: Fn(Slot) -> bool,
@@ -69,8 +70,8 @@ where
     None
 }
 
-/// Makes a map's places anew, where one more slot fits: takes a slot out by `retain`, which does that and takes no
-/// memory, and puts it in again.
+/// Rebuilds a map's places without memory, if it has room for one more slot. It removes a slot by
+/// `retain`, which rebuilds them, and inserts it again.
 fn refresh(map: &mut IndexMap<u32, u32>)
     ensures { (q : ℕ) → get nat_eq map.new q ≡ get nat_eq map.old q }
 {
@@ -89,7 +90,8 @@ fn refresh(map: &mut IndexMap<u32, u32>)
     map.insert(tag, slot).unwrap();
 }
 
-/// Room for two more slots, one to come and one for `refresh`, in a map that had room for so many when it last grew.
+/// Makes room for two more slots, one for the next insertion and one for `refresh`. `grown_to` is
+/// how many the map had room for when it last grew. Fails if memory is refused.
 fn make_room(map: &mut IndexMap<u32, u32>, grown_to: &mut usize) -> Result<(), NoMemory>
     ensures same { (q : ℕ) → get nat_eq map.new q ≡ get nat_eq map.old q }
     ensures room { OnOk result (2 ≤ spare map.new) }
@@ -107,7 +109,7 @@ fn make_room(map: &mut IndexMap<u32, u32>, grown_to: &mut usize) -> Result<(), N
 }
 
 impl Shard {
-    /// A shard in which no slot stands, with room for one.
+    /// Makes an empty shard with room for one slot. Fails if memory is refused.
     pub(crate) fn new(alloc: Global) -> Result<Shard, NoMemory>
         ensures first { IfOk result (λ s. s.first ≡ []) }
         ensures more { IfOk result (λ s. s.more ≡ []) }
@@ -123,7 +125,7 @@ impl Shard {
         Ok(shard)
     }
 
-    /// Room for one more slot. A refusal takes no slot from under its tag.
+    /// Makes room for one more slot. A refusal leaves all slots under their tags.
     pub(crate) fn reserve(&mut self) -> Result<(), NoMemory>
         ensures stands { (t s : ℕ) → stands_in self.new t s ≡ stands_in self.old t s }
         ensures room { OnOk result (self.new.has_room ≡ true) }
@@ -133,7 +135,7 @@ impl Shard {
         Ok(())
     }
 
-    /// Takes all slots out.
+    /// Removes all slots. The room stays.
     pub(crate) fn clear(&mut self)
         ensures first { self.new.first ≡ [] }
         ensures more { self.new.more ≡ [] }
@@ -143,7 +145,7 @@ impl Shard {
         self.more.clear();
     }
 
-    /// Whether this slot stands under this tag in the map.
+    /// Returns whether the map has this slot under this tag.
     fn is_first(&self, tag: Tag, slot: Slot) -> bool
         ensures { result ≡ is_first (lookup (nat_eq tag.0) self.now.first) slot.0 }
     {
@@ -153,7 +155,7 @@ impl Shard {
         }
     }
 
-    /// A right slot under this tag, if there is one.
+    /// Returns a slot under this tag for which `is_right` holds, if there is one.
     pub(crate) fn find<F>(&self, tag: Tag, is_right: &F) -> Option<Slot>
     where
         F: Fn(Slot) -> bool,
@@ -183,7 +185,7 @@ impl Shard {
         }
     }
 
-    /// Takes a slot from under its tag.
+    /// Removes a slot from under its tag.
     pub(crate) fn remove(&mut self, tag: Tag, slot: Slot)
         requires { 0 < stands_in self.old tag.0 slot.0 }
         ensures stands { (t s : ℕ) → stands_in self.new t s + one_at tag.0 slot.0 t s ≡ stands_in self.old t s }

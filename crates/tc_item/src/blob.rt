@@ -1,4 +1,4 @@
-//! Shared bytes: an item's data, which hits and the cache hold together.
+//! Shared bytes: an item's data, which hits and the cache hold together, and long keys.
 ghost use Rattle.std.specs.Prelude.{◌≡◌, ◌≤◌, [], length, IfOk, IsTrue, ◌↔◌};
 ghost use Rattle.std.specs.Str.{bytes_eq};
 ghost use Rattle.std.specs.Cmp.Rules.{comparing};
@@ -15,14 +15,14 @@ use std::sync::Arc;
 /// The most bytes that lie beside the count of their holders.
 const BESIDE: usize = 232;
 
-/// Bytes that many hold and none changes. Up to 232 lie in one block of memory with the count of
-/// their holders, of the least of six sizes in which they fit: to read them takes one way to memory,
-/// not two.
+/// Immutable bytes with many holders. Up to 232 of them lie in one block with the count of their
+/// holders, in the smallest of six sizes that fits. So reading them costs one access to memory, not
+/// two.
 pub struct Blob {
     shared: Shared,
 }
 
-/// The block that all holders share, by how many bytes it has room for.
+/// The block that all holders share, by the number of bytes that it has room for.
 #[derive(Drop)]
 enum Shared {
     UpTo8(Arc<ArrayVec<u8, 8>>),
@@ -58,7 +58,7 @@ impl fmt::Debug for Blob {
     }
 }
 
-/// A copy of these bytes beside the count of its holders.
+/// Copies the bytes into a block that also counts its holders.
 fn beside<const N: usize>(alloc: Global, bytes: &[u8]) -> Result<Arc<ArrayVec<u8, N>>, NoMemory>
     requires { length bytes.now ≤ N }
     ensures { IfOk result (λ shared. shared.value.items ≡ bytes.now) }
@@ -68,7 +68,7 @@ fn beside<const N: usize>(alloc: Global, bytes: &[u8]) -> Result<Arc<ArrayVec<u8
 }
 
 impl Blob {
-    /// These bytes. More than 232 are not copied.
+    /// Makes a blob of the bytes. Up to 232 are copied; more are taken over.
     pub fn new(alloc: Global, bytes: Vec<u8>) -> Result<Blob, NoMemory>
         ensures { IfOk result (λ b. b ≡ bytes.items) }
     {
@@ -79,7 +79,7 @@ impl Blob {
         Ok(Blob { shared })
     }
 
-    /// A copy of these bytes.
+    /// Copies the bytes.
     pub fn from_slice(alloc: Global, bytes: &[u8]) -> Result<Blob, NoMemory>
         ensures { IfOk result (λ b. b ≡ bytes.now) }
     {
@@ -95,7 +95,7 @@ impl Blob {
         Ok(Blob { shared })
     }
 
-    /// The bytes.
+    /// Returns the bytes.
     pub fn as_slice(&self) -> &[u8]
         ensures { result.now ≡ self.now }
     {
@@ -110,7 +110,7 @@ impl Blob {
         }
     }
 
-    /// How many bytes.
+    /// Returns the number of bytes.
     pub fn len(&self) -> usize
         ensures { result ≡ length self.now }
     {
@@ -124,7 +124,8 @@ impl Blob {
         self.len() == 0
     }
 
-    /// Reads the first byte and the last, which who reads all of them will wait for. What that comes to says nothing.
+    /// Reads the first byte and the last, so that a later reader of all need not wait for memory.
+    /// The result has no meaning.
     pub fn read_ends(&self) -> u64 {
         match self.as_slice() {
             [first, .., last] => u64::from(*first).wrapping_add(u64::from(*last)),
@@ -133,7 +134,7 @@ impl Blob {
         }
     }
 
-    /// The same bytes, held once more and not copied.
+    /// Returns another holder of the same bytes, which are not copied.
     #[inline(always)]
     pub fn copy(&self) -> Result<Blob, NoMemory>
         ensures { IfOk result (λ b. b ≡ self.now) }

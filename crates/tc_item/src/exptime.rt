@@ -1,11 +1,12 @@
-//! What an exptime of the protocol means.
+//! The meaning of an exptime of the protocol. Source: memcached's doc/protocol.txt, "Expiration
+//! times".
 ghost use Rattle.std.specs.Prelude.{◌≡◌};
 ghost use Rattle.tc_item.specs.Expiry.{due_of};
 
 use crate::{Due, LONGEST_OFFSET, Moment};
 
-/// The due of an exptime: 0 is never, a negative one is now, up to thirty days is so long from
-/// the moment handed in, and above is that second since 1970.
+/// Returns the due of an exptime. 0 is never and a negative one is `now`. Up to 2,592,000 (thirty
+/// days) counts seconds from `now`; above that it is a second since 1970.
 pub fn due(exptime: i64, now: Moment) -> Due
     ensures { result ≡ due_of exptime now }
 {

@@ -1,4 +1,4 @@
-//! Lists of few items, which take no memory for none or one, unless room was made for more.
+//! Short lists. A list of at most one item takes no memory of its own.
 ghost use Rattle.std.specs.Prelude.{◌≡◌, ◌∷◌, ◌++◌, [], length, IfOk, OnOk, OnErr, IsTrue, ◌↔◌, Decides};
 ghost use Rattle.std.specs.Cmp.Lexicographic.{pointwise, lists_per, lists_equiv};
 
@@ -8,20 +8,21 @@ use std::fmt;
 use std::marker::Model;
 use std::sync::Arc;
 
-/// What can be copied where there is memory.
+/// A type whose values can be copied if there is memory.
 pub trait TryCopy: Drop {
-    /// An equal value.
+    /// Returns an equal value.
     fn try_copy(&self, alloc: Global) -> Result<Self, NoMemory>
         ensures { IfOk result (λ copied. copied ≡ self.now) };
 }
 
-/// Items in order; an item may stand twice. Copies of many share one list.
+/// Items in order, duplicates allowed. Copies of a list of several items share one vector.
 #[derive(Drop)]
 pub struct Few<T> {
     held: Repr<T>,
 }
 
-/// Most lists have one item, so one alone is kept in place, in an array that is lent as a slice.
+/// Most lists have one item, so a single item lies in place, in an array that can be borrowed as a
+/// slice.
 #[derive(Drop)]
 enum Repr<T> {
     Nothing,
@@ -38,7 +39,7 @@ impl<T> Model for Few<T> {
     ghost view = { λ f. items_held f.held };
 }
 
-/// Equal items and one more, with room for others.
+/// Returns copies of `items` followed by `item`, with room for seven more.
 fn lengthened<T: TryCopy>(alloc: Global, items: &[T], item: T) -> Result<Arc<Vec<T>>, NoMemory>
     ensures { IfOk result (λ shared. shared.value.items ≡ items.now ++ item ∷ []) }
 {
@@ -50,7 +51,7 @@ fn lengthened<T: TryCopy>(alloc: Global, items: &[T], item: T) -> Result<Arc<Vec
     Ok(Arc::new(alloc, copied)?)
 }
 
-/// Puts an item behind those of a list. Whoever shares the list keeps it as it was.
+/// Appends an item. Other holders of the vector keep it unchanged.
 fn push_shared<T: TryCopy>(alloc: Global, shared: &mut Arc<Vec<T>>, item: T) -> Result<(), NoMemory>
     ensures pushed { OnOk result (shared.new.value.items ≡ shared.old.value.items ++ item ∷ []) }
     ensures unchanged_on_err { OnErr result (shared.new.value.items ≡ shared.old.value.items) }
@@ -63,7 +64,7 @@ fn push_shared<T: TryCopy>(alloc: Global, shared: &mut Arc<Vec<T>>, item: T) -> 
 }
 
 impl<T> Few<T> {
-    /// No items.
+    /// Returns the empty list.
     pub fn new() -> Few<T>
         ensures { result ≡ [] }
     {
@@ -72,7 +73,7 @@ impl<T> Few<T> {
         }
     }
 
-    /// One item.
+    /// Returns the list of one item.
     pub fn one(item: T) -> Few<T>
         ensures { result ≡ item ∷ [] }
     {
@@ -81,21 +82,21 @@ impl<T> Few<T> {
         }
     }
 
-    /// How many items.
+    /// Returns the number of items.
     pub fn len(&self) -> usize
         ensures { result ≡ length self.now }
     {
         self.as_slice().len()
     }
 
-    /// Whether there is no item.
+    /// Whether the list is empty.
     pub fn is_empty(&self) -> bool
         ensures { IsTrue result ↔ (self.now ≡ []) }
     {
         self.len() == 0
     }
 
-    /// The items, in order.
+    /// Returns the items, in order.
     pub fn as_slice(&self) -> &[T]
         ensures { result.now ≡ self.now }
     {
@@ -108,7 +109,7 @@ impl<T> Few<T> {
 }
 
 impl<T: TryCopy> Few<T> {
-    /// The items of a list, which are not copied.
+    /// Takes over the items of a vector without copying them.
     pub fn from_vec(alloc: Global, mut items: Vec<T>) -> Result<Few<T>, NoMemory>
         ensures { IfOk result (λ few. few ≡ items.items) }
     {
@@ -124,7 +125,7 @@ impl<T: TryCopy> Few<T> {
         }
     }
 
-    /// Puts an item at the end. Where memory is refused the items are as they were.
+    /// Appends an item. If memory is refused, the list is unchanged.
     pub fn push(&mut self, alloc: Global, item: T) -> Result<(), NoMemory>
         ensures pushed { OnOk result (self.new ≡ self.old ++ item ∷ []) }
         ensures unchanged_on_err { OnErr result (self.new ≡ self.old) }
@@ -140,7 +141,7 @@ impl<T: TryCopy> Few<T> {
         Ok(())
     }
 
-    /// Equal items in the same order.
+    /// Returns an equal list. Several items are shared, a single one is copied.
     pub fn copy(&self, alloc: Global) -> Result<Few<T>, NoMemory>
         ensures { IfOk result (λ few. few ≡ self.now) }
     {
@@ -153,7 +154,7 @@ impl<T: TryCopy> Few<T> {
     }
 }
 
-/// Where `==` of two items says whether they are the same, so does `==` of two lists.
+/// If `==` decides equality of items, it decides equality of lists.
 impl<T: PartialEq> PartialEq for Few<T> {
     ghost eq = { pointwise T.eq };
 

@@ -1,14 +1,14 @@
-//! A due, as an item keeps it.
+//! A due in the form that an item keeps.
 ghost use Rattle.std.specs.Prelude.{◌≡◌};
 
 use crate::Due;
 use std::marker::Model;
 use std::mem::size_of;
 
-/// How many seconds one of the high word stands for.
+/// The seconds that one of the high word counts for.
 const LOW: u64 = 1 << 32;
 
-/// A due in 12 bytes, so that an entry has 64; a `Due` alone has 16.
+/// A due in 12 bytes, so that an entry has 64. A plain `Due` has 16.
 #[derive(Drop)]
 pub struct KeptDue {
     high: u32,
@@ -46,7 +46,7 @@ impl KeptDue {
         }
     }
 
-    /// The due.
+    /// Returns the due.
     pub fn get(&self) -> Due
         ensures { result ≡ self.now }
     {
@@ -57,7 +57,7 @@ impl KeptDue {
         }
     }
 
-    /// The same due.
+    /// Returns the same due.
     pub fn copy(&self) -> KeptDue
         ensures { result ≡ self.now }
     {

@@ -1,4 +1,4 @@
-//! Keys: 1 to 250 bytes, any but 0 to 32 and 127.
+//! Keys: 1 to 250 bytes, none of them 0 to 32 or 127.
 ghost use Rattle.std.specs.Prelude.{◌≡◌, ◌<◌, ◌≤◌, ◌∷◌, [], length, IfOk, IfSome, IsNone, IsOkUnless};
 ghost use Rattle.std.specs.Prelude.{IsTrue, Err};
 ghost use Rattle.std.specs.List.{list_all};
@@ -23,7 +23,8 @@ use std::hash::{Hash, Hasher};
 use std::marker::Model;
 use std::mem::size_of;
 
-/// Why bytes are no key, in the order in which the reasons are looked for; or memory was refused.
+/// Why bytes are no key: the first reason in this order. `NoMemory` comes only for bytes that are a
+/// key.
 #[derive(Clone, Copy, Debug, PartialEq, Eq)]
 pub enum KeyFault {
     Empty,
@@ -53,16 +54,17 @@ impl From<NoMemory> for KeyFault {
     }
 }
 
-/// What an item is stored under. Up to 22 bytes are kept in place, and copied all at once; more are
-/// shared by all copies. Beside up to 14 bytes there is room for their hash, which is made with the key.
+/// The name under which an item is stored. Up to 22 bytes lie in place and are copied whole; copies
+/// of a longer key share its bytes. A key of up to 14 bytes keeps its hash, computed when the key
+/// is made.
 #[derive(Drop)]
 pub struct Key {
     bytes: KeyBytes,
 }
 
-/// A key's bytes: in place, of which the first so many are the key's, the few with their hash behind them; or shared
-/// with its copies. How many are the key's stands before them. So they begin at an even place, and are copied in
-/// pieces that do not overlap.
+/// A key's bytes. Short ones lie at the front of an array that is 0 behind them, and up to 14 have
+/// their hash behind the array. Long ones are shared with the key's copies. The length precedes the
+/// array. So the array begins at an even offset, and is copied in pieces that do not overlap.
 #[derive(Drop)]
 enum KeyBytes {
     Hashed(u8, [u8; BESIDE_HASH], u64),
@@ -83,7 +85,7 @@ impl Model for Key {
     ghost invariant = { λ k. IsKept k.bytes };
 }
 
-/// Whether bytes are a key.
+/// Whether these bytes are a key (`specs/KeyRule.antt`).
 pub fn is_key(bytes: &[u8]) -> bool
     ensures { result ≡ is_key bytes.now }
 {
@@ -91,7 +93,7 @@ pub fn is_key(bytes: &[u8]) -> bool
 }
 
 impl KeyBytes {
-    /// These bytes, in place, and their hash.
+    /// Keeps up to 14 bytes in place, with their hash.
     fn hashed(bytes: &[u8]) -> KeyBytes
         requires { length bytes.now ≤ 14 }
         ensures held { bytes_held result ≡ bytes.now }
@@ -102,7 +104,7 @@ impl KeyBytes {
         KeyBytes::Hashed(bytes.len() as u8, place, hash(bytes))
     }
 
-    /// These bytes, in place.
+    /// Keeps up to 22 bytes in place.
     fn short(bytes: &[u8]) -> KeyBytes
         requires { length bytes.now ≤ 22 }
         ensures held { bytes_held result ≡ bytes.now }
@@ -113,7 +115,7 @@ impl KeyBytes {
         KeyBytes::Short(bytes.len() as u8, place)
     }
 
-    /// The bytes.
+    /// Returns the key's bytes.
     fn as_slice(&self) -> &[u8]
         requires { IsInPlace self.now }
         ensures { result.now ≡ bytes_held self.now }
@@ -125,7 +127,7 @@ impl KeyBytes {
         }
     }
 
-    /// The hash of the bytes.
+    /// Returns the hash of the key's bytes.
     fn hash(&self) -> u64
         requires { IsInPlace self.now }
         ensures { result ≡ hash (bytes_held self.now) }
@@ -136,7 +138,7 @@ impl KeyBytes {
         }
     }
 
-    /// Whether these are the same bytes.
+    /// Whether the bytes are equal.
     #[inline(always)]
     fn is_same(&self, other: &KeyBytes) -> bool
         requires one { IsInPlace self.now }
@@ -155,7 +157,7 @@ impl KeyBytes {
 }
 
 impl Key {
-    /// The key of these bytes, or the first reason why they are none.
+    /// Returns the key of these bytes, or the first reason why they are none.
     pub fn new(alloc: Global, bytes: &[u8]) -> Result<Key, KeyFault>
         ensures key { IfOk result (λ k. k ≡ bytes.now) }
         ensures refused { IfSome (key_fault bytes.now) (λ fault. result ≡ Err fault) }
@@ -173,7 +175,7 @@ impl Key {
         Ok(Key::from_key_bytes(alloc, bytes)?)
     }
 
-    /// The key of bytes that are known to be one.
+    /// Returns the key of bytes that the caller knows to be one.
     pub fn from_key_bytes(alloc: Global, bytes: &[u8]) -> Result<Key, NoMemory>
         requires { IsTrue (is_key bytes.now) }
         ensures { IfOk result (λ k. k ≡ bytes.now) }
@@ -186,7 +188,7 @@ impl Key {
         Ok(Key { bytes })
     }
 
-    /// The key's bytes.
+    /// Returns the 1 to 250 bytes of the key.
     pub fn as_bytes(&self) -> &[u8]
         ensures bytes { result.now ≡ self.now }
         ensures good { IsTrue (is_key self.now) }
@@ -196,14 +198,15 @@ impl Key {
         self.bytes.as_slice()
     }
 
-    /// The hash of the key's bytes, by which it is counted (`hash`). Of up to 14 bytes it is at hand.
+    /// Returns the key's FNV-1a hash (`hash`). A key of up to 14 bytes keeps it; for a longer one
+    /// it is computed at each call.
     pub fn fnv_hash(&self) -> u64
         ensures { result ≡ hash self.now }
     {
         self.bytes.hash()
     }
 
-    /// An equal key.
+    /// Returns an equal key, which shares bytes that are not in place.
     #[inline(always)]
     pub fn copy(&self, _alloc: Global) -> Result<Key, NoMemory>
         ensures { IfOk result (λ k. k ≡ self.now) }
@@ -223,7 +226,7 @@ impl TryCopy for Key {
     }
 }
 
-/// Keys in order; a key may stand twice.
+/// Keys in order, duplicates allowed.
 pub type Keys = Few<Key>;
 
 impl PartialEq for Key {
@@ -241,7 +244,7 @@ impl Eq for Key {
     ghost laws = { Prim.search (comparing, rules) };
 }
 
-/// A hasher is fed all bytes of a key in one write.
+/// A hasher receives all bytes of a key in one write.
 impl Hash for Key {
     ghost hash_input = { λ k. k ∷ [] };
 
@@ -252,7 +255,7 @@ impl Hash for Key {
     }
 }
 
-/// The key as text, or its bytes where they are none.
+/// The key as text, or its bytes if they are not UTF-8.
 impl fmt::Debug for Key {
     fn fmt<W: fmt::Write>(&self, f: &mut fmt::Formatter<W>) -> fmt::Result {
         match str::from_utf8(self.as_bytes()) {

@@ -1,4 +1,5 @@
-//! Which bytes may stand in a key: any but 0 to 32 and 127. Source: memcached's doc/protocol.txt, 'Keys'.
+//! Which bytes a key may have: any but 0 to 32 and 127. Source: memcached's doc/protocol.txt,
+//! "Keys".
 ghost use Rattle.std.specs.Prelude.{◌≡◌, ◌==◌, if◌then◌else◌, ◌+◌, ◌<◌, ◌≤◌, length, take, drop};
 ghost use Rattle.std.specs.List.{list_all, prefix_len};
 ghost use Rattle.std.specs.Int.{w64, trailing_zeros};
@@ -6,7 +7,7 @@ ghost use Rattle.tc_item.specs.KeyRule.{is_key_byte};
 
 use std::simd::prelude::*;
 
-/// How many bytes are looked at together.
+/// The width of a full step, in bytes.
 const LANES: usize = 16;
 
 fn is_key_byte(byte: u8) -> bool
@@ -15,10 +16,10 @@ fn is_key_byte(byte: u8) -> bool
     byte > b' ' && byte != 127
 }
 
-/// How many are looked at together where there are fewer than `LANES`.
+/// The width of a step over fewer than `LANES` bytes.
 const HALF_LANES: usize = 8;
 
-/// The place of the lowest bit that is set, or how many lanes there are.
+/// Returns the position of the lowest set bit, or `lanes` if no bit is set.
 #[inline(always)]
 fn lowest_set(mask: u64, lanes: usize) -> usize
     ensures { result ≡ (if mask == 0 then lanes else trailing_zeros w64 mask) }
@@ -30,7 +31,7 @@ fn lowest_set(mask: u64, lanes: usize) -> usize
     }
 }
 
-/// How many of the 16 bytes from a place on stand before the first that may not stand in a key.
+/// Of the 16 bytes from `at` on, counts those before the first that no key may have.
 #[inline(always)]
 fn run_in_lanes(bytes: &[u8], at: usize) -> usize
     requires { at + 16 ≤ length bytes.now }
@@ -42,7 +43,7 @@ fn run_in_lanes(bytes: &[u8], at: usize) -> usize
     lowest_set(stops.to_bitmask(), LANES)
 }
 
-/// The same of 8 bytes.
+/// Of the 8 bytes from `at` on, counts those before the first that no key may have.
 #[inline(always)]
 fn run_in_half(bytes: &[u8], at: usize) -> usize
     requires { at + 8 ≤ length bytes.now }
@@ -54,7 +55,7 @@ fn run_in_half(bytes: &[u8], at: usize) -> usize
     lowest_set(stops.to_bitmask(), HALF_LANES)
 }
 
-/// The same of few bytes, one by one.
+/// Counts the bytes before the first that no key may have, one by one.
 fn run_of_few(bytes: &[u8]) -> usize
     ensures value { result ≡ prefix_len is_key_byte bytes.now }
     ensures within { result ≤ length bytes.now }
@@ -67,7 +68,7 @@ fn run_of_few(bytes: &[u8]) -> usize
     bytes.len()
 }
 
-/// The same of fewer than 16 bytes. Of 8 or more the last 8 may overlap the first.
+/// Counts the same in fewer than 16 bytes. From 8 bytes on, the last 8 may overlap the first 8.
 fn run_in_tail(bytes: &[u8]) -> usize
     requires { length bytes.now < 16 }
     ensures value { result ≡ prefix_len is_key_byte bytes.now }
@@ -84,7 +85,7 @@ fn run_in_tail(bytes: &[u8]) -> usize
     last + run_in_half(bytes, last)
 }
 
-/// How many bytes stand before the first that may not stand in a key.
+/// Returns the number of bytes before the first that no key may have.
 pub fn key_run(bytes: &[u8]) -> usize
     ensures value { result ≡ prefix_len is_key_byte bytes.now }
     ensures within { result ≤ length bytes.now }
@@ -100,7 +101,7 @@ pub fn key_run(bytes: &[u8]) -> usize
     at + run_in_tail(&bytes[at..])
 }
 
-/// Whether all bytes may stand in a key, where there are 8 to 16. The last 8 may overlap the first.
+/// Whether a key may have all of these 8 to 16 bytes. The last 8 may overlap the first 8.
 fn are_few_key_bytes(bytes: &[u8]) -> bool
     requires least { 8 ≤ length bytes.now }
     requires most { length bytes.now ≤ 16 }
@@ -110,7 +111,7 @@ fn are_few_key_bytes(bytes: &[u8]) -> bool
         && run_in_half(bytes, bytes.len() - HALF_LANES) == HALF_LANES
 }
 
-/// Whether all bytes may stand in a key, where there are 16 or more. The last 16 overlap those before.
+/// Whether a key may have all of these 16 or more bytes. The last 16 may overlap the ones before.
 fn are_many_key_bytes(bytes: &[u8]) -> bool
     requires { 16 ≤ length bytes.now }
     ensures { result ≡ list_all is_key_byte bytes.now }
@@ -125,7 +126,7 @@ fn are_many_key_bytes(bytes: &[u8]) -> bool
     run_in_lanes(bytes, bytes.len() - LANES) == LANES
 }
 
-/// Whether all bytes may stand in a key.
+/// Whether a key may have all of these bytes. Empty text passes.
 pub(crate) fn are_key_bytes(bytes: &[u8]) -> bool
     ensures { result ≡ list_all is_key_byte bytes.now }
 {

@@ -1,12 +1,12 @@
-//! Keys, items and moments: what one user's cache holds, and how long.
+//! Keys, items and moments: what one user's cache holds, and until when.
 //!
-//! A `Key` is seen as its bytes and is always 1 to 250 of them (`specs/KeyRule.antt`); `Few` is
-//! seen as the list of its items, and so `Keys`, its keys; `Blob` as its bytes, `Moment` as its
-//! seconds, always below 2^40, `KeptDue` as the `Due` that it keeps. `exptime::due`, `alive` and
-//! `weight` give what `specs/Expiry.antt` and `specs/Weight.antt` define; their contracts are those
-//! equations. A `Slot` is a number alone.
-//! `NoMemory` is the one error of a refused growth, and a `TryCopy` equals what it copies. No
-//! clause speaks of capacity or of where a key's bytes lie.
+//! Contracts see a `Key` as its 1 to 250 bytes (`specs/KeyRule.antt`), a `Few` and so `Keys` as the
+//! list of its items, and a `Blob` as its bytes. They see a `Moment` as its seconds, below 2^40,
+//! and a `KeptDue` as the `Due` that it keeps. A `Slot` is a bare number.
+//!
+//! `exptime::due` and `alive` return what `specs/Expiry.antt` defines, and `weight` what
+//! `specs/Weight.antt` defines. `NoMemory` is the one error of a refused allocation. A copy by
+//! `TryCopy` equals its original. No clause mentions capacity or where a key's bytes lie.
 #![tactic(auto)]
 
 mod blob;

@@ -1,4 +1,4 @@
-//! Moments, and until when an item is alive.
+//! Moments, and the due of an item.
 ghost use Rattle.std.specs.Prelude.{◌≡◌, ◌<◌, ◌≤◌, max, MatchOption};
 ghost use Rattle.tc_item.specs.Bounds.{moment_limit};
 ghost use Rattle.tc_item.specs.Expiry.{is_before};
@@ -6,7 +6,7 @@ ghost use Rattle.tc_item.specs.Expiry.{is_before};
 use crate::MOMENT_LIMIT;
 use std::marker::Model;
 
-/// A moment: whole seconds since 1970 (Unix time), below 2^40.
+/// A time: whole seconds since 1970 (Unix time), below 2^40.
 #[derive(Clone, Copy, Debug, PartialEq, Eq, PartialOrd, Ord, Hash)]
 pub struct Moment {
     seconds: u64,
@@ -29,12 +29,12 @@ impl Moment {
     /// The moment 0, at which a clock starts.
     pub const FIRST: Moment = Moment { seconds: 0 };
 
-    /// The greatest moment, 2^40 - 1.
+    /// The latest moment, 2^40 - 1.
     pub const LAST: Moment = Moment {
         seconds: MOMENT_LIMIT - 1,
     };
 
-    /// The moment of so many seconds.
+    /// Returns the moment of this many seconds since 1970.
     pub fn new(seconds: u64) -> Moment
         requires { seconds < moment_limit }
         ensures { result ≡ seconds }
@@ -42,7 +42,7 @@ impl Moment {
         Moment { seconds }
     }
 
-    /// The moment of so many seconds, where they are below 2^40.
+    /// Returns the moment of this many seconds; `None` from 2^40 on.
     pub fn try_new(seconds: u64) -> Option<Moment>
         ensures { MatchOption result (moment_limit ≤ seconds) (λ m. m ≡ seconds) }
     {
@@ -53,7 +53,7 @@ impl Moment {
         }
     }
 
-    /// The seconds since 1970.
+    /// Returns the seconds since 1970.
     pub fn seconds(self) -> u64
         ensures seconds { result ≡ self }
         ensures bounded { result < moment_limit }
@@ -61,7 +61,7 @@ impl Moment {
         self.seconds
     }
 
-    /// The later of two moments.
+    /// Returns the later of two moments.
     pub fn later(self, other: Moment) -> Moment
         ensures { result ≡ max self other }
     {
@@ -69,7 +69,7 @@ impl Moment {
     }
 }
 
-/// Until when an item is alive: for ever, or before a second since 1970.
+/// Until when an item is alive: for ever, or before this second since 1970.
 #[derive(Clone, Copy, Debug, PartialEq, Eq)]
 pub enum Due {
     Never,
@@ -77,7 +77,7 @@ pub enum Due {
 }
 
 impl Due {
-    /// Whether a moment is before this due.
+    /// Whether `moment` is before this due, so that the item is alive then.
     pub fn is_after(self, moment: Moment) -> bool
         ensures { result ≡ is_before moment self }
     {

@@ -1,10 +1,11 @@
-//! The one error of a refused growth.
+//! The one error of a refused allocation.
 
 use std::alloc::{AllocError, AllocFailed};
 use std::error::Error;
 use std::fmt;
 
-/// The allocator refused memory. What was to be changed is as it was.
+/// The allocator refused memory. What the call would have changed is as it was, unless the call
+/// says otherwise.
 #[derive(Clone, Copy, Debug, PartialEq, Eq)]
 pub struct NoMemory;
 

@@ -1,24 +1,24 @@
-//! The place of a short key's bytes, as it is compared with another: whole, sixteen or eight bytes at a time, since
-//! behind the bytes each is 0.
+//! Compares short keys in place: 16 or 8 bytes at a time, over the whole array, since all bytes
+//! behind the key's are 0.
 ghost use Rattle.std.specs.Prelude.{◌≡◌, ◌+◌, ◌≤◌, length, take, drop};
 ghost use Rattle.std.specs.Str.{bytes_eq};
 ghost use Rattle.tc_item.specs.KeyBytes.{IsFilled};
 
 use std::simd::prelude::*;
 
-/// The most bytes of a key that are kept in place.
+/// The most bytes of a key that lie in place.
 pub(crate) const IN_PLACE: usize = 22;
 
-/// The most that are kept in place beside their hash.
+/// The most bytes that lie in place beside their hash.
 pub(crate) const BESIDE_HASH: usize = 14;
 
-/// How many bytes are compared together.
+/// The width of a full comparison, in bytes.
 const LANES: usize = 16;
 
-/// How many are compared together where there are fewer.
+/// The width of a comparison in arrays too short for `LANES`, in bytes.
 const HALF_LANES: usize = 8;
 
-/// Whether the 16 bytes from a place on are the same.
+/// Whether the 16 bytes from `at` on are equal.
 fn are_same_lanes(one: &[u8], other: &[u8], at: usize) -> bool
     requires one { at + 16 ≤ length one.now }
     requires other { at + 16 ≤ length other.now }
@@ -29,7 +29,7 @@ fn are_same_lanes(one: &[u8], other: &[u8], at: usize) -> bool
     one.simd_ne(other).to_bitmask() == 0
 }
 
-/// The same of 8 bytes.
+/// Whether the 8 bytes from `at` on are equal.
 fn are_same_half(one: &[u8], other: &[u8], at: usize) -> bool
     requires one { at + 8 ≤ length one.now }
     requires other { at + 8 ≤ length other.now }
@@ -40,7 +40,7 @@ fn are_same_half(one: &[u8], other: &[u8], at: usize) -> bool
     one.simd_ne(other).to_bitmask() == 0
 }
 
-/// Whether the bytes of two places of 14 are the same, each so many. The last 8 overlap the first.
+/// Whether two keys of up to 14 bytes are equal. The last 8 bytes overlap the first 8.
 pub(crate) fn are_same_few(
     one: &[u8; BESIDE_HASH],
     one_length: u8,
@@ -57,7 +57,7 @@ pub(crate) fn are_same_few(
     are_same_half(one, other, 0) && are_same_half(one, other, BESIDE_HASH - HALF_LANES)
 }
 
-/// Whether the bytes of two places of 22 are the same, each so many. The last 16 overlap the first.
+/// Whether two keys of up to 22 bytes are equal. The last 16 bytes overlap the first 16.
 pub(crate) fn are_same_many(
     one: &[u8; IN_PLACE],
     one_length: u8,

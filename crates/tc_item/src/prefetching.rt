@@ -1,10 +1,9 @@
-//! Reads ahead of use. Where memory is to be waited for again and again, reads that nothing stands
-//! between wait for it together.
+//! Reads memory ahead of use, so that independent reads wait for it together.
 use std::sync::atomic::{AtomicU64, Ordering};
 
-/// Takes what reads came to, and does nothing with it but what keeps a compiler from leaving them out: whether an
-/// atomic of its own is changed hangs on it. It hardly ever is. A processor guesses so, and goes on before the
-/// reads are done, where a change would have it wait for them all.
+/// Consumes the sum of reads, so that the compiler keeps them. One rare sum makes it change a local
+/// atomic. The processor predicts that it does not, and goes on before the reads are done. An
+/// unconditional change would make it wait for all of them.
 pub fn have_read(sum: u64) {
     if sum == u64::MAX {
         AtomicU64::new(0).fetch_add(sum, Ordering::SeqCst);

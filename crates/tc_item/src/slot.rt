@@ -1,5 +1,5 @@
-//! A number for each held item.
+//! The number of a held item.
 
-/// A place in one user's table of entries, counted from 0.
+/// An index into one user's table of entries, from 0.
 #[derive(Clone, Copy, PartialEq, Eq)]
 pub struct Slot(pub usize);

@@ -8,7 +8,8 @@ use std::hash::RandomState;
 use tc_item::NoMemory;
 use tc_users::Users;
 
-/// An empty cache of the kind for each user, in the order of the users' numbers.
+/// Makes an empty cache of the kind for each user, in the order of the users' numbers. All hash by
+/// `hasher`. Fails if memory is refused.
 pub fn begin_all<C: Kind>(
     alloc: Global,
     users: &Users,

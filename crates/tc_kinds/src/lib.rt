@@ -1,8 +1,10 @@
-//! The kinds of cache that users can begin with: the plain one, and the fast one.
+//! The kinds of cache that users can begin with: the reference (`Plain`) and the served one
+//! (`Fast`).
 //!
-//! A kind (`Kind`) is a cache that can begin empty; `begin_all` makes one of it for each user. Both say
-//! that what begins is the definition's (`fresh_cache` in tc_fresh's `specs/Beginning.antt`), so whatever
-//! runs over caches runs over either kind, from the same states. Neither says that there is memory.
+//! A kind (`Kind`) is a cache that can begin empty, and `begin_all` makes one for each user. The
+//! contracts of both say that the cache is the definition's (`fresh_cache` in
+//! `specs/Beginning.antt` of tc_fresh). So code over caches runs over either kind, from the same
+//! states. No clause says that memory suffices.
 #![tactic(auto)]
 
 mod begin;

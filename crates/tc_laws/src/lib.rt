@@ -1,10 +1,12 @@
-//! What a server that listens says to a user's connections is what the machine of that user alone says.
+//! A listening server tells a user's connections what the machine of that user alone tells them.
 //!
-//! A crate with no code that runs: its function is a theorem over what `tc_workers` says of connections
-//! and `tc_locked` of books. The machine is that of `tc_core`, by which `run` is promised; what is said of
-//! it here is `specs/Retelling.antt`. The proof merges the moves of all connections into one list in the
-//! order of the book's calls (`proofs/Merging.antt`), and has the machine of the one user make them
-//! (`Running.antt`, `Alone.antt`).
+//! No code of this crate runs. `retelling` is a theorem over what `tc_workers` states about
+//! connections and `tc_locked` about books. The machine is that of `tc_core`, about which `run`
+//! makes its promise. `specs/Retelling.antt` has the statement.
+//!
+//! The proof merges the moves of all connections into one list in the order of the book's calls
+//! (`proofs/Merging.antt`). It has the machine of the one user make them (`Running.antt`,
+//! `Alone.antt`).
 #![tactic(auto)]
 
 mod laws;

@@ -1,12 +1,12 @@
-//! Where a server is to listen.
+//! The addresses that a server listens on.
 ghost use Rattle.std.specs.Prelude.{◌≡◌, IfOk};
 
 use std::alloc::Global;
 use std::marker::Model;
 use tc_item::NoMemory;
 
-/// An address and a port to listen on, as they are written in the settings. Any text is one here:
-/// what it means is found when it is listened on.
+/// An address and a port to listen on, as the settings have them. Any text is an `Address`: only
+/// listening shows whether it is valid.
 #[derive(Drop)]
 pub struct Address {
     text: String,
@@ -21,7 +21,7 @@ impl Model for Address {
 }
 
 impl Address {
-    /// A copy of this text.
+    /// Copies the text.
     pub fn copy(alloc: Global, text: &str) -> Result<Address, NoMemory>
         ensures { IfOk result (λ address. address ≡ text.now) }
     {
@@ -29,7 +29,7 @@ impl Address {
         Ok(Address { text })
     }
 
-    /// The text.
+    /// Returns the text.
     pub fn as_str(&self) -> &str
         ensures { result.now ≡ self.now }
     {

@@ -1,7 +1,8 @@
-//! Where a server listens and what its connections may come to, as values: `tc_settings` reads them from a text,
-//! `tc_connections` and `tc_net` go by them and know of no text.
+//! The addresses that a server listens on and the limits on its connections, as values.
+//! `tc_settings` reads them from a text. `tc_connections` and `tc_net` use them and know of no
+//! text.
 //!
-//! An `Address` is seen as its text, `LimitsByUser` as the list of users' limits.
+//! Contracts see an `Address` as its text, and `LimitsByUser` as the list of users' limits.
 #![tactic(auto)]
 
 mod address;

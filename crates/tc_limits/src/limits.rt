@@ -1,27 +1,30 @@
-//! The limits on connections.
+//! Limits on connections.
 ghost use Rattle.std.specs.Prelude.{◌≡◌};
 ghost use Rattle.tc_model.specs.Connection.{user_at};
 
 use std::marker::Model;
 use tc_users::UserNo;
 
-/// The limits on all connections. `None` is no limit.
+/// The limits on all connections. `None` means no limit.
 #[derive(Clone, Copy, PartialEq, Eq)]
 pub struct ConnectionLimits {
-    /// A connection that has not logged in after so many seconds is closed.
+    /// The server closes a connection that goes without a login for more than this many seconds.
     pub login_seconds: Option<u32>,
-    /// A connection that takes no byte of what waits for it for so many seconds is closed.
+    /// The server closes a connection whose peer takes none of its waiting output for more than
+    /// this many seconds.
     pub stalled_seconds: Option<u32>,
-    /// So many connections may be open that have not logged in; for a further one the oldest goes.
+    /// At most this many connections may be open without a login. For one more, the server closes
+    /// the oldest of them.
     pub unbound_connections: Option<u32>,
 }
 
-/// The limits on one user's connections. `None` is no limit.
+/// The limits on one user's connections. `None` means no limit.
 #[derive(Clone, Copy, PartialEq, Eq)]
 pub struct UserLimits {
-    /// So many connections of the user may be open.
+    /// At most this many connections of the user may be open.
     pub connections: Option<u32>,
-    /// A connection of the user that asks for nothing for so many seconds is closed.
+    /// The server closes a connection of the user that sends no byte for more than this many
+    /// seconds.
     pub idle_seconds: Option<u32>,
 }
 
@@ -41,14 +44,14 @@ impl Model for LimitsByUser {
 }
 
 impl LimitsByUser {
-    /// These limits, in this order.
+    /// Takes over the limits of all users, in the order of their numbers.
     pub fn new(rows: Vec<UserLimits>) -> LimitsByUser
         ensures { result ≡ rows.items }
     {
         LimitsByUser { rows }
     }
 
-    /// The limits of a user; `None` where there is no such user.
+    /// Returns the limits of a user; `None` if no user has that number.
     pub fn of(&self, user: UserNo) -> Option<UserLimits>
         ensures { result ≡ user_at self.now user }
     {

@@ -3,19 +3,22 @@ use crate::pace::Pace;
 use tc_fairness::LEAST_OUT;
 use tc_item::Moment;
 
-/// Whose it was for the deal, the moment to which that user's cache was maintained, and with how many
-/// bytes that wait to be sent it is not full yet, and whether it is read. Its requests are done at that
-/// moment.
+/// A connection's admission to a turn.
 #[derive(Clone, Copy, PartialEq, Eq)]
 pub struct Admitted {
+    /// The user whose account the connection was on; 0 before its login.
     pub user: usize,
+    /// The moment to which that user's cache was maintained. The connection's requests are done at
+    /// it.
     pub now: Moment,
+    /// The connection is full with more than this many bytes that wait to be sent.
     pub most_out: usize,
+    /// Whether the connection may read.
     pub is_read: bool,
 }
 
 impl Admitted {
-    /// Before the first turn.
+    /// The admission before the first turn.
     pub fn not_yet() -> Admitted {
         Admitted {
             user: 0,
@@ -25,7 +28,8 @@ impl Admitted {
         }
     }
 
-    /// How far a connection comes that reads nothing: one that waits for others of its user is tried again.
+    /// Returns the pace of a connection that reads nothing. One that waits for others of its user
+    /// tries again.
     pub fn pace_unread(&self) -> Pace {
         if self.is_read {
             Pace::Rests

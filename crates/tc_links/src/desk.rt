@@ -5,8 +5,8 @@ use std::marker::Model;
 use tc_locked::{Naming, Refusals, Seat};
 use tc_session::Declined;
 
-/// A seat of the hall N, the calls that the hall refused it, and the requests that were declined, seen as
-/// these.
+/// A seat of the hall N, the calls that the hall refused it, and the requests that were declined.
+/// Contracts see these three.
 #[derive(Drop)]
 pub struct Desk<N: Naming> {
     pub seat: Seat<N>,
@@ -23,7 +23,7 @@ impl<N: Naming> Model for Desk<N> {
 }
 
 impl<N: Naming> Desk<N> {
-    /// A desk at which no call was refused, and no request declined.
+    /// Makes a desk with no refused call and no declined request.
     pub fn new(seat: Seat<N>) -> Desk<N>
         ensures { result ≡ record { seat = seat; refused = []; declined = [] } }
     {
@@ -34,7 +34,7 @@ impl<N: Naming> Desk<N> {
         }
     }
 
-    /// Its seat.
+    /// Returns its seat.
     pub fn into_seat(self) -> Seat<N>
         ensures { result ≡ self.seat }
     {

@@ -1,11 +1,11 @@
-//! What a connection is to the accounts of its worker.
+//! What a worker's accounts know of a connection.
 
 use tc_fairness::{Backlog, Part};
 
-/// Whose a connection is for the deal, and what is kept for it.
+/// Whose account a connection is on, and how many of its bytes are kept.
 #[derive(Clone, Copy)]
 pub struct Holding {
-    /// Its user's number, 0 before it has logged in.
+    /// Its user's number; 0 before its login.
     pub user: usize,
     /// How many of its bytes are unread.
     pub unread: usize,
@@ -14,7 +14,7 @@ pub struct Holding {
 }
 
 impl Holding {
-    /// What it adds to what waits to be sent to its user.
+    /// Returns its part of what waits to be sent to its user.
     pub fn backlog(&self) -> Backlog {
         Backlog {
             user: self.user,
@@ -22,7 +22,7 @@ impl Holding {
         }
     }
 
-    /// What it adds to what is unread of its user, under its key.
+    /// Returns its part of its user's unread bytes, under its key.
     pub fn part(&self, key: usize) -> Part {
         Part {
             user: self.user,

@@ -7,7 +7,8 @@ use std::sync::Arc;
 use tc_fairness::Shares;
 use tc_users::UserNo;
 
-/// The worker, of so many, that is a user's home: users are dealt out in the order of their numbers.
+/// Returns the worker, counted from 0, that is a user's home. Users are assigned to the workers in
+/// turn, by number.
 pub fn home_of(user: UserNo, workers: usize) -> usize
     requires { 0 < workers }
     ensures { result ≡ nth_home workers user }
@@ -15,20 +16,20 @@ pub fn home_of(user: UserNo, workers: usize) -> usize
     user.number().saturating_sub(1) as usize % workers
 }
 
-/// Where the connections of users are served, as one worker of several sees it.
+/// Where users' connections are served, as one worker sees it.
 #[derive(Drop)]
 pub struct Homes {
     /// This worker, counted from 0.
     own: usize,
-    /// How many workers users are dealt out to.
+    /// The number of workers to which users are assigned.
     workers: usize,
-    /// Who helps; nobody, where it is missing.
+    /// Who helps each home; `None` if nobody does.
     shares: Option<Arc<Shares, Global>>,
     ghost some: { 0 < workers },
 }
 
 impl Homes {
-    /// Each connection is served by the worker that it came to.
+    /// Makes homes by which each connection stays with the worker to which it came.
     pub fn spread() -> Homes
         ensures { (result.own ≡ 0) × (result.workers ≡ 1) }
     {
@@ -39,8 +40,8 @@ impl Homes {
         }
     }
 
-    /// Users are dealt out to so many workers in the order of their numbers, and this worker is `own`
-    /// of them, counted from 0. Helpers take connections of a home as the shares say.
+    /// Makes the homes as the worker `own` of `workers` sees them, counted from 0. Helpers take
+    /// connections of a home as `shares` says.
     pub fn by_user(own: usize, workers: usize, shares: Option<Arc<Shares, Global>>) -> Homes
         requires { 0 < workers }
         ensures { (result.own ≡ own) × (result.workers ≡ workers) }
@@ -52,8 +53,8 @@ impl Homes {
         }
     }
 
-    /// The worker that serves a connection of a user, where it is another one: the user's home, or a
-    /// helper of that.
+    /// Returns the worker that serves a connection of a user, the user's home or a helper of it;
+    /// `None` if it is this worker.
     pub fn elsewhere(&self, user: UserNo, conn: u32) -> Option<usize>
         ensures { (helper : Option ℕ)
             × (result ≡ elsewhere self.now.own self.now.workers user helper)
@@ -67,7 +68,8 @@ impl Homes {
         if place == self.own { None } else { Some(place) }
     }
 
-    /// The helper that serves a connection of a home's users; `None` where the home itself does.
+    /// Returns the helper that serves a connection of a home's users; `None` if the home itself
+    /// does.
     fn helper(&self, home: usize, conn: u32) -> Option<usize>
         ensures { self.now.shares ≡ None → result ≡ None }
     {

@@ -23,35 +23,37 @@ use tc_item::Moment;
 use tc_session::Session;
 use tc_users::UserNo;
 
-/// The most bytes of a read.
+/// The most bytes of one read.
 pub const LONGEST_PIECE: usize = 16_384;
 
-/// The first byte of a connection that speaks the binary protocol (doc/protocol-binary.txt).
+/// The first byte of a client of the binary protocol (doc/protocol-binary.txt).
 const BINARY: u8 = 0x80;
 
-/// Once a wire took so many bytes in a part of a turn, it takes no more before the other connections went on.
+/// A wire that took this many bytes in one part of a turn gets no more until the other connections
+/// had theirs.
 const MOST_TAKEN: usize = 524_288;
 
-/// A connection: its wire, and what came on it. Contracts see its number, its session, whether no whole
-/// request of it is unread, what bytes its wire gave and took, and the number of its latest entry.
+/// A connection: its wire, and what came on it. Contracts see its number, its session, whether no
+/// whole request is unread, the bytes that its wire gave and took, and the number of its latest
+/// entry.
 #[derive(Drop)]
 pub(crate) struct Link<W: Wire + Drop> {
     pub(crate) conn: u32,
     wire: W,
     session: Session,
-    /// Nothing is unread, or the last request that was asked for isn't whole.
+    /// Nothing is unread, or the last request that it asked for isn't whole.
     rests: bool,
-    /// When memory was refused to the last look for a request, where it was refused to each since then.
+    /// When memory was first refused to a request, if each request since then was refused too.
     refused: Option<Moment>,
     /// Its inlet names it when its wire may be read or written again.
     is_watched: bool,
-    /// It stands on its worker's list.
+    /// It is on its worker's list.
     is_listed: bool,
-    /// How far its turn came.
+    /// How far it got in its turn.
     pace: Pace,
     /// As whom and when it was admitted to its turn.
     admitted: Admitted,
-    /// Its wire was told whose it is.
+    /// Its wire knows its user.
     is_told: bool,
     /// No byte came yet.
     is_new: bool,
@@ -59,12 +61,12 @@ pub(crate) struct Link<W: Wire + Drop> {
     is_binary: bool,
     /// Its refused logins.
     guesses: Guesses,
-    /// What was done in this part of its turn.
+    /// The work of this part of its turn.
     work: Work,
-    /// The number in its book of its latest call's entry, 0 before the first; none once one was not above
-    /// the one before it. A book numbers its entries upwards, and a connection is one user's for good, so
-    /// that is never seen: what is asked here takes the place of a proof that two workers' calls for one
-    /// connection are entered in order.
+    /// The number of its latest call's entry in the book, 0 before the first; `None` once a number
+    /// was not above the one before it. A book numbers its entries upwards and a connection has one
+    /// user for good, so `None` never occurs. The check replaces a proof that the calls of two
+    /// workers for one connection are entered in order.
     last: Option<u64>,
 }
 
@@ -90,7 +92,7 @@ impl<W: Wire + Drop> Model for Link<W> {
 }
 
 impl<W: Wire + Drop> Link<W> {
-    /// A connection as it is opened.
+    /// Opens a connection.
     pub(crate) fn new(alloc: Global, conn: u32, wire: W) -> Link<W>
         ensures conn { result.conn ≡ conn }
         ensures endpoint { result.session.endpoint ≡ new_endpoint text_protocol }
@@ -118,7 +120,7 @@ impl<W: Wire + Drop> Link<W> {
         }
     }
 
-    /// The wire, of a connection that is given up.
+    /// Returns the wire of a connection that is given up.
     pub(crate) fn into_wire(self) -> W {
         let Link {
             conn: _,
@@ -140,14 +142,15 @@ impl<W: Wire + Drop> Link<W> {
         wire
     }
 
-    /// Has an inlet that passes the connection on, or took it over, change its wire. Whether it could.
+    /// Makes an inlet's change to its wire, when the inlet passes it on or takes it over. Returns
+    /// whether the change succeeded.
     pub(crate) fn change_wire<C: Change<W>>(&mut self, change: C) -> bool
         ensures { self.new ≡ self.old }
     {
         change.change(&mut self.wire)
     }
 
-    /// The worker that is to serve it, where that is another one; none before it has logged in.
+    /// Returns the worker that must serve it, if that is another one; `None` before its login.
     pub(crate) fn leaves_for(&mut self, homes: &Homes) -> Option<usize>
         ensures { self.new ≡ self.old }
     {
@@ -156,7 +159,7 @@ impl<W: Wire + Drop> Link<W> {
         homes.elsewhere(user, self.conn)
     }
 
-    /// Notes how far its turn came: one that rests is listed no more.
+    /// Notes its pace. A connection that rests leaves the list.
     pub(crate) fn note_pace(&mut self, pace: Pace)
         ensures { self.new ≡ self.old }
     {
@@ -165,7 +168,7 @@ impl<W: Wire + Drop> Link<W> {
         }
     }
 
-    /// Notes that it is on its worker's list. Whether it was not.
+    /// Notes that it is on its worker's list, and returns whether it was not.
     pub(crate) fn note_listed(&mut self) -> bool
         ensures { self.new ≡ self.old }
     {
@@ -174,14 +177,14 @@ impl<W: Wire + Drop> Link<W> {
         !was_listed
     }
 
-    /// Learns its key.
+    /// Passes its key to the wire.
     pub(crate) fn set_key(&mut self, key: usize)
         ensures { self.new ≡ self.old }
     {
         self.is_watched = self.wire.set_key(key);
     }
 
-    /// Whose it is for the deal of a turn: its user's number, 0 before it has logged in.
+    /// Returns whose account it is on: its user's number, 0 before its login.
     pub(crate) fn user(&self) -> usize {
         match self.session.user() {
             Some(user) => user.number() as usize,
@@ -189,21 +192,21 @@ impl<W: Wire + Drop> Link<W> {
         }
     }
 
-    /// Is admitted to a turn.
+    /// Admits it to a turn.
     pub(crate) fn admit(&mut self, admitted: Admitted)
         ensures { self.new ≡ self.old }
     {
         self.admitted = admitted;
     }
 
-    /// Learns with how many bytes that wait to be sent it is not full yet.
+    /// Sets with how many bytes that wait to be sent it is not full yet.
     pub(crate) fn set_most_out(&mut self, most_out: usize)
         ensures { self.new ≡ self.old }
     {
         self.admitted.most_out = most_out;
     }
 
-    /// Whose it is for the deal, and what is kept for it.
+    /// Returns whose account it is on, and how many of its bytes are kept.
     pub(crate) fn holding(&self) -> Holding {
         Holding {
             user: self.user(),
@@ -212,24 +215,25 @@ impl<W: Wire + Drop> Link<W> {
         }
     }
 
-    /// Has its wire end, since it holds up others of its user.
+    /// Makes its wire end, since it holds up others of its user.
     pub(crate) fn give_up<R: Wait>(&mut self, rt: &R)
         ensures { self.new ≡ self.old }
     {
         self.wire.note(rt, Remark::HoldsUp);
     }
 
-    /// What was done in the last part of a turn.
+    /// Returns the work of the last part of a turn, in quarters of a microsecond.
     pub(crate) fn work(&self) -> u64 {
         self.work.units()
     }
 
-    /// The user that it logged in as.
+    /// Returns the user of its login.
     pub(crate) fn bound(&self) -> Option<UserNo> {
         self.session.user()
     }
 
-    /// Adds the keys that its next requests seem to ask for, where it is this user's. Whether it is.
+    /// Adds the keys that its next requests seem to ask for, if it is this user's. Returns whether
+    /// it is.
     pub(crate) fn look_ahead(&self, user: UserNo, ahead: &mut Ahead) -> bool {
         let is_of_user = self.bound() == Some(user);
         if is_of_user {
@@ -238,14 +242,15 @@ impl<W: Wire + Drop> Link<W> {
         is_of_user
     }
 
-    /// How many of its bytes are unread.
+    /// Returns how many of its bytes are unread.
     pub(crate) fn unread_len(&self) -> usize
         ensures { result ≤ most_kept }
     {
         self.session.unread_len()
     }
 
-    /// The first part of a turn: reads, and reads a request ahead while no lock is held. Whether it goes on.
+    /// The first part of a turn: reads, and parses a request ahead while the worker holds no lock.
+    /// Returns whether the connection goes on.
     pub(crate) fn take_in<R: Wait>(&mut self, rt: &R, alloc: Global, buffer: &mut [u8]) -> bool
         ensures moved { (lost : List ℕ) × Carries [] lost self.old self.new
             × (result ≡ true → lost ≡ []) }
@@ -300,7 +305,7 @@ impl<W: Wire + Drop> Link<W> {
         }
     }
 
-    /// Writes, and notes how far the turn came by it. Whether the wire goes on.
+    /// Writes, and notes the pace. Returns whether the wire goes on.
     fn send(&mut self) -> bool
         ensures sends { (sent : List ℕ) × Carries sent [] self.old self.new }
     {
@@ -313,9 +318,9 @@ impl<W: Wire + Drop> Link<W> {
         }
     }
 
-    /// How far a turn of this pace came. One that got on and left nothing to do or to send reads once
-    /// more, so that a wire with nothing says so before its worker waits; `None` where it is over. What
-    /// this read gives is served in the next turn.
+    /// Reads once more if the turn got on and left nothing to do or to send; `None` if the
+    /// connection is over. So a wire with nothing to read says so before its worker waits. The next
+    /// turn serves what this read gives.
     fn look_again(&mut self, pace: Pace, buffer: &mut [u8]) -> Option<Pace>
         ensures moved { (lost : List ℕ) × Carries [] lost self.old self.new
             × (IsSome result → lost ≡ []) }
@@ -327,7 +332,8 @@ impl<W: Wire + Drop> Link<W> {
         self.read(buffer)
     }
 
-    /// Whether memory was refused to its requests for a whole second, so that its client would hang.
+    /// Whether memory was refused to its requests for a whole second, so that its client would
+    /// hang.
     fn is_starved(&self, now: Moment) -> bool {
         match self.refused {
             Some(since) => now.seconds() > since.seconds() + 1,
@@ -335,17 +341,18 @@ impl<W: Wire + Drop> Link<W> {
         }
     }
 
-    /// Whether so much waits to be sent that its client is to read first.
+    /// Whether so much waits to be sent that its client must read first.
     fn is_full(&self) -> bool {
         self.session.about_out() > self.admitted.most_out
     }
 
-    /// Whether it reads nothing now.
+    /// Whether it reads nothing: it is full, or another of its user leads.
     fn is_unread(&self) -> bool {
         self.is_full() || !self.admitted.is_read
     }
 
-    /// Reads once, where all that came is read and little waits to be sent; `None` where it is over.
+    /// Reads once, if no whole request is unread and it isn't full; `None` if the connection is
+    /// over.
     fn read(&mut self, buffer: &mut [u8]) -> Option<Pace>
         ensures moved { (lost : List ℕ) × Carries [] lost self.old self.new
             × (IsSome result → lost ≡ []) }
@@ -363,7 +370,7 @@ impl<W: Wire + Drop> Link<W> {
             }
             Got::Later => Some(Pace::Rests),
             Got::Ended => {
-                // All that came whole was done; what waits is still written.
+                // All whole requests are done; what waits is still written.
                 self.session.shut();
                 Some(Pace::GetsOn)
             }
@@ -371,7 +378,7 @@ impl<W: Wire + Drop> Link<W> {
         }
     }
 
-    /// Takes what came; `None` where memory is refused, or where its first byte is one of the binary
+    /// Takes what came. `None` if memory is refused, or if the first byte is one of the binary
     /// protocol, whose client would wait for ever.
     fn take(&mut self, piece: &[u8]) -> Option<Pace>
         requires piece { length piece.now ≤ longest_piece }
@@ -394,7 +401,7 @@ impl<W: Wire + Drop> Link<W> {
         Some(Pace::GetsOn)
     }
 
-    /// Tells the wire of a client that speaks the binary protocol.
+    /// Notes for the operator that the client speaks the binary protocol.
     fn tell_binary<R: Wait>(&mut self, rt: &R)
         ensures { self.new ≡ self.old }
     {
@@ -403,7 +410,7 @@ impl<W: Wire + Drop> Link<W> {
         }
     }
 
-    /// Tells the wire, once, as which user it logged in.
+    /// Tells the wire its user, once.
     fn meet(&mut self, user: UserNo)
         ensures { self.new ≡ self.old }
     {
@@ -412,7 +419,7 @@ impl<W: Wire + Drop> Link<W> {
         }
     }
 
-    /// Tells the wire as which user it logged in.
+    /// Tells the wire its user.
     #[cold]
     fn tell_user(&mut self, user: UserNo)
         ensures { self.new ≡ self.old }
@@ -421,8 +428,8 @@ impl<W: Wire + Drop> Link<W> {
         self.wire.set_user(user);
     }
 
-    /// Writes until all is out, the wire takes no more, or it took so much that others are to go on
-    /// first; `None` where it fails.
+    /// Writes until all is sent, the wire takes no more, or it took 524,288 bytes; `None` if the
+    /// wire fails.
     fn write(&mut self) -> Option<Pace>
         ensures sends { (sent : List ℕ) × Carries sent [] self.old self.new }
     {

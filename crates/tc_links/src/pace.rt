@@ -1,18 +1,18 @@
-//! How far a connection came in a turn.
+//! How far a connection got in a turn.
 
-/// What a step of a connection's turn came to, and the turn itself.
+/// The result of a step of a connection's turn, or of all its steps.
 #[derive(Clone, Copy, PartialEq, Eq)]
 pub enum Pace {
-    /// Nothing can be done before more is there to read or there is room to write.
+    /// Nothing can be done before more bytes come or there is room to write.
     Rests,
-    /// Nothing was done, and it is to be tried again.
+    /// Nothing was done, and it must be tried again.
     Tries,
     /// Bytes were read or written, or a request was done.
     GetsOn,
 }
 
 impl Pace {
-    /// What two steps come to.
+    /// Returns the result of two steps.
     pub fn and(self, other: Pace) -> Pace {
         match (self, other) {
             (Pace::GetsOn, _) | (_, Pace::GetsOn) => Pace::GetsOn,
@@ -22,10 +22,10 @@ impl Pace {
     }
 }
 
-/// What a turn leaves of a connection.
+/// What becomes of a connection after its turn.
 #[derive(Clone, Copy, PartialEq, Eq)]
 pub enum Onward {
     GoesOn(Pace),
-    /// It is to be dropped.
+    /// It must be dropped.
     Done,
 }

@@ -1,4 +1,4 @@
-//! What all connections of a worker are served with.
+//! What a worker serves all its connections with.
 use crate::gate::Gate;
 use std::alloc::Global;
 use std::sync::Wait;

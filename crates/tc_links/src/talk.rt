@@ -1,4 +1,4 @@
-//! A connection as its worker keeps it, and what it came to since it was opened.
+//! A connection as its worker keeps it, with its history since it was opened.
 ghost use Rattle.std.specs.Prelude.{◌≡◌, ◌≢◌, ◌≤◌, ℕ, List, [], true};
 ghost use Rattle.tc_users.specs.declared.users.UserSpec.{UserSpec};
 ghost use Rattle.tc_links.specs.Talks.{Talks, Carries};
@@ -24,15 +24,15 @@ use tc_locked::{Lease, Naming};
 use tc_plain::Cache;
 use tc_users::{UserNo, Users};
 
-/// A connection. Contracts see its link, the users' tables by which it was served, and how often it was
-/// done; both lists stand in proofs alone. While it goes on and is served by one table, all that its
-/// wire gave and took since it was opened, and all that it was told, is what its moves say.
+/// A connection. Contracts see its link, the users' tables by which it was served, and how often it
+/// was done; both lists exist in proofs alone. While it goes on and one table serves it, its moves
+/// say all: what its wire gave and took since it was opened, and what was said to it.
 #[derive(Drop)]
 pub struct Talk<W: Wire + Drop> {
     link: Link<W>,
-    /// The table of each turn.
+    /// The users' table of each turn.
     tables: Log<Users, ()>,
-    /// An entry each time that it was done.
+    /// An entry for each time that it was done.
     ends: Log<(), ()>,
 }
 
@@ -56,7 +56,7 @@ impl<W: Wire + Drop> Model for Talk<W> {
 }
 
 impl<W: Wire + Drop> Talk<W> {
-    /// A connection as it is opened.
+    /// Opens a connection.
     pub fn new(alloc: Global, conn: u32, wire: W) -> Talk<W>
         ensures { IsOpened conn (W.gave wire) (W.took wire) result }
     {
@@ -67,7 +67,7 @@ impl<W: Wire + Drop> Talk<W> {
         }
     }
 
-    /// The wire, of a connection that is given up.
+    /// Returns the wire of a connection that is given up.
     pub fn into_wire(self) -> W {
         let Talk {
             link,
@@ -77,102 +77,105 @@ impl<W: Wire + Drop> Talk<W> {
         link.into_wire()
     }
 
-    /// Since it was opened it is a talk, while it goes on and is served by one table. It does nothing.
+    /// States that it is a talk since it was opened, while it goes on and one table serves it. It
+    /// does nothing.
     pub fn is_talk(&self)
         ensures { HasTalk self.now }
     {
         let _ = &self.link;
     }
 
-    /// Has an inlet that passes the connection on, or took it over, change its wire. Whether it could.
+    /// Makes an inlet's change to its wire, when the inlet passes it on or takes it over. Returns
+    /// whether the change succeeded.
     pub fn change_wire<C: Change<W>>(&mut self, change: C) -> bool
         ensures { self.new ≡ self.old }
     {
         self.link.change_wire(change)
     }
 
-    /// Its number.
+    /// Returns its number.
     pub fn conn(&self) -> u32
         ensures { result ≡ self.now.link.conn }
     {
         self.link.conn
     }
 
-    /// The worker that is to serve it, where that is another one; none before it has logged in.
+    /// Returns the worker that must serve it, if that is another one; `None` before its login.
     pub fn leaves_for(&mut self, homes: &Homes) -> Option<usize>
         ensures { self.new ≡ self.old }
     {
         self.link.leaves_for(homes)
     }
 
-    /// Notes that it is on its worker's list. Whether it was not.
+    /// Notes that it is on its worker's list, and returns whether it was not.
     pub fn note_listed(&mut self) -> bool
         ensures { self.new ≡ self.old }
     {
         self.link.note_listed()
     }
 
-    /// Notes how far its turn came: one that rests is listed no more.
+    /// Notes its pace. A connection that rests leaves the list.
     pub fn note_pace(&mut self, pace: Pace)
         ensures { self.new ≡ self.old }
     {
         self.link.note_pace(pace);
     }
 
-    /// Whose it is for the deal of a turn (`Link::user`).
+    /// Returns whose account it is on (`Link::user`).
     pub fn user(&self) -> usize {
         self.link.user()
     }
 
-    /// Is admitted to a turn.
+    /// Admits it to a turn.
     pub fn admit(&mut self, admitted: Admitted)
         ensures { self.new ≡ self.old }
     {
         self.link.admit(admitted);
     }
 
-    /// Learns with how many bytes that wait to be sent it is not full yet.
+    /// Sets with how many bytes that wait to be sent it is not full yet.
     pub fn set_most_out(&mut self, most_out: usize)
         ensures { self.new ≡ self.old }
     {
         self.link.set_most_out(most_out);
     }
 
-    /// Whose it is for the deal, and what is kept for it.
+    /// Returns whose account it is on, and how many of its bytes are kept.
     pub fn holding(&self) -> Holding {
         self.link.holding()
     }
 
-    /// Has its wire end, since it holds up others of its user.
+    /// Makes its wire end, since it holds up others of its user.
     pub fn give_up<R: Wait>(&mut self, rt: &R)
         ensures { self.new ≡ self.old }
     {
         self.link.give_up(rt);
     }
 
-    /// What was done in the last part of a turn.
+    /// Returns the work of the last part of a turn, in quarters of a microsecond.
     pub fn work(&self) -> u64 {
         self.link.work()
     }
 
-    /// Learns its key.
+    /// Passes its key to the wire.
     pub fn set_key(&mut self, key: usize)
         ensures { self.new ≡ self.old }
     {
         self.link.set_key(key);
     }
 
-    /// The user that it logged in as.
+    /// Returns the user of its login.
     pub fn bound(&self) -> Option<UserNo> {
         self.link.bound()
     }
 
-    /// Adds the keys that its next requests seem to ask for, where it is this user's. Whether it is.
+    /// Adds the keys that its next requests seem to ask for, if it is this user's. Returns whether
+    /// it is.
     pub fn look_ahead(&self, user: UserNo, ahead: &mut Ahead) -> bool {
         self.link.look_ahead(user, ahead)
     }
 
-    /// How many of its bytes are unread.
+    /// Returns how many of its bytes are unread.
     pub fn unread_len(&self) -> usize
         ensures most { result ≤ most_kept }
         ensures talk { HasTalk self.now }
@@ -180,7 +183,7 @@ impl<W: Wire + Drop> Talk<W> {
         self.link.unread_len()
     }
 
-    /// The first part of a turn (`Link::take_in`). Whether it goes on.
+    /// The first part of a turn (`Link::take_in`). Returns whether the connection goes on.
     pub fn take_in<R: Wait>(&mut self, rt: &R, alloc: Global, buffer: &mut [u8]) -> bool
         ensures moved { (lost : List ℕ) × Carries [] lost self.old.link self.new.link
             × (result ≡ true → lost ≡ []) }
@@ -194,7 +197,7 @@ impl<W: Wire + Drop> Talk<W> {
         false
     }
 
-    /// The second part of a turn (`Link::do_requests`). Whether it goes on.
+    /// The second part of a turn (`Link::do_requests`). Returns whether the connection goes on.
     pub fn do_requests<'a, R: Wait, C: Cache, N: Naming, G: Gate>(
         &mut self,
         service: &Service<'a, R, C, N, G>,

@@ -1,4 +1,4 @@
-//! A page's calls, done again on the plain cache.
+//! The replay of a page's calls on the reference.
 ghost use Rattle.std.specs.Prelude.{◌≡◌, IfOk, OnOk};
 ghost use Rattle.tc_plain.specs.Doing.{act};
 ghost use Rattle.tc_locked.specs.Audits.{IsAuditOf};
@@ -9,28 +9,29 @@ use tc_item::NoMemory;
 use tc_plain::{Journal, Plain, act};
 use tc_stats::Outcome;
 
-/// A call that comes to another outcome when it is done again.
+/// A call whose replay has another outcome than the one answered.
 #[derive(Drop)]
 pub struct Difference {
-    /// Its place on the page, from 0. What the call was, and what was answered, stands there.
+    /// Its place on the page, from 0. The entry there has the call and its answer.
     pub place: usize,
     /// Its number among all calls of the user's book, from 1.
     pub number: u64,
-    /// What it comes to when it is done again.
+    /// The outcome of the replay.
     pub again: Outcome,
 }
 
-/// What is found when the calls of a page are done again, in order and each at its moment, from what
-/// the page began with.
+/// The result of a replay of a page's calls, in order and each at its moment, from the page's
+/// opening.
 #[derive(Drop)]
 pub struct Audit {
-    /// How many calls were compared: all of the page, or those up to the first that differs, and it.
+    /// How many calls were compared: all of the page, or those up to and including the first that
+    /// differs.
     pub compared: usize,
     /// The first call whose outcome differs.
     pub difference: Option<Difference>,
 }
 
-/// Does an entry's command again at its moment: what it comes to.
+/// Runs an entry's command again at its moment, and returns the outcome.
 fn do_again(alloc: Global, cache: &mut Plain, entry: &CallEntry) -> Result<Outcome, NoMemory>
     ensures outcome { IfOk result (λ again. again
         ≡ (act cache.old entry.now.moment entry.now.command).0) }
@@ -46,8 +47,8 @@ fn do_again(alloc: Global, cache: &mut Plain, entry: &CallEntry) -> Result<Outco
     Ok(acted.answer)
 }
 
-/// Does the calls of a page again on the cache that it began with, which is the definition's reading of
-/// each command, and compares what each comes to with what was kept of it.
+/// Replays the calls of a page on the reference from the page's opening, and compares each outcome
+/// with the entry's. It stops at the first difference.
 pub fn audit_page(alloc: Global, opening: Plain, entries: &[CallEntry]) -> Result<Audit, NoMemory>
     ensures { IfOk result (λ audit. IsAuditOf opening entries.now audit) }
 {

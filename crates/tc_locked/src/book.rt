@@ -1,4 +1,4 @@
-//! A user's book.
+//! A user's book: a cache, the opening of its page, and the calls since.
 ghost use Rattle.std.specs.Prelude.{◌≡◌, ◌≢◌, ℕ, ◌+◌, ◌-◌, ◌^◌, ◌<◌, ◌≤◌, ◌++◌, ◌∷◌, [], length, IfOk, OnOk, IfErr, OnErr, slice_get};
 ghost use Rattle.std.specs.Prelude.{slice_index, slice_set, Some, None, IfSome, IfNone};
 ghost use Rattle.tc_plain.specs.declared.shared.journal.Journal.TheVariants.{Off as IsOff};
@@ -30,24 +30,24 @@ use tc_plain::{Acted, Cache, Journal, Plain, Progress};
 /// The calls of a book.
 #[derive(Drop)]
 struct Register {
-    /// Those since the page began.
+    /// The entries since the page began.
     page: Page,
     /// How many pages were turned.
     turns: u64,
-    /// How many calls there were, over all pages.
+    /// Number of calls over all pages, which is also the number of the latest entry.
     number: u64,
-    /// And how many of each seat.
+    /// Number of calls of each seat, by seat number.
     counts: Vec<u64>,
 }
 
-/// A cache, what it stood for when its page began, and the calls that it did since, seen as its state. It
-/// is always legal.
+/// A cache, the state that it had when its page began, and the calls since then. Contracts see it
+/// as a `BookState`, which is always legal (`IsBook`).
 #[derive(Drop)]
 pub struct Book<C: Cache> {
     cache: C,
-    /// The cache as it was when the page began, in proofs alone.
+    /// The cache when the page began, in proofs alone.
     began: Snapshot<C>,
-    /// What it stood for then, as lists, where the journal is on.
+    /// That state as lists, if the journal is on.
     lists: Option<Plain>,
     moment: Moment,
     register: Register,
@@ -85,7 +85,7 @@ impl<C: Cache> Model for Book<C> {
         × (b.lists ≡ kept_by b.register.page.journal (C.settled b.began.value)) };
 }
 
-/// Which seat calls, at which moment, and on which connection.
+/// The seat that calls, the moment and the connection.
 #[derive(Clone, Copy)]
 struct Caller {
     seat_no: usize,
@@ -94,7 +94,8 @@ struct Caller {
 }
 
 impl Register {
-    /// Counts an entry of a seat: its number, and how many the seat has with it.
+    /// Counts an entry of a seat. Returns the entry's number in the book and its number in the
+    /// seat, both from 1.
     fn count_entry(&mut self, seat_no: usize) -> (u64, u64)
         requires seat { seat_no < length self.old.counts.items }
         requires number { self.old.number + 1 < 2 ^ 64 }
@@ -112,7 +113,7 @@ impl Register {
         (self.number, tally)
     }
 
-    /// Enters what a command of a caller came to. What the caller is told, and the entry.
+    /// Enters a command and its outcome on the page. Returns the caller's slip and the entry.
     fn enter(
         &mut self,
         by: Caller,
@@ -167,7 +168,8 @@ impl Register {
     }
 }
 
-/// What can fail before the cache is called: a number for the entry, and room for it.
+/// Does what can fail before the cache runs the command: checks that a number is left, and reserves
+/// room for the entry.
 fn make_ready(page: &mut Page, number: u64) -> Result<(), CallFault>
     requires { IsPage page.old }
     ensures page { IsPage page.new }
@@ -184,7 +186,7 @@ fn make_ready(page: &mut Page, number: u64) -> Result<(), CallFault>
     Ok(())
 }
 
-/// What a cache stands for, as lists, where the journal is on.
+/// Freezes the cache into lists if the journal is on. Fails if memory is refused.
 fn freeze_to_keep<C: Cache>(
     alloc: Global,
     cache: &C,
@@ -198,7 +200,8 @@ fn freeze_to_keep<C: Cache>(
     }
 }
 
-/// What can fail of a turn of the page: a number for the entry to come, and what the next page begins with.
+/// Does what can fail of a page turn: it checks that a number is left, and if the journal is on,
+/// freezes the cache for the next page.
 fn open_next<C: Cache>(
     alloc: Global,
     cache: &C,
@@ -215,7 +218,7 @@ fn open_next<C: Cache>(
     Ok(freeze_to_keep(alloc, cache, journal)?)
 }
 
-/// A copy of lists that are kept; an error where memory is refused, or where they are not kept.
+/// Copies the kept lists. `Unread::Off` if there are none, `Unread::NoMemory` if memory is refused.
 fn copy_kept(alloc: Global, lists: &Option<Plain>) -> Result<Plain, Unread>
     ensures kept { IfOk result (λ plain. lists.now ≡ Some plain) }
     ensures off { IfErr result (λ fault. fault ≡ Off → lists.now ≡ None) }
@@ -227,8 +230,8 @@ fn copy_kept(alloc: Global, lists: &Option<Plain>) -> Result<Plain, Unread>
 }
 
 impl<C: Cache> Book<C> {
-    /// The book of an empty cache, with a count for each of so many seats. It keeps its page's entries
-    /// where the journal is on.
+    /// Opens a book of an empty cache, with a count for each of `seats` seats. If the journal is
+    /// on, it freezes the cache as the first page's opening, and the book keeps its entries.
     pub fn open(
         alloc: Global,
         cache: C,
@@ -255,8 +258,8 @@ impl<C: Cache> Book<C> {
         })
     }
 
-    /// One call of a seat, at the later of `now` and the book's moment; where entries are kept, its entry
-    /// keeps the copy of the command. A refusal changes nothing.
+    /// Runs one command for a seat, at the later of `now` and the book's moment. If the journal is
+    /// on, the entry keeps `copy`. A refusal changes nothing.
     pub fn call(
         &mut self,
         alloc: Global,
@@ -292,7 +295,7 @@ impl<C: Cache> Book<C> {
         Ok(Called { slip, entry })
     }
 
-    /// Deferred work of the cache, at most `limit` pieces of it (`Cache::maintain`).
+    /// Does at most `limit` pieces of the cache's deferred work (`Cache::maintain`).
     pub fn maintain(&mut self, now: Moment, limit: u32) -> Progress
         ensures { self.new ≡ after_maintain self.old now }
     {
@@ -300,10 +303,12 @@ impl<C: Cache> Book<C> {
         self.cache.maintain(now, limit)
     }
 
-    /// `call` on a new page, which begins at what the cache stands for: the cache is frozen before the call
-    /// where the journal is on, and the page is turned after it, so a refusal of either changes nothing. The
-    /// entries of the page before stay until new ones take their places, one a call. What that page began
-    /// with goes to `left`.
+    /// Runs a `call` that begins a new page, whose opening is the cache's state before the call.
+    ///
+    /// If the journal is on, it freezes the cache before it runs the command. It turns the page
+    /// once the command has succeeded, so a refusal of either changes nothing. Entries of the last
+    /// page keep their memory until new ones replace them, one a call. The last page's frozen
+    /// opening goes to `left`.
     fn call_turning(
         &mut self,
         alloc: Global,
@@ -345,8 +350,8 @@ impl<C: Cache> Book<C> {
         Ok(Called { slip, entry })
     }
 
-    /// `call`, after a turn of the page where it has `journal` entries: what that page began with goes to
-    /// `left`. A refusal of either changes nothing.
+    /// Runs a `call`. If the page has `journal` entries it turns the page, and the frozen opening
+    /// of that page goes to `left`. A refusal changes nothing.
     pub fn call_paged(
         &mut self,
         alloc: Global,
@@ -377,12 +382,12 @@ impl<C: Cache> Book<C> {
         }
     }
 
-    /// Reads what look-ups of keys of these hashes are going to read (`Cache::read_ahead`).
+    /// Prefetches what look-ups of keys with these hashes will read (`Cache::read_ahead`).
     pub fn read_ahead(&self, hashes: &[u64]) {
         self.cache.read_ahead(hashes);
     }
 
-    /// How many entries a seat made, over all pages.
+    /// Returns how many entries a seat made, over all pages.
     pub fn count(&self, seat_no: usize) -> u64
         requires { seat_no < length self.now.counts }
         ensures { result ≡ slice_index self.now.counts seat_no }
@@ -390,7 +395,7 @@ impl<C: Cache> Book<C> {
         self.register.counts[seat_no]
     }
 
-    /// The entry of that number, if it stands on this page; an error only where none are kept.
+    /// Returns the entry of this number if it is on this page. Fails only if the journal is off.
     pub fn entry(&self, number: u64) -> Result<Option<&CallEntry>, Unread>
         ensures found { IfOk result (λ found. (j : ℕ) (e : CallEntry)
             → slice_get self.now.entries j ≡ Some e
@@ -406,7 +411,8 @@ impl<C: Cache> Book<C> {
         Ok(Some(&entries[(number - before - 1) as usize]))
     }
 
-    /// How many bytes the entries of the page keep, their data among them.
+    /// Returns how many bytes the entries of the page keep, with the data that they share with the
+    /// cache; 0 if the journal is off.
     pub fn journal_bytes(&self) -> u64 {
         let mut bytes: u64 = 0;
         if let Ok(entries) = self.register.page.entries() {
@@ -417,15 +423,15 @@ impl<C: Cache> Book<C> {
         bytes
     }
 
-    /// How many pages were turned.
+    /// Returns how many pages were turned.
     pub fn turns(&self) -> u64
         ensures { result ≡ self.now.turns }
     {
         self.register.turns
     }
 
-    /// What the page began with, as lists. From there the commands of its entries give their outcomes. An
-    /// error where memory is refused, or where they are not kept.
+    /// Returns the page's opening as lists. From it the commands of the page's entries give their
+    /// outcomes. `Unread::Off` if the journal is off, `Unread::NoMemory` if memory is refused.
     pub fn opening(&self, alloc: Global) -> Result<Plain, Unread>
         ensures opening { IfOk result (λ plain. plain ≡ self.now.opening) }
         ensures off { IfErr result (λ fault. fault ≡ Off → self.now.keeps ≡ IsOff) }
@@ -434,7 +440,7 @@ impl<C: Cache> Book<C> {
         copy_kept(alloc, &self.lists)
     }
 
-    /// The entries of the page, in order; an error only where they are not kept.
+    /// Returns the entries of the page, in order. Fails only if the journal is off.
     pub fn page(&self) -> Result<&[CallEntry], Unread>
         ensures entries { IfOk result (λ entries. entries.now ≡ self.now.entries) }
         ensures off { IfErr result (λ _. self.now.keeps ≡ IsOff) }

@@ -1,4 +1,4 @@
-//! One call, as a book keeps it, and what its caller is told.
+//! One call as a book keeps it, and what its caller receives.
 ghost use Rattle.std.specs.Prelude.{◌≡◌};
 ghost use Rattle.tc_locked.specs.Witnesses.{entry_from};
 
@@ -21,12 +21,13 @@ pub struct Numbers {
 /// One call of a user's cache.
 #[derive(Drop)]
 pub struct CallEntry {
-    /// The number of the seat that made it.
+    /// The number of the calling seat, from 0.
     pub seat: usize,
-    /// How many entries the seat made in this book, up to and with this one.
+    /// Number of entries that the seat has made in this book, this one included.
     pub tally: u64,
-    /// How many entries there were in this book, up to and with this one.
+    /// Number of entries in this book, this one included.
     pub number: u64,
+    /// When the cache ran the command.
     pub moment: Moment,
     /// The connection, by the caller's number.
     pub conn: u32,
@@ -39,7 +40,7 @@ const _: () = prove!(size_of::<CallEntry>() == 120);
 const _: () = prove!(size_of::<Command>() == 88);
 
 impl CallEntry {
-    /// The entry of these numbers.
+    /// The entry of these numbers, this command and this outcome.
     pub(crate) fn of(numbers: Numbers, command: KeptCommand, outcome: Outcome) -> CallEntry
         ensures { result ≡ entry_from numbers command outcome }
     {
@@ -55,18 +56,20 @@ impl CallEntry {
     }
 }
 
-/// How many bytes an entry takes by itself.
+/// How many bytes an entry takes without what it points to.
 const ENTRY: u64 = 120;
 
-/// How many bytes its command takes beside it.
+/// How many bytes its boxed command takes.
 const COMMAND: u64 = 88;
 
-/// How many bytes each key and each hit take of a look-up of several.
+/// How many bytes each key of a look-up with several keys takes.
 const KEY: u64 = 24;
 
+/// How many bytes each hit of a look-up with several hits takes.
 const HIT: u64 = 56;
 
-/// How many bytes so many take; one lies in its entry.
+/// Returns how many bytes a list of `count` elements takes beside its owner, which holds a single
+/// one in place.
 fn listed(count: usize, each: u64) -> u64 {
     if count > 1 {
         (count as u64).saturating_mul(each)
@@ -75,7 +78,7 @@ fn listed(count: usize, each: u64) -> u64 {
     }
 }
 
-/// How many bytes a command keeps beside its entry.
+/// Returns how many bytes a command keeps beside its entry, with its data.
 fn kept_by(command: &Command) -> u64 {
     match command {
         Command::Store(_, blob) => blob.len() as u64,
@@ -85,7 +88,7 @@ fn kept_by(command: &Command) -> u64 {
     }
 }
 
-/// The same of an outcome, with the data that it shows.
+/// Returns how many bytes an outcome keeps beside its entry, with the data that it shows.
 fn shown_by(outcome: &Outcome) -> u64 {
     let Outcome::Values(hits) = outcome else {
         return 0;
@@ -98,7 +101,7 @@ fn shown_by(outcome: &Outcome) -> u64 {
 }
 
 impl CallEntry {
-    /// How many bytes it keeps, its data among them, whether the cache has them too or not.
+    /// Returns how many bytes the entry keeps, with the data that it shares with the cache.
     pub(crate) fn bytes(&self) -> u64 {
         (ENTRY + COMMAND)
             .saturating_add(kept_by(self.command.get()))
@@ -106,13 +109,16 @@ impl CallEntry {
     }
 }
 
-/// What the caller is told of its entry.
+/// What the caller receives of its entry.
 #[derive(Drop)]
 pub struct Slip {
-    /// How many pages were turned before it was entered.
+    /// How many pages were turned before the call was entered.
     pub page: u64,
+    /// The entry's number in the user's book, from 1.
     pub number: u64,
+    /// The entry's number among those of its seat in this book, from 1.
     pub tally: u64,
+    /// When the cache ran the command.
     pub moment: Moment,
     pub outcome: Outcome,
 }

@@ -1,11 +1,12 @@
-//! What a call under a user's lock gives back.
+//! What a call under a user's lock returns.
 use crate::call_entry::Slip;
 use crate::witness::Witness;
 
-/// What the caller is told.
+/// The result of a successful call.
 #[derive(Drop)]
 pub struct Called {
+    /// What the caller receives.
     pub slip: Slip,
-    /// The entry, as proofs know it.
+    /// The entry, in proofs alone.
     pub entry: Witness,
 }

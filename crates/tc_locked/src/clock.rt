@@ -3,7 +3,7 @@ use std::sync::atomic::Ordering::SeqCst;
 use std::sync::atomic::{AtomicIn, Rule};
 use tc_item::Moment;
 
-/// The word is below 2^40.
+/// The word is a moment: below 2^40 seconds.
 pub struct Moments;
 
 impl Rule for Moments {
@@ -12,7 +12,7 @@ impl Rule for Moments {
     ghost invariant = { IsMoment };
 }
 
-/// A moment that only rises.
+/// A clock in seconds that threads share, and that only rises.
 #[derive(Drop)]
 pub struct Clock {
     word: AtomicIn<Moments>,
@@ -26,13 +26,13 @@ impl Clock {
         }
     }
 
-    /// The moment. It waits for nobody.
+    /// Returns the moment. It never blocks.
     pub fn now(&self) -> Moment {
         Moment::new(self.word.load(SeqCst))
     }
 
-    /// Raises the clock to a moment. It does nothing where the clock is as late, or where another
-    /// advance came between. It waits for nobody.
+    /// Raises the clock to a moment. It does nothing if the clock is already as late, or if another
+    /// thread advances it meanwhile. It never blocks.
     pub fn advance(&self, moment: Moment) {
         let now = self.word.load(SeqCst);
         if now < moment.seconds() {

@@ -20,14 +20,14 @@ use std::marker::{Model, PhantomData};
 use tc_plain::{Cache, Plain};
 use tc_users::UserNo;
 
-/// Too few seats: the hall and the seats come back.
+/// `Hall::close` got too few seats: the hall and those seats, unchanged.
 #[derive(Drop)]
 pub struct Missing<C: Cache, N: Naming> {
     pub hall: Hall<C, N>,
     pub seats: Vec<Seat<N>>,
 }
 
-/// A hall that has ended, seen as its books and its seats.
+/// A hall that has ended. Contracts see its books and its seats.
 #[derive(Drop)]
 pub struct Closed<C: Cache, N: Naming> {
     pub(crate) all: TableSeat,
@@ -53,7 +53,7 @@ impl<C: Cache, N: Naming> Model for Closed<C, N> {
 }
 
 impl<C: Cache, N: Naming> Closed<C, N> {
-    /// The book of a user.
+    /// Returns the book of a user; none exactly if there is no such user.
     fn find(&self, user: UserNo) -> Option<&Shut<C>>
         ensures none { IfNone result (IsUser (length N.terms.begins) user → ⊥) }
         ensures some { IfSome result (λ shut. IsBookOf user self.now.books shut.now) }
@@ -73,7 +73,8 @@ impl<C: Cache, N: Naming> Closed<C, N> {
         None
     }
 
-    /// How many entries the seat wrote into the user's book, over all pages.
+    /// Returns how many entries the seat wrote into the user's book, over all pages; 0 for an
+    /// unknown user.
     pub fn count(&self, seat_no: usize, user: UserNo) -> u64
         requires seat { seat_no < N.terms.seats }
         ensures unknown { (IsUser (length N.terms.begins) user → ⊥) → result ≡ 0 }
@@ -86,8 +87,8 @@ impl<C: Cache, N: Naming> Closed<C, N> {
         }
     }
 
-    /// The entry of a receipt: none exactly where its page was turned, and an error only where the hall's
-    /// journal is off.
+    /// Returns the entry of a receipt; none exactly if its page was turned. Fails only if the
+    /// hall's journal is off.
     pub fn entry_of(&self, receipt: &Receipt<N>) -> Result<Option<&CallEntry>, Unread>
         ensures found { IfOk result (λ found. (n : Note) → HasNote self.now.seats n
             → IsNoteOf receipt.now.user receipt.now.slip n
@@ -103,8 +104,9 @@ impl<C: Cache, N: Naming> Closed<C, N> {
         }
     }
 
-    /// What the last page of a user's book began with, as lists; `None` exactly where there is no such
-    /// user, and an error where memory for it is refused, or where the hall's journal is off.
+    /// Returns the opening of the last page of a user's book as lists; none exactly if there is no
+    /// such user. `Unread::Off` only if the hall's journal is off, `Unread::NoMemory` if memory is
+    /// refused.
     pub fn opening(&self, alloc: Global, user: UserNo) -> Result<Option<Plain>, Unread>
         ensures opening { IfOk result (λ opening. opening
             ≡ option_map (λ book. book.opening) (book_of user self.now.books)) }
@@ -121,8 +123,8 @@ impl<C: Cache, N: Naming> Closed<C, N> {
         }
     }
 
-    /// The entries of the last page of a user's book; `None` exactly where there is no such user, and an
-    /// error only where the hall's journal is off.
+    /// Returns the entries of the last page of a user's book, in order; none exactly if there is no
+    /// such user. Fails only if the hall's journal is off.
     pub fn page(&self, user: UserNo) -> Result<Option<&[CallEntry]>, Unread>
         ensures page { IfOk result (λ page. option_copied page
             ≡ option_map (λ book. book.entries) (book_of user self.now.books)) }
@@ -142,13 +144,14 @@ impl<C: Cache, N: Naming> Closed<C, N> {
         }
     }
 
-    /// Does the calls of a user's last page again, from what the page began with, on the definition's
-    /// own cache, and compares what each comes to with what was answered; `None` exactly where there is
-    /// no such user, and an error where memory for it is refused, or where the hall's journal is off. It
-    /// needs the memory of two caches of the user's, and the time of the page's calls on lists.
+    /// Replays the calls of a user's last page on the reference, from the page's opening, and
+    /// compares each outcome with the one answered. It returns none exactly if there is no such
+    /// user. `Unread::Off` only if the hall's journal is off, `Unread::NoMemory` if memory is
+    /// refused. It needs the memory of two caches of the user, and takes as long as the page's
+    /// calls take on lists.
     ///
-    /// That each comes to what was answered is proved of every hall (`audited`). So a difference is a
-    /// fault of what no proof is about: of the processor, the memory or the compiler.
+    /// The contract proves for every hall that all outcomes agree (`audited`). So a difference
+    /// shows a fault in what no proof covers: the processor, the memory or the compiler.
     pub fn audit(&self, alloc: Global, user: UserNo) -> Result<Option<Audit>, Unread>
         ensures audited { IfOk result (λ audit. audit
             ≡ option_map all_agree (book_of user self.now.books)) }

@@ -1,4 +1,4 @@
-//! A hall's end: all seats become one, which knows what is tied.
+//! A hall's end: all seats become one, which knows that seats and books agree.
 ghost use Rattle.std.specs.Prelude.{◌≡◌, ◌≢◌, ◌+◌, slice_get, Some, ℕ, ◌<◌, ◌≤◌, ◌++◌, ◌∷◌, [], length};
 ghost use Rattle.std.specs.Prelude.{slice_index, map, vec_len, vec_capacity, IfOk, IfErr, IfSome, IfNone};
 ghost use Rattle.tc_locked.specs.Views.{both_of, seat_view, book_view};
@@ -40,14 +40,14 @@ impl<C: Cache> Model for Shut<C> {
 }
 
 impl<C: Cache> Shut<C> {
-    /// The number of the book's user.
+    /// Returns the number of the book's user.
     pub fn user(&self) -> u32
         ensures { result ≡ self.now.user }
     {
         self.user.number()
     }
 
-    /// How many entries a seat made in it, over all pages.
+    /// Returns how many entries a seat made in it, over all pages.
     pub fn count(&self, seat_no: usize) -> u64
         requires { seat_no < length self.now.book.counts }
         ensures { result ≡ slice_index self.now.book.counts seat_no }
@@ -55,7 +55,8 @@ impl<C: Cache> Shut<C> {
         self.book.count(seat_no)
     }
 
-    /// The entry of that page and that number, if the page was not turned.
+    /// Returns the entry of this page and number; none if the page was turned. Fails only if the
+    /// journal is off.
     pub fn entry(&self, page: u64, number: u64) -> Result<Option<&CallEntry>, Unread>
         ensures other { IfOk result (λ found. page ≢ self.now.book.turns
             → IfSome found (λ _. ⊥)) }
@@ -71,7 +72,8 @@ impl<C: Cache> Shut<C> {
         self.book.entry(number)
     }
 
-    /// What the page began with, as lists.
+    /// Returns the opening of the page as lists. `Unread::Off` only if the journal is off,
+    /// `Unread::NoMemory` if memory is refused.
     pub fn opening(&self, alloc: Global) -> Result<Plain, Unread>
         ensures opening { IfOk result (λ plain. plain ≡ self.now.book.opening) }
         ensures off { IfErr result (λ fault. fault ≡ Off → self.now.book.keeps ≡ IsOff) }
@@ -80,7 +82,7 @@ impl<C: Cache> Shut<C> {
         self.book.opening(alloc)
     }
 
-    /// The entries of the page.
+    /// Returns the entries of the page, in order. Fails only if the journal is off.
     pub fn page(&self) -> Result<&[CallEntry], Unread>
         ensures entries { IfOk result (λ entries. entries.now ≡ self.now.book.entries) }
         ensures off { IfErr result (λ _. self.now.book.keeps ≡ IsOff) }
@@ -89,7 +91,8 @@ impl<C: Cache> Shut<C> {
         self.book.page()
     }
 
-    /// What is found when the page's calls are done again.
+    /// Replays the page's calls from its opening and compares the outcomes. `Unread::Off` only if
+    /// the journal is off, `Unread::NoMemory` if memory is refused.
     pub fn audit(&self, alloc: Global) -> Result<Audit, Unread>
         ensures audited { IfOk result (λ audit. audit ≡ all_agree self.now.book) }
         ensures off { IfErr result (λ fault. fault ≡ Off → self.now.book.keeps ≡ IsOff) }
@@ -101,7 +104,7 @@ impl<C: Cache> Shut<C> {
     }
 }
 
-/// Room for all books of the hall N when it ends. No thread looks at it before then.
+/// Room for all books of the hall N when it ends. No thread reads it before that.
 #[derive(Drop)]
 pub struct Room<C: Cache, N: Naming> {
     pub(crate) books: Vec<Shut<C>>,
@@ -121,7 +124,7 @@ impl<C: Cache, N: Naming> Model for Room<C, N> {
 }
 
 impl<C: Cache, N: Naming> Room<C, N> {
-    /// The room, which is empty.
+    /// Returns the room, which is empty.
     pub(crate) fn into_books(self) -> Vec<Shut<C>>
         ensures none { (vec_len result ≡ 0) × (result.items ≡ []) }
         ensures room { length N.terms.begins ≤ vec_capacity result }
@@ -131,7 +134,7 @@ impl<C: Cache, N: Naming> Room<C, N> {
     }
 }
 
-/// Takes one caller's seat in.
+/// Joins a caller's seat to `all`.
 fn take_seat<N: Naming>(table: &Shared, all: &mut TableSeat, seat: Seat<N>)
     requires table { (table.now.table_id ≡ N.table) × (0 < table.now.table_id.words) }
     requires all { all.old.table_id ≡ N.table }
@@ -146,7 +149,7 @@ fn take_seat<N: Naming>(table: &Shared, all: &mut TableSeat, seat: Seat<N>)
     table.join_seat::<Together>(all, inner);
 }
 
-/// Takes a book's seat in.
+/// Joins a book's seat to `all`, and returns the book.
 fn take_book<C: Cache, N: Naming>(
     table: &Shared,
     all: &mut TableSeat,
@@ -169,7 +172,7 @@ fn take_book<C: Cache, N: Naming>(
     Shut { user, book }
 }
 
-/// Takes all callers' seats in.
+/// Joins all callers' seats to `all`.
 pub fn take_seats<N: Naming>(table: &Shared, all: &mut TableSeat, seats: Vec<Seat<N>>)
     requires table { (table.now.table_id ≡ N.table) × (0 < table.now.table_id.words) }
     requires all { all.old.table_id ≡ N.table }
@@ -181,7 +184,7 @@ pub fn take_seats<N: Naming>(table: &Shared, all: &mut TableSeat, seats: Vec<Sea
     }
 }
 
-/// Takes all books and their seats in; the last lock's comes first.
+/// Joins all books' seats to `all`, and appends the books to `out`, the last lock's first.
 pub fn take_books<C: Cache, N: Naming>(
     table: &Shared,
     all: &mut TableSeat,
@@ -202,7 +205,7 @@ pub fn take_books<C: Cache, N: Naming>(
     }
 }
 
-/// What the one seat knows.
+/// Shows that the lists of seats and books in `all` agree (`Tied`).
 pub fn compare(table: &Shared, all: &mut TableSeat)
     requires { (all.old.table_id ≡ table.now.table_id) × (0 < table.now.table_id.words) }
     ensures same { (all.new.table_id ≡ all.old.table_id) × (all.new.me ≡ all.old.me) }

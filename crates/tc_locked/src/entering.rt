@@ -9,15 +9,18 @@ use crate::witness::Witness;
 use atomic_table::Badge;
 use tc_users::UserNo;
 
-/// The table's word by which a user's entries are noted. Each user has a line of memory of its own, so that
-/// processors that serve different users do not take it from each other.
+/// Returns the place of the word by which a user's entries are noted. The words of users whose
+/// numbers differ modulo 64 are at least 64 bytes apart, so processors that serve them don't
+/// contend for a cache line. Users 1 and 65 share a word, and users 64, 128 and so on have word 0,
+/// which every join and split loads.
 fn word_of(user: UserNo) -> usize
     ensures { result < table_words }
 {
     user.number() as usize % LINES * WORDS_A_LINE
 }
 
-/// Adds a note of the entry to the list of a caller's seat and to that of a book's seat, at once.
+/// Appends a note of the entry to the list of the caller's seat and to that of the book's seat, in
+/// one step.
 pub fn note_both(
     table: &Shared,
     seat: &mut TableSeat,

@@ -26,16 +26,18 @@ use tc_item::Moment;
 use tc_plain::{Cache, Journal, Progress};
 use tc_users::UserNo;
 
-/// The books of all users of the hall N. Contracts see how many there are.
+/// The books of all users of the hall N. Contracts see the number of users.
 #[derive(Drop)]
 pub struct Hall<C: Cache, N: Naming> {
     pub(crate) table: HallTable,
     pub(crate) books: Vec<Mutex<HallBook<C, N>>>,
+    /// How many entries a full page has.
     pub(crate) journal: usize,
+    /// Whether pages keep their entries in memory.
     pub(crate) keeps: Journal,
+    /// How many seats the hall began with.
     pub(crate) seats: usize,
-    /// Room for the books when the hall ends. It lies under a lock of its own, so that threads may share
-    /// the hall.
+    /// Room for the books when the hall ends. Its own lock lets threads share the hall.
     pub(crate) room: Mutex<Room<C, N>>,
 }
 
@@ -58,7 +60,7 @@ impl<C: Cache, N: Naming> Model for Hall<C, N> {
         × (vec_len h.books < 2 ^ 32) };
 }
 
-/// A copy of a command to keep, over the same data, where the journal is on.
+/// Copies a command to keep if the journal is on. The copy shares the command's data.
 fn copy_to_keep(
     alloc: Global,
     command: &Command,
@@ -79,7 +81,7 @@ fn copy_to_keep(
 }
 
 impl<C: Cache, N: Naming> Hall<C, N> {
-    /// How many users there are.
+    /// Returns how many users there are. Their numbers are 1 to this.
     pub fn users(&self) -> u32
         ensures count { result ≡ self.now }
         ensures begins { self.now ≡ length N.terms.begins }
@@ -87,8 +89,8 @@ impl<C: Cache, N: Naming> Hall<C, N> {
         self.books.len() as u32
     }
 
-    /// `call`, which keeps the user's lock in `lease`, runs `held` once it has the lock, and notes a
-    /// refusal among the others.
+    /// Runs a `call` that keeps the user's lock in `lease`. It runs `held` once it has the lock,
+    /// and adds a refusal to `refusals`.
     pub fn call_with<'a, R: Wait, F: FnOnce()>(
         &'a self,
         rt: &R,
@@ -120,7 +122,7 @@ impl<C: Cache, N: Naming> Hall<C, N> {
         called
     }
 
-    /// The call itself.
+    /// Does the work of `call` and `call_with`.
     fn try_call<'a, R: Wait, F: FnOnce()>(
         &'a self,
         rt: &R,
@@ -144,14 +146,15 @@ impl<C: Cache, N: Naming> Hall<C, N> {
         if number == 0 || number > self.users() {
             return Err(CallFault::NoUser);
         }
-        // Copied before the lock is got, so that nobody waits for it.
+        // Copied before the thread takes the lock, so that nobody waits for the copy.
         let copy = copy_to_keep(alloc, command, self.keeps)?;
         let at = (number - 1) as usize;
         let mut guard = lease.lock(rt, number, &self.books[at]);
         held();
         let book = &mut *guard;
         if book.user() != number {
-            // A lock doesn't know which place it has. No hall is made so.
+            // A lock's type doesn't say which place it has. No hall is made with a book in
+            // another's place.
             drop(copy);
             return Err(CallFault::OtherBook);
         }
@@ -174,7 +177,8 @@ impl<C: Cache, N: Naming> Hall<C, N> {
         })
     }
 
-    /// One call of a seat, in the user's book. A refusal leaves the seat as it was.
+    /// Runs one command for a seat in the user's book. It fails with `NoUser` exactly if the hall
+    /// has no such user. A refusal leaves the seat unchanged.
     pub fn call<R: Wait>(
         &self,
         rt: &R,
@@ -195,8 +199,8 @@ impl<C: Cache, N: Naming> Hall<C, N> {
         self.try_call(rt, alloc, seat, &mut lease, user, now, conn, command, || ())
     }
 
-    /// Deferred work of a user's cache, at most `limit` pieces of it; nothing for an unknown user. No
-    /// clause says how far it came: where more is left, the user's calls do it.
+    /// Does at most `limit` pieces of deferred work of a user's cache; nothing for an unknown user.
+    /// No clause says how much it does: the user's calls do the rest.
     pub fn maintain<R: Wait>(&self, rt: &R, user: UserNo, now: Moment, limit: u32) -> Progress {
         let number = user.number();
         if number == 0 || number > self.users() {
@@ -205,8 +209,9 @@ impl<C: Cache, N: Naming> Hall<C, N> {
         lock_soon(&self.books[(number - 1) as usize], rt).maintain(now, limit)
     }
 
-    /// Reads what look-ups of keys of these hashes in a user's cache are going to read, under the user's lock,
-    /// which is kept for the calls to come; nothing for an unknown user. Nothing changes.
+    /// Prefetches what look-ups of keys with these hashes will read in a user's cache, under the
+    /// user's lock, which `lease` keeps for the next calls. It changes nothing, and does nothing
+    /// for an unknown user.
     pub fn read_ahead<'a, R: Wait>(
         &'a self,
         rt: &R,
@@ -223,8 +228,9 @@ impl<C: Cache, N: Naming> Hall<C, N> {
         lease.hold(number, guard);
     }
 
-    /// How many bytes the entries of a user's page keep, their data among them, whether the cache has it
-    /// too or not; none for an unknown user. It is a figure for who runs the server, and no promise.
+    /// Returns how many bytes the entries of a user's page keep, with the data that they share with
+    /// the cache; 0 for an unknown user or if the journal is off. No clause covers it: it is a
+    /// figure for the operator.
     pub fn journal_bytes<R: Wait>(&self, rt: &R, user: UserNo) -> u64 {
         let number = user.number();
         if number == 0 || number > self.users() {
@@ -233,10 +239,12 @@ impl<C: Cache, N: Naming> Hall<C, N> {
         lock_soon(&self.books[(number - 1) as usize], rt).journal_bytes()
     }
 
-    /// Ends the hall. It is refused exactly where fewer seats than all are given, and the hall and the
-    /// seats come back. Else each book is legal over all pages (`kept`), each seat's entries in each
-    /// book are what the seat wrote there (`tied`), each hit is what the entries before it last left
-    /// under its key (`fresh`), and each user has a book (`there`).
+    /// Ends the hall. It fails exactly if it gets fewer than all seats, and returns the hall and
+    /// those seats.
+    ///
+    /// Otherwise each book is legal over all pages (`kept`). Each seat's entries in each book are
+    /// what the seat wrote there (`tied`). Each hit is what the entries before it last left under
+    /// its key (`fresh`). Each user has a book (`there`).
     pub fn close(self, mut seats: Vec<Seat<N>>) -> Result<Closed<C, N>, Missing<C, N>>
         ensures seats { IfOk result (λ closed. closed.seats ≡ seats.items) }
         ensures books { IfOk result (λ closed. length closed.books ≡ self) }

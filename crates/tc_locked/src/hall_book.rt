@@ -1,4 +1,4 @@
-//! What lies under a user's lock: the user's book, beside its own seat of the hall's table.
+//! What lies under a user's lock: the user's book, with the book's own seat of the hall's table.
 ghost use Rattle.std.specs.Prelude.{◌≡◌, ◌<◌, ◌≤◌, IfOk, OnOk, IfErr, OnErr, length};
 ghost use Rattle.tc_plain.specs.Keeping.{kept_by};
 ghost use Rattle.tc_locked.specs.Views.{table_words, of_user};
@@ -22,7 +22,7 @@ use tc_item::Moment;
 use tc_plain::{Cache, Plain, Progress};
 use tc_users::UserNo;
 
-/// A book of the hall N, seen as its user, its state and the notes of all its pages.
+/// A book of the hall N. Contracts see its user, its state and the notes of all its pages.
 #[derive(Drop)]
 pub struct HallBook<C: Cache, N: Naming> {
     pub(crate) user: UserNo,
@@ -46,8 +46,9 @@ impl<C: Cache, N: Naming> Model for HallBook<C, N> {
 }
 
 impl<C: Cache, N: Naming> HallBook<C, N> {
-    /// One call of a seat: the book's paged call, and the notes of both seats. It waits for nobody, and
-    /// a refusal changes nothing. What a turned page began with goes to `left`.
+    /// Runs a paged call of the book, and notes the entry with the caller's seat and the book's. It
+    /// never blocks, and a refusal changes nothing. The frozen opening of a turned page goes to
+    /// `left`.
     pub fn call(
         &mut self,
         alloc: Global,
@@ -98,7 +99,7 @@ impl<C: Cache, N: Naming> HallBook<C, N> {
         Ok(called)
     }
 
-    /// Deferred work of the cache, at most `limit` pieces of it (`Cache::maintain`).
+    /// Does at most `limit` pieces of the cache's deferred work (`Cache::maintain`).
     pub fn maintain(&mut self, now: Moment, limit: u32) -> Progress
         ensures { self.new ≡ record {
           user = self.old.user;
@@ -109,17 +110,17 @@ impl<C: Cache, N: Naming> HallBook<C, N> {
         self.book.maintain(now, limit)
     }
 
-    /// Reads what look-ups of keys of these hashes are going to read.
+    /// Prefetches what look-ups of keys with these hashes will read.
     pub(crate) fn read_ahead(&self, hashes: &[u64]) {
         self.book.read_ahead(hashes);
     }
 
-    /// How many bytes the entries of its page keep.
+    /// Returns how many bytes the entries of its page keep; 0 if the journal is off.
     pub(crate) fn journal_bytes(&self) -> u64 {
         self.book.journal_bytes()
     }
 
-    /// The number of the book's user.
+    /// Returns the number of the book's user.
     pub(crate) fn user(&self) -> u32
         ensures { result ≡ self.now.user }
     {

@@ -6,7 +6,8 @@ use std::marker::Model;
 use tc_grammar::Command;
 use tc_item::NoMemory;
 
-/// A command in a box of its own, so that a call of which no entry is kept moves no room for one about.
+/// A command in a box of its own, so that a call that keeps no entry doesn't move that much room
+/// around.
 #[derive(Drop)]
 pub struct KeptCommand {
     command: Box<Command>,
@@ -21,7 +22,7 @@ impl Model for KeptCommand {
 }
 
 impl KeptCommand {
-    /// An equal command, over the same data.
+    /// Copies a command; the copy shares its data. Fails if memory is refused.
     pub fn of(alloc: Global, command: &Command) -> Result<KeptCommand, NoMemory>
         ensures { IfOk result (λ kept. kept ≡ command.now) }
     {
@@ -30,7 +31,7 @@ impl KeptCommand {
         Ok(KeptCommand { command })
     }
 
-    /// The command.
+    /// Returns the command.
     pub fn get(&self) -> &Command
         ensures { result.now ≡ self.now }
     {

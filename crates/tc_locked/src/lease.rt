@@ -6,11 +6,11 @@ use std::sync::{Mutex, MutexGuard, Wait};
 use tc_grammar::Command;
 use tc_plain::{Cache, Plain};
 
-/// Once commands of this cost were done under a lock that is kept, it is given back, after some tenths
-/// of a millisecond, or later where one command is long: others who wait have their turn.
+/// The cost of commands, in keys, after which the holder of a kept lock releases it so that others
+/// have their turn. That takes some tenths of a millisecond, or longer if one command is long.
 const MOST: usize = 2_048;
 
-/// What a command costs, by its keys.
+/// Returns what a command costs: its number of keys, or 1.
 fn cost_of(command: &Command) -> usize {
     match command {
         Command::Get { form: _, keys } => keys.len(),
@@ -19,23 +19,23 @@ fn cost_of(command: &Command) -> usize {
     }
 }
 
-/// A user's lock, kept from one call to the next, or none. Where a thread makes several calls for a user
-/// one after the other, what the lock guards goes from one processor to the other once, and not with each
-/// call. What lies under the lock is known by its type alone, as by any lock.
+/// A user's lock that a thread keeps from one call to the next, or none. If the thread makes
+/// several calls for a user in a row, the guarded data moves between processors once, and not with
+/// each call. Contracts know what lies under it by its type alone, as under any lock.
 #[derive(Drop)]
 pub struct Lease<'a, C: Cache, N: Naming> {
     guard: Option<MutexGuard<'a, HallBook<C, N>>>,
-    /// Whose lock it is.
+    /// The number of the user whose lock it is.
     user: u32,
-    /// What was done since the lock was got.
+    /// The cost of the commands since the thread took the lock.
     done: usize,
-    /// What a page that was turned under it began with, if that was kept. It may be much memory, and others wait
-    /// for the lock, so it is let go of once none is held.
+    /// The frozen opening of a page that was turned under the lock, if the journal is on. It may be
+    /// large, and others wait for the lock, so it is freed once the lock is released.
     pub(crate) left: Option<Plain>,
 }
 
 impl<'a, C: Cache, N: Naming> Lease<'a, C, N> {
-    /// No lock.
+    /// A lease without a lock.
     pub fn none() -> Lease<'a, C, N> {
         Lease {
             guard: None,
@@ -45,14 +45,15 @@ impl<'a, C: Cache, N: Naming> Lease<'a, C, N> {
         }
     }
 
-    /// Gives the lock back, if there is one, and lets go of what calls under it left over.
+    /// Releases the lock, if there is one, and then frees what its calls left over.
     pub fn release(&mut self) {
         drop(self.guard.take());
         self.done = 0;
         self.left = None;
     }
 
-    /// The lock of this user: the one that is kept, or the user's once it is got.
+    /// Returns this user's lock: the kept one, or the one given, once the thread has it. A kept
+    /// lock of another user is released first.
     pub(crate) fn lock<R: Wait>(
         &mut self,
         rt: &R,
@@ -69,14 +70,14 @@ impl<'a, C: Cache, N: Naming> Lease<'a, C, N> {
         }
     }
 
-    /// Keeps the lock of this user, under which nothing was done.
+    /// Keeps the lock of this user after no command.
     pub(crate) fn hold(&mut self, user: u32, guard: MutexGuard<'a, HallBook<C, N>>) {
         self.user = user;
         self.guard = Some(guard);
     }
 
-    /// Keeps the lock of this user after a command, or gives it back where enough was done under it, or where a
-    /// page was turned, so that no more is left over than one turn leaves.
+    /// Keeps the lock of this user after a command. It releases the lock if the commands have cost
+    /// enough, or after a page turn, so that at most one opening is left over.
     pub(crate) fn keep(
         &mut self,
         user: u32,

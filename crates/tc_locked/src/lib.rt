@@ -1,44 +1,61 @@
-//! Books under locks: what each thread did to one user's cache is a history of that cache.
+//! Books under locks: each user's cache sits in a book that records every call as a history.
 //!
 //! # Terms
 //!
-//! - An **entry** is one call as it was done: by which seat, when, for which connection, the command
-//!   and its outcome, with its number in the book and in its seat.
-//! - A **page** is the entries since it began, and its **opening** what the cache stood for then. A full
-//!   page is turned before the next call: a new one begins with what the cache stands for.
-//! - A **book** is one user's cache with its page and the counts of its entries. A `HallBook` is a book as it
-//!   lies under its user's lock, with the notes of all its pages.
-//! - A **hall** has a `HallBook` for each user. It has a name, which is a type (`Naming`): its table, the
-//!   caches that its users begin with, how many seats there are and how long a page is.
-//! - A **seat** is by what a thread calls. It shows the entries that it wrote, of whatever book. One of
-//!   another hall doesn't fit.
-//! - A **receipt** is what a call gives: whose book it was entered in, and as what.
-//! - A **lease** is a user's lock that a thread keeps from one call to the next. What lies under it is
-//!   known by its type alone, as under any lock.
-//! - **Refusals** are the calls that the hall refused a caller, in proofs alone (`Hall::call_with`).
+//! - A cache's **state** is the one that it has once its deferred work is done (the trait `Cache`
+//!   of tc_plain).
+//! - An **entry** is one call: its seat, moment, connection, command and outcome, with its number
+//!   in the book and in its seat.
+//! - A **page** is the entries since it began. Its **opening** is the state that the cache had at
+//!   that point.
+//! - A **turn** ends a full page: the next call's entry begins a new one, whose opening is the
+//!   cache's state just before that call.
+//! - A **book** is one user's cache with its page and the counts of its entries. A `HallBook` is a
+//!   book as it lies under its user's lock, with the notes of all its pages.
+//! - A **hall** has a `HallBook` for each user. Its name is a type (`Naming`), which fixes its
+//!   table, the caches that its users begin with, the number of seats and the length of a page.
+//! - A **seat** is what a thread calls a hall with. It shows the entries that it wrote, in any
+//!   book. Its type rejects a seat of another hall.
+//! - A **receipt** is what a successful call returns: the user whose book has the entry, and the
+//!   entry's slip.
+//! - A **lease** is a user's lock that a thread keeps from one call to the next. Contracts know
+//!   what lies under it by its type alone, as under any lock.
+//! - **Refusals** are the calls that the hall refused, in proofs alone (`Hall::call_with`).
+//!
+//! # What is kept in memory
+//!
+//! If the hall's journal is on (`--audit`), a page keeps its entries. The book freezes the cache
+//! into a `Plain` when it opens, and again before the call that turns a page.
+//!
+//! If the journal is off, entries and openings exist in proofs alone. Nothing is frozen.
 //!
 //! # What is always true
 //!
-//! 1. A book is legal: from its opening, its entries give their outcomes, and what they leave, brought to
-//!    the book's moment, is what the cache stands for (`IsBook` in `specs/Books.antt`).
-//! 2. A `HallBook` is legal over all its pages, from the user's empty cache on; each turned page had the
-//!    hall's number of entries (`IsHallBook` in `specs/HallBooks.antt`).
-//! 3. An entry stands in the notes of its seat and of its book, or in neither: a call joins the caller's
-//!    seat and the book's, notes its entry in both at once, and parts them again, all while it holds the
-//!    lock. Both lists are parts of one history in the rule of the hall's table (`specs/Rule.antt`,
+//! 1. A book is legal: from its opening, its entries give their outcomes. The state that they
+//!    leave, advanced to the book's moment, is the cache's state (`IsBook` in `specs/Books.antt`).
+//! 2. A `HallBook` is legal over all its pages, from the user's empty cache on. Each turned page
+//!    had exactly the hall's page length of entries (`IsHallBook` in `specs/HallBooks.antt`).
+//! 3. An entry is in the notes of its seat and of its book, or in neither. A call holds the lock
+//!    while it joins the caller's seat with the book's, notes its entry in both at once, and splits
+//!    them. Both lists are parts of one history in the rule of the hall's table (`specs/Rule.antt`,
 //!    `specs/Views.antt`).
-//! 4. A call that is refused leaves the book and the seat as they were (`HallBook::call`
-//!    `unchanged_on_err`). All memory is taken before the cache is touched.
+//! 4. A refused call leaves the book and the seat unchanged (`HallBook::call` `unchanged_on_err`).
+//!    A call takes all its memory before it changes the cache's state.
 //!
-//! `Hall::close` gives the books and the seats, and says that each seat's entries in a book are what the
-//! seat wrote there (`specs/Closing.antt`). `Closed::audit` does the calls of a user's last page again on
-//! the reference, from what the page began with, and tells the first that comes to another outcome; that
-//! none does is proved (`specs/Audits.antt`).
+//! `Hall::close` returns the books and the seats, and says that each seat's entries in a book are
+//! what the seat wrote there (`specs/Closing.antt`). `Closed::audit` replays a user's last page on
+//! the reference from its opening, and reports the first call whose outcome differs. Its contract
+//! proves that none does (`specs/Audits.antt`).
 //!
-//! No clause says that memory suffices, that a lock is ever got, or in which order two seats' calls are
-//! entered; nor that a lock of the hall is its user's, which `Hall::call` asks each time. What
-//! maintenance does to a book is said of `Book::maintain`, not of `Hall::maintain`, and that
-//! `Clock::advance` raises the clock is not said.
+//! # What no clause says
+//!
+//! - That memory suffices, that a thread ever gets a lock, or in which order the calls of two seats
+//!   are entered.
+//! - That a user's lock guards that user's book. `Hall::call` and `Hall::call_with` check it on
+//!   each call and refuse another user's (`CallFault::OtherBook`); `maintain`, `read_ahead` and
+//!   `journal_bytes` don't check.
+//! - What `Hall::maintain` does: only `Book::maintain` and `HallBook::maintain` have clauses.
+//! - That `Clock::advance` raises the clock.
 #![tactic(auto)]
 
 mod audit;

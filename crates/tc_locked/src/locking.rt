@@ -1,12 +1,12 @@
-//! How a user's lock is got.
+//! How a thread takes a user's lock.
 use std::hint::spin_loop;
 use std::sync::{Mutex, MutexGuard, Wait};
 
-/// How often a lock is tried before its thread waits to be woken: some microseconds, in which a call or
-/// two end.
+/// How often a thread tries a lock before it blocks. The tries take some microseconds, in which a
+/// call or two end.
 const TRIES: u32 = 200;
 
-/// The lock, where it is got within some tries.
+/// Tries the lock up to `TRIES` times.
 fn try_often<T>(lock: &Mutex<T>) -> Option<MutexGuard<'_, T>> {
     for _ in 0..TRIES {
         if let Some(guard) = lock.try_lock() {
@@ -17,9 +17,9 @@ fn try_often<T>(lock: &Mutex<T>) -> Option<MutexGuard<'_, T>> {
     None
 }
 
-/// The lock, once it is got. A call holds it for a microsecond or two, so its thread tries for a while
-/// before it waits to be woken: who gives a lock back to a thread that waits has to wake it, which costs
-/// both more than a call.
+/// Takes the lock. A call holds it for a microsecond or two, so the thread spins for a while before
+/// it blocks. A holder that releases a lock to a blocked thread has to wake it, which costs both
+/// more than a call.
 pub(crate) fn lock_soon<'a, T, R: Wait>(lock: &'a Mutex<T>, rt: &R) -> MutexGuard<'a, T> {
     match try_often(lock) {
         Some(guard) => guard,

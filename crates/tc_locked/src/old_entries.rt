@@ -1,13 +1,13 @@
-//! Reads the entries of a page that was turned, before new ones take their places.
+//! Prefetches the entries of a turned page just before new ones replace them.
 use crate::call_entry::CallEntry;
 use std::sync::atomic::{AtomicU64, Ordering};
 use tc_grammar::Command;
 use tc_stats::{Hits, Outcome};
 
-/// How many entries of one item each are read at once.
+/// How many entries with one item each are read together.
 const AT_ONCE: usize = 16;
 
-/// How long the data of hits is, so that its memory is read.
+/// Returns the length of the hits' data, which reads its memory.
 fn data_of_hits(hits: &Hits) -> u64 {
     let mut sum: u64 = 0;
     for hit in hits.as_slice() {
@@ -16,7 +16,7 @@ fn data_of_hits(hits: &Hits) -> u64 {
     sum
 }
 
-/// The same of an entry that holds one item's data at most.
+/// Returns the length of the data of an entry with at most one item, or 0.
 fn data_of_one(entry: &CallEntry) -> u64 {
     if let Command::Store(_, blob) = entry.command.get() {
         return blob.len() as u64;
@@ -27,7 +27,7 @@ fn data_of_one(entry: &CallEntry) -> u64 {
     }
 }
 
-/// The same of an entry that holds more.
+/// Returns the length of the data of an entry with several hits, or 0.
 fn data_of_many(entry: &CallEntry) -> u64 {
     match &entry.outcome {
         Outcome::Values(hits) if hits.len() > 1 => data_of_hits(hits),
@@ -35,7 +35,7 @@ fn data_of_many(entry: &CallEntry) -> u64 {
     }
 }
 
-/// The same of the entries of one item each from a place on, where it is a sixteenth.
+/// Sums `data_of_one` over 16 entries from a place on, if the place is a multiple of 16.
 fn data_from(entries: &[CallEntry], from: usize) -> u64 {
     let mut sum: u64 = 0;
     if from % AT_ONCE == 0 {
@@ -48,11 +48,12 @@ fn data_from(entries: &[CallEntry], from: usize) -> u64 {
     sum
 }
 
-/// Reads the data of the entry at a place, where it holds several items, and at each sixteenth place
-/// that of the sixteen from there on that hold one, and does nothing with it. To let an entry go is to
-/// wait for the memory of each data, whose holders are counted by an atomic that no later read
-/// overtakes; these reads wait together. What they come to goes to an atomic, so that a compiler leaves
-/// them in.
+/// Reads the data of the entry at a place if it has several hits. At each multiple of 16 it also
+/// reads the data of the 16 entries from there on, as far as these have one item each.
+///
+/// Dropping an entry waits for the memory of each data: an atomic counts its holders, and no later
+/// read overtakes it. The reads here wait together. Their sum goes to an atomic, so that the
+/// compiler keeps them.
 pub(crate) fn prefetch(entries: &[CallEntry], from: usize) {
     let Some(entry) = entries.get(from) else {
         return;

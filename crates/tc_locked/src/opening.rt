@@ -20,7 +20,7 @@ use tc_item::NoMemory;
 use tc_plain::{Cache, Journal};
 use tc_users::{UserNo, Users};
 
-/// A hall's table, which has no name yet. Contracts see which table it is.
+/// The table of a hall that is not made yet. Contracts see its identity, which names the hall.
 #[derive(Drop)]
 pub struct Opened {
     table: HallTable,
@@ -44,14 +44,14 @@ impl Model for Opened {
 }
 
 impl Opened {
-    /// A table for a hall to come.
+    /// Makes a table for one hall. Fails if memory is refused.
     pub fn new(alloc: Global) -> Result<Opened, NoMemory> {
         let (table, first) = HallTable::of_words(alloc, &[0; WORDS], &())?;
         Ok(Opened { table, first })
     }
 }
 
-/// The seats from 0 to `seats`.
+/// Splits off the callers' seats 0 to `seats` - 1 and appends them to `out`.
 fn make_seats<N: Naming>(
     table: &Shared,
     first: &mut TableSeat,
@@ -77,7 +77,7 @@ fn make_seats<N: Naming>(
     }
 }
 
-/// The user of this number.
+/// Returns the user of this number.
 fn numbered(number: u64) -> UserNo
     requires few { number < 2 ^ 32 }
     ensures { result ≡ number }
@@ -85,7 +85,7 @@ fn numbered(number: u64) -> UserNo
     UserNo::new(number as u32)
 }
 
-/// A book with a seat of its own, for the next user.
+/// Makes the next user's book for the hall, with a seat of its own.
 fn make_book<C: Cache, N: Naming>(
     table: &Shared,
     first: &mut TableSeat,
@@ -111,7 +111,7 @@ fn make_book<C: Cache, N: Naming>(
     }
 }
 
-/// A book for each cache, each under a lock.
+/// Makes a book for each cache, each under a lock, and appends them to `out`.
 fn make_books<C: Cache, N: Naming>(
     alloc: Global,
     table: &Shared,
@@ -142,7 +142,7 @@ fn make_books<C: Cache, N: Naming>(
     Ok(())
 }
 
-/// How many users there are, each of whom has a cache.
+/// Returns how many users there are. Each has a cache.
 fn count_users<C: Cache>(users: &Users, caches: &Vec<C>) -> usize
     requires caches { map C.settled caches.now.items ≡ map fresh_cache users.now }
     ensures users { result ≡ length users.now }
@@ -154,9 +154,11 @@ fn count_users<C: Cache>(users: &Users, caches: &Vec<C>) -> usize
 }
 
 impl<C: Cache, N: Naming> Hall<C, N> {
-    /// A hall with a book for each user, whose cache is the one at the user's place and is fresh, and
-    /// its seats, numbered from 0, which wrote nothing. A page has `journal` entries, which are kept
-    /// where `keeps` says so: else they stand in proofs alone, and can't be read when the hall has ended.
+    /// Makes a hall and its seats, which are numbered from 0 and have written nothing. Each user
+    /// has a book over the fresh cache at the user's place.
+    ///
+    /// A page has `journal` entries. `keeps` says whether memory keeps them; otherwise they exist
+    /// in proofs alone, and can't be read when the hall has ended. Fails if memory is refused.
     pub fn new(
         alloc: Global,
         opened: Opened,

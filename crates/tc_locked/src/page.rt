@@ -1,4 +1,4 @@
-//! The entries of a page: in proofs always, and in memory where they are kept.
+//! The entries of a page: in proofs always, and in memory if the journal is on.
 ghost use Rattle.std.specs.Prelude.{◌≡◌, ◌+◌, ◌^◌, ◌<◌, ◌≤◌, ◌++◌, ◌∷◌, [], length, take, vec_len, vec_capacity};
 ghost use Rattle.std.specs.Prelude.{IfOk, OnOk, IfErr};
 ghost use Rattle.tc_plain.specs.declared.shared.journal.Journal.TheVariants.{On, Off as IsOff};
@@ -18,20 +18,20 @@ use tc_item::NoMemory;
 use tc_plain::{Journal, KeptOutcome};
 use tc_stats::Outcome;
 
-/// The entries of a page. Where the journal is off, nobody can read them, and they take no memory.
+/// The entries of a page. If the journal is off, nobody can read them, and they take no memory.
 #[derive(Drop)]
 pub struct Page {
     /// The entries, in proofs alone.
     pub(crate) noted: Log<Witness, Numbers>,
-    /// How many there are.
+    /// How many entries there are.
     pub(crate) used: usize,
-    /// The entries, and behind them such of the page before as are not replaced yet.
+    /// The entries, and behind them those of the last page that are not yet replaced.
     pub(crate) kept: Vec<CallEntry>,
-    /// Whether they are kept.
+    /// Whether memory keeps the entries.
     pub(crate) journal: Journal,
 }
 
-/// Puts an entry behind the first `used`, in the place of the one there, if there is one.
+/// Writes an entry behind the first `used`, over an old one if there is one.
 fn put(entries: &mut Vec<CallEntry>, used: usize, entry: CallEntry)
     requires within { used ≤ length entries.old.items }
     requires room { length entries.old.items ≤ used
@@ -48,7 +48,8 @@ fn put(entries: &mut Vec<CallEntry>, used: usize, entry: CallEntry)
     }
 }
 
-/// Keeps an entry behind the first `used`, of what is given to keep of it.
+/// Keeps an entry behind the first `used`, made of the two copies. Keeps nothing if the journal is
+/// off.
 fn keep(
     entries: &mut Vec<CallEntry>,
     used: usize,
@@ -79,7 +80,7 @@ fn keep(
 }
 
 impl Page {
-    /// No entry.
+    /// An empty page.
     pub(crate) fn new(alloc: Global, journal: Journal) -> Page
         ensures page { IsPage result }
         ensures entries { entries_on result ≡ [] }
@@ -93,7 +94,7 @@ impl Page {
         }
     }
 
-    /// Room for an entry more, where they are kept.
+    /// Reserves room for one more entry if the journal is on.
     pub(crate) fn reserve(&mut self) -> Result<(), NoMemory>
         requires { IsPage self.old }
         ensures page { IsPage self.new }
@@ -112,8 +113,8 @@ impl Page {
         }
     }
 
-    /// An entry more: its numbers, its command with the copy that was made of it to keep, and what was
-    /// answered, with the same to keep.
+    /// Adds an entry and returns it. `copy` and `outcome` are the command and `answer` once more,
+    /// to keep if the journal is on.
     pub(crate) fn add(
         &mut self,
         numbers: Numbers,
@@ -149,8 +150,8 @@ impl Page {
         witness
     }
 
-    /// A new page: no entry, in the same memory. What the page before kept stays until new entries take
-    /// its place, one a call.
+    /// Begins a new page in the same memory. Entries of the last page keep their memory until new
+    /// ones replace them, one a call.
     pub(crate) fn clear(&mut self)
         requires { IsPage self.old }
         ensures page { IsPage self.new }
@@ -162,7 +163,7 @@ impl Page {
         self.used = 0;
     }
 
-    /// How many entries there are.
+    /// Returns how many entries there are.
     pub(crate) fn len(&self) -> usize
         requires { IsPage self.now }
         ensures { result ≡ length (entries_on self.now) }
@@ -170,7 +171,7 @@ impl Page {
         self.used
     }
 
-    /// The entries, in order; an error exactly where they are not kept.
+    /// Returns the entries, in order. Fails exactly if the journal is off.
     pub(crate) fn entries(&self) -> Result<&[CallEntry], Unread>
         requires { IsPage self.now }
         ensures entries { IfOk result (λ entries. entries.now ≡ entries_on self.now) }

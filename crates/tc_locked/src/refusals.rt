@@ -1,4 +1,4 @@
-//! What a hall refused.
+//! The calls that a hall refused.
 ghost use Rattle.std.specs.Prelude.{◌≡◌, ◌++◌, ◌∷◌, []};
 
 use crate::call_fault::CallFault;
@@ -8,7 +8,7 @@ use std::marker::{Model, PhantomData};
 use tc_grammar::Command;
 use tc_users::UserNo;
 
-/// For whom and on which connection a command was refused, and why.
+/// The user and the connection whose command was refused, and why.
 #[derive(Clone, Copy, Debug, Drop)]
 pub struct Refused {
     pub user: UserNo,
@@ -16,8 +16,8 @@ pub struct Refused {
     pub fault: CallFault,
 }
 
-/// The calls that the hall N refused, in their order, each with its command. A hall's call alone adds to
-/// them. They stand in proofs alone: it takes no memory, and there is nothing to it when it runs.
+/// The calls that the hall N refused, in order, each with its command. Only `Hall::call_with` adds
+/// to them. They exist in proofs alone, and take no memory and no time.
 #[derive(Drop)]
 pub struct Refusals<N: Naming> {
     log: Log<Refused, Command>,
@@ -34,7 +34,7 @@ impl<N: Naming> Model for Refusals<N> {
 }
 
 impl<N: Naming> Refusals<N> {
-    /// No call was refused.
+    /// An empty list.
     pub fn new() -> Refusals<N>
         ensures { result ≡ [] }
     {
@@ -44,7 +44,7 @@ impl<N: Naming> Refusals<N> {
         }
     }
 
-    /// One call more was refused.
+    /// Adds a refused call.
     pub(crate) fn add(&mut self, refused: Refused, command: &Command)
         ensures { self.new ≡ self.old ++ (refused, command.now) ∷ [] }
     {

@@ -5,7 +5,7 @@ ghost use Rattle.tc_locked.specs.Views.{seat_view};
 use crate::naming::{Naming, TableSeat};
 use std::marker::{Model, PhantomData};
 
-/// A seat of the hall N, seen as its number and the notes of what it wrote.
+/// A seat of the hall N. Contracts see its number and the notes of what it wrote.
 #[derive(Drop)]
 pub struct Seat<N: Naming> {
     pub(crate) inner: TableSeat,
@@ -28,7 +28,7 @@ impl<N: Naming> Model for Seat<N> {
 }
 
 impl<N: Naming> Seat<N> {
-    /// Its number, from 0 in the order of the hall's list.
+    /// Returns its number, from 0 in the order of the hall's list.
     pub fn number(&self) -> usize
         ensures number { result ≡ self.now.number }
         ensures below { self.now.number < N.terms.seats }

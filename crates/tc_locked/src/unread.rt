@@ -1,4 +1,4 @@
-//! Why what a page keeps can't be read.
+//! Why a page's entries or opening can't be read.
 ghost use Rattle.std.specs.Prelude.{◌≡◌};
 ghost use Rattle.tc_locked.specs.declared.unread.Unread.TheVariants.{NoMemory as OutOfMemory};
 
@@ -6,12 +6,12 @@ use std::error::Error;
 use std::fmt;
 use tc_item::NoMemory;
 
-/// Why what a page keeps can't be read.
+/// Why a page's entries or opening can't be read.
 #[derive(Clone, Copy, Debug, PartialEq, Eq)]
 pub enum Unread {
     /// The allocator refused memory.
     NoMemory,
-    /// The hall's journal is off: nothing is kept.
+    /// The hall's journal is off, so memory keeps neither.
     Off,
 }
 

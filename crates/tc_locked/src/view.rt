@@ -5,20 +5,20 @@ use atomic_table::{Join, Play, Split, TableRule};
 use std::collections::LinkedList;
 use tc_users::UserNo;
 
-/// An entry, with the user whose book it stands in and its page.
+/// An entry, with its user and its page.
 pub struct Note {
     pub user: UserNo,
     pub page: u64,
     pub entry: CallEntry,
 }
 
-/// The notes of a user's book, or of a caller's seat.
+/// The notes of a user's book, or of a caller's seat, under its number.
 pub struct Face {
     pub number: u64,
     pub notes: LinkedList<Note>,
 }
 
-/// What a seat of the table knows.
+/// What a seat of the table knows: the lists of some books and of some callers' seats.
 pub struct View {
     pub mints: bool,
     pub books_made: u64,
@@ -39,7 +39,7 @@ impl TableRule<Witness, View, ()> for OneHistory {
     ghost first = { λ _. first_view 1 0 };
 }
 
-/// An entry is noted.
+/// The play that notes an entry.
 pub struct Noted;
 
 impl Play<Witness, View> for Noted {
@@ -48,7 +48,7 @@ impl Play<Witness, View> for Noted {
     ghost then = { Adds };
 }
 
-/// A look at what is tied.
+/// The play that shows that seats and books agree.
 pub struct Compared;
 
 impl Play<Witness, View> for Compared {
@@ -57,7 +57,7 @@ impl Play<Witness, View> for Compared {
     ghost then = { Ties };
 }
 
-/// The first seat hands out a book's.
+/// The first seat splits off a book's seat.
 pub struct NewBook;
 
 impl Split<View> for NewBook {
@@ -68,7 +68,7 @@ impl Split<View> for NewBook {
     ghost right = { new_book };
 }
 
-/// The first seat hands out a caller's.
+/// The first seat splits off a caller's seat.
 pub struct NewSeat;
 
 impl Split<View> for NewSeat {
@@ -79,7 +79,7 @@ impl Split<View> for NewSeat {
     ghost right = { new_seat };
 }
 
-/// A seat keeps its callers' lists and gives its books' away.
+/// A seat keeps its callers' lists and splits off those of its books.
 pub struct Apart;
 
 impl Split<View> for Apart {
@@ -90,7 +90,7 @@ impl Split<View> for Apart {
     ghost right = { books_of };
 }
 
-/// A seat takes in all that another knows.
+/// A seat takes over all that another knows.
 pub struct Together;
 
 impl Join<View> for Together {

@@ -1,4 +1,4 @@
-//! An entry as proofs know it, whether it is kept or not.
+//! An entry as proofs know it, whether memory keeps it or not.
 ghost use Rattle.std.specs.Prelude.{◌≡◌};
 ghost use Rattle.tc_locked.specs.Witnesses.{entry_from};
 
@@ -8,8 +8,7 @@ use std::marker::Model;
 use tc_grammar::Command;
 use tc_stats::Outcome;
 
-/// An entry, and contracts see it as one. It stands in proofs alone: it takes no memory, and there is
-/// nothing to it when it runs.
+/// An entry in proofs alone, which contracts see as a `CallEntry`. It takes no memory and no time.
 #[derive(Drop)]
 pub struct Witness {
     said: Log<Numbers, Command>,
@@ -26,7 +25,7 @@ impl Model for Witness {
 }
 
 impl Witness {
-    /// The entry of these numbers.
+    /// The entry of these numbers, this command and this outcome.
     pub(crate) fn of(numbers: Numbers, command: &Command, outcome: &Outcome) -> Witness
         ensures { result ≡ entry_from numbers command.now outcome.now }
     {

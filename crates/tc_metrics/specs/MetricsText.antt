@@ -9,7 +9,14 @@ use Rattle.tc_metrics.specs.declared.metric.Metric.{Metric}
 use Rattle.tc_metrics.specs.declared.server.OwnMetric.{OwnMetric}
 use Rattle.tc_metrics.specs.declared.server.OwnMetric.TheVariants.{UnboundConnections, RefusedLogins, LimitedConnections}
 use Rattle.tc_metrics.specs.declared.server.OwnMetric.TheVariants.{LeftOutLines, ResidentMemory, CpuSeconds, OpenFds, MaxFds, Uptime}
+use Rattle.tc_metrics.specs.declared.closed.Closed.{Closed}
+use Rattle.tc_metrics.specs.declared.closed.Reason.{Reason}
+use Rattle.tc_metrics.specs.declared.closed.Reason.TheVariants.{Connections as TooMany, Idle, Stalled, HalfBlock}
+use Rattle.tc_metrics.specs.declared.worker.WorkerFigures.{WorkerFigures}
+use Rattle.tc_metrics.specs.declared.worker.WorkerMetric.{WorkerMetric}
+use Rattle.tc_metrics.specs.declared.worker.WorkerMetric.TheVariants.{BusySeconds, LongestTurn, Users}
 use Rattle.tc_metrics.specs.declared.metric.Metric.TheVariants.{Connections, JournalCalls, JournalBytes, CurrItems, TotalItems, Bytes, CmdGet}
+use Rattle.tc_metrics.specs.declared.metric.Metric.TheVariants.{RefusedLogins as UserRefusedLogins, NoMemory}
 use Rattle.tc_metrics.specs.declared.metric.Metric.TheVariants.{CmdSet, CmdFlush, CmdTouch, GetHits, GetMisses, DeleteMisses, DeleteHits, IncrMisses}
 use Rattle.tc_metrics.specs.declared.metric.Metric.TheVariants.{IncrHits, DecrMisses, DecrHits, CasMisses, CasHits, CasBadval, TouchHits}
 use Rattle.tc_metrics.specs.declared.metric.Metric.TheVariants.{TouchMisses, Evictions, LimitMaxbytes, ItemSizeMax, StoreTooLarge}
@@ -19,6 +26,8 @@ abbrev pub metric_name : Metric → List ℕ
 metric_name Connections = codes "partcached_connections"
 metric_name JournalCalls = codes "partcached_journal_calls_total"
 metric_name JournalBytes = codes "partcached_journal_bytes"
+metric_name UserRefusedLogins = codes "partcached_user_refused_logins_total"
+metric_name NoMemory = codes "partcached_no_memory_total"
 metric_name CurrItems = codes "partcached_curr_items"
 metric_name TotalItems = codes "partcached_total_items_total"
 metric_name Bytes = codes "partcached_bytes"
@@ -49,6 +58,8 @@ abbrev pub metric_help : Metric → List ℕ
 metric_help Connections = codes "Open connections of the user."
 metric_help JournalCalls = codes "Calls of the user's cache, those of the metrics among them."
 metric_help JournalBytes = codes "Bytes that the entries of the user's page keep."
+metric_help UserRefusedLogins = codes "Refused logins with the user's name."
+metric_help NoMemory = codes "Commands of the user that were answered out of memory."
 metric_help CurrItems = codes "Items that the user holds."
 metric_help TotalItems = codes "Items that the user stored."
 metric_help Bytes = codes "Bytes that the user's items take of its budget."
@@ -89,6 +100,8 @@ abbrev pub metric_number : Metric → UserFigures → ℕ
 metric_number Connections user = user.connections
 metric_number JournalCalls user = user.calls
 metric_number JournalBytes user = user.journal
+metric_number UserRefusedLogins user = user.refused_logins
+metric_number NoMemory user = user.no_memory
 metric_number CurrItems user = user.counters.curr_items
 metric_number TotalItems user = user.counters.total_items
 metric_number Bytes user = user.counters.bytes
@@ -117,7 +130,7 @@ metric_number StoreTooLarge user = user.counters.store_too_large
 -- all metrics, in the order in which they are told
 unfoldable pub all_metrics : List Metric
 all_metrics =
-    Connections ∷ JournalCalls ∷ JournalBytes ∷ CurrItems ∷ TotalItems ∷ Bytes
+    Connections ∷ JournalCalls ∷ JournalBytes ∷ UserRefusedLogins ∷ NoMemory ∷ CurrItems ∷ TotalItems ∷ Bytes
     ∷ CmdGet ∷ CmdSet ∷ CmdFlush ∷ CmdTouch ∷ GetHits
     ∷ GetMisses ∷ DeleteMisses ∷ DeleteHits ∷ IncrMisses ∷ IncrHits
     ∷ DecrMisses ∷ DecrHits ∷ CasMisses ∷ CasHits ∷ CasBadval
@@ -229,7 +242,91 @@ build_line version = build_name ++ (codes "{version=\"" ++ (version ++ codes "\"
 unfoldable pub build_text : List ℕ → List ℕ
 build_text version = head_lines build_name build_help true ++ build_line version
 
+-- the label of a reason for which a limit closed connections: the setting's name, or half_block
+abbrev pub reason_word : Reason → List ℕ
+reason_word TooMany = codes "connections"
+reason_word Idle = codes "idle_seconds"
+reason_word Stalled = codes "stalled_seconds"
+reason_word HalfBlock = codes "half_block"
+
+-- how many connections of a user were closed for it
+abbrev pub closed_number : Reason → Closed → ℕ
+closed_number TooMany closed = closed.connections
+closed_number Idle closed = closed.idle
+closed_number Stalled closed = closed.stalled
+closed_number HalfBlock closed = closed.half_block
+
+-- all reasons, in the order in which they are told
+unfoldable pub all_reasons : List Reason
+all_reasons = TooMany ∷ Idle ∷ Stalled ∷ HalfBlock ∷ []
+
+-- the name of the metric of connections that limits closed
+abbrev pub closed_name : List ℕ
+closed_name = codes "partcached_closed_connections_total"
+
+-- what it is, in a line
+abbrev pub closed_help : List ℕ
+closed_help = codes "Connections of the user that a limit closed."
+
+-- its line of a user and a reason
+unfoldable pub closed_line : UserFigures → Reason → List ℕ
+closed_line user reason =
+    closed_name ++ (codes "{user=\"" ++ (user.name.items ++ (codes "\",reason=\"" ++ (reason_word reason
+    ++ (codes "\"} " ++ (decimal (closed_number reason user.closed) ++ (10 ∷ [])))))))
+
+-- its lines of a user
+abbrev pub closed_lines : UserFigures → List ℕ
+closed_lines user = flat_map (closed_line user) all_reasons
+
+-- the metric: what it is, its kind, and its lines, user by user
+unfoldable pub closed_text : List UserFigures → List ℕ
+closed_text users = head_lines closed_name closed_help false ++ flat_map closed_lines users
+
+-- the name of a metric of a worker's
+abbrev pub worker_name : WorkerMetric → List ℕ
+worker_name BusySeconds = codes "partcached_worker_busy_seconds_total"
+worker_name LongestTurn = codes "partcached_worker_longest_turn_seconds"
+worker_name Users = codes "partcached_worker_users"
+
+-- what it is, in a line
+abbrev pub worker_help : WorkerMetric → List ℕ
+worker_help BusySeconds = codes "Seconds that the worker did not wait."
+worker_help LongestTurn = codes "The worker's longest turn since the last scrape."
+worker_help Users = codes "Users whose connections the worker serves first."
+
+-- whether it may go down
+abbrev pub worker_is_gauge : WorkerMetric → Bool
+worker_is_gauge BusySeconds = false
+worker_is_gauge other = true
+
+-- its number of a worker
+abbrev pub worker_number : WorkerMetric → WorkerFigures → ℕ
+worker_number BusySeconds worker = worker.busy_micros
+worker_number LongestTurn worker = worker.longest_turn_micros
+worker_number Users worker = worker.users
+
+-- what stands behind its number: 1234e-6 are 1,234 millionths of a second
+abbrev pub worker_unit : WorkerMetric → List ℕ
+worker_unit Users = []
+worker_unit other = codes "e-6"
+
+-- all metrics of a worker's, in the order in which they are told
+unfoldable pub worker_metrics : List WorkerMetric
+worker_metrics = BusySeconds ∷ LongestTurn ∷ Users ∷ []
+
+-- a line of a worker's: the name, {worker="..."}, a space and the number
+unfoldable pub worker_line : WorkerMetric → WorkerFigures → List ℕ
+worker_line metric worker =
+    worker_name metric ++ (codes "{worker=\"" ++ (decimal worker.worker ++ (codes "\"} "
+    ++ (decimal (worker_number metric worker) ++ (worker_unit metric ++ (10 ∷ []))))))
+
+-- a metric of workers: what it is, its kind, and its lines, worker by worker
+unfoldable pub worker_text : List WorkerFigures → WorkerMetric → List ℕ
+worker_text workers metric =
+    head_lines (worker_name metric) (worker_help metric) (worker_is_gauge metric) ++ flat_map (worker_line metric) workers
+
 -- all that a scraper reads
-abbrev pub metrics_text : List UserFigures → List ℕ → ServerFigures → List ℕ
-metrics_text users version server =
-    flat_map (metric_text users) all_metrics ++ (build_text version ++ flat_map (own_text server) own_metrics)
+abbrev pub metrics_text : List UserFigures → List WorkerFigures → List ℕ → ServerFigures → List ℕ
+metrics_text users workers version server =
+    flat_map (metric_text users) all_metrics ++ (closed_text users ++ (flat_map (worker_text workers) worker_metrics
+    ++ (build_text version ++ flat_map (own_text server) own_metrics)))

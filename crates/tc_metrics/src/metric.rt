@@ -3,29 +3,39 @@ ghost use Rattle.std.specs.Prelude.{◌≡◌};
 ghost use Rattle.tc_metrics.specs.MetricsText.{metric_name, metric_help, is_gauge, metric_number};
 ghost use Rattle.tc_metrics.specs.MetricsText.{all_metrics};
 
+use crate::Closed;
 use tc_stats::Counters;
 
-/// What is told of one user.
+/// The figures of one user.
 #[derive(Drop)]
 pub struct UserFigures {
-    /// Letters, digits, `_`, `-` and `.`, as users' names are.
+    /// The user's name: letters, digits, `_`, `-` and `.`.
     pub name: Vec<u8>,
     /// How many connections of the user are open.
     pub connections: u64,
-    /// How many calls of the user's cache there were.
+    /// How many calls the user's cache had, those of the metrics among them.
     pub calls: u64,
     /// How many bytes the entries of the user's page keep.
     pub journal: u64,
-    /// What its `stats` shows.
+    /// Logins with the user's name that were refused.
+    pub refused_logins: u64,
+    /// Commands of the user that were answered `SERVER_ERROR out of memory`.
+    pub no_memory: u64,
+    /// Connections of the user that a limit closed.
+    pub closed: Closed,
+    /// The counters that its `stats` shows.
     pub counters: Counters,
 }
 
-/// A metric that each user has: its connections, its calls, its journal, and each row of its `stats`.
+/// A metric that each user has: its connections, its calls, its journal, what was refused to it, or
+/// a row of its `stats`.
 #[derive(Clone, Copy, PartialEq, Eq)]
 pub enum Metric {
     Connections,
     JournalCalls,
     JournalBytes,
+    RefusedLogins,
+    NoMemory,
     CurrItems,
     TotalItems,
     Bytes,
@@ -53,15 +63,17 @@ pub enum Metric {
 }
 
 impl Metric {
-    /// All metrics, in the order in which they are told.
+    /// Returns all metrics, in the order in which the text has them.
     #[tactic(auto, unfolding(crate::specs::MetricsText::all_metrics))]
-    pub fn all() -> [Metric; 27]
+    pub fn all() -> [Metric; 29]
         ensures { result ≡ all_metrics }
     {
         [
             Metric::Connections,
             Metric::JournalCalls,
             Metric::JournalBytes,
+            Metric::RefusedLogins,
+            Metric::NoMemory,
             Metric::CurrItems,
             Metric::TotalItems,
             Metric::Bytes,
@@ -89,7 +101,7 @@ impl Metric {
         ]
     }
 
-    /// Its name.
+    /// Returns its name.
     pub fn name(self) -> &'static str
         ensures { result.now ≡ metric_name self }
     {
@@ -97,6 +109,8 @@ impl Metric {
             Metric::Connections => "partcached_connections",
             Metric::JournalCalls => "partcached_journal_calls_total",
             Metric::JournalBytes => "partcached_journal_bytes",
+            Metric::RefusedLogins => "partcached_user_refused_logins_total",
+            Metric::NoMemory => "partcached_no_memory_total",
             Metric::CurrItems => "partcached_curr_items",
             Metric::TotalItems => "partcached_total_items_total",
             Metric::Bytes => "partcached_bytes",
@@ -124,7 +138,7 @@ impl Metric {
         }
     }
 
-    /// What it is, in a line.
+    /// Returns its help, of one line.
     pub fn help(self) -> &'static str
         ensures { result.now ≡ metric_help self }
     {
@@ -132,6 +146,8 @@ impl Metric {
             Metric::Connections => "Open connections of the user.",
             Metric::JournalCalls => "Calls of the user's cache, those of the metrics among them.",
             Metric::JournalBytes => "Bytes that the entries of the user's page keep.",
+            Metric::RefusedLogins => "Refused logins with the user's name.",
+            Metric::NoMemory => "Commands of the user that were answered out of memory.",
             Metric::CurrItems => "Items that the user holds.",
             Metric::TotalItems => "Items that the user stored.",
             Metric::Bytes => "Bytes that the user's items take of its budget.",
@@ -159,7 +175,7 @@ impl Metric {
         }
     }
 
-    /// Whether it may go down; else it is a count, which does not.
+    /// Whether it is a gauge, which may go down; otherwise it is a counter.
     pub fn is_gauge(self) -> bool
         ensures { result ≡ is_gauge self }
     {
@@ -174,7 +190,7 @@ impl Metric {
         )
     }
 
-    /// Its number of a user.
+    /// Returns its value for a user.
     pub fn number(self, user: &UserFigures) -> u64
         ensures { result ≡ metric_number self user.now }
     {
@@ -182,6 +198,8 @@ impl Metric {
             Metric::Connections => user.connections,
             Metric::JournalCalls => user.calls,
             Metric::JournalBytes => user.journal,
+            Metric::RefusedLogins => user.refused_logins,
+            Metric::NoMemory => user.no_memory,
             Metric::CurrItems => user.counters.curr_items,
             Metric::TotalItems => user.counters.total_items,
             Metric::Bytes => user.counters.bytes,

@@ -1,4 +1,4 @@
-//! What a scraper asks, and how it is answered.
+//! A scraper's request, and the reply to it.
 ghost use Rattle.std.specs.Prelude.{◌≡◌, ◌≤◌, ◌++◌, ℕ, List, length, Some, None, OnOk, IfOk, IsNone};
 ghost use Rattle.httparse.specs.Grammar.{RequestHead, ReadsRequest, HasNoRequest};
 ghost use Rattle.tc_metrics.specs.Replies.{status_of, is_metrics, answer_to, status_line, common_lines};
@@ -20,24 +20,24 @@ const MOST_HEADERS: usize = 64;
 /// How a request is answered.
 #[derive(Clone, Copy, Debug, PartialEq, Eq)]
 pub enum Answer {
-    /// The metrics are told.
+    /// 200 with the metrics.
     Told,
-    /// The metrics' reply is told without its text, as it's asked for.
+    /// 200 with the headers of the metrics' reply alone, for `HEAD`.
     Headed,
-    /// The request is none.
+    /// 400: the request can't be parsed.
     Malformed,
-    /// Another path is asked for.
+    /// 404: the request is for another path.
     NotFound,
-    /// The metrics are asked for by another method than GET and HEAD.
+    /// 405: the request for the metrics is neither `GET` nor `HEAD`.
     NotAllowed,
-    /// The request's head is too long, or has too many lines.
+    /// 431: the request's head is too long, or has too many lines.
     TooLong,
-    /// Memory for the answer was refused.
+    /// 503: memory for the answer was refused.
     Refused,
 }
 
 impl Answer {
-    /// The number and the words of its status.
+    /// Returns its status code and reason.
     pub fn status(self) -> &'static str
         ensures { result.now ≡ status_of self }
     {
@@ -52,14 +52,14 @@ impl Answer {
     }
 }
 
-/// Whether the metrics are asked for: by their path, with a query or without.
+/// Whether a target is that of the metrics: `/metrics`, with a query or without.
 fn is_metrics(target: &[u8]) -> bool
     ensures { result ≡ is_metrics target.now }
 {
     target == b"/metrics".as_slice() || target.starts_with(b"/metrics?".as_slice())
 }
 
-/// How a request for this target by this method is answered.
+/// Returns the answer to a request for this target by this method.
 fn answer_to(method: &[u8], target: &[u8]) -> Answer
     ensures { result ≡ answer_to method.now target.now }
 {
@@ -75,8 +75,8 @@ fn answer_to(method: &[u8], target: &[u8]) -> Answer
     Answer::NotAllowed
 }
 
-/// How the request that came is answered, once its head is whole or can be none; `None` while more is to
-/// come.
+/// Returns the answer to the request that came, once its head is complete or can't become so;
+/// `None` while more must come.
 pub fn read_request(came: &[u8]) -> Option<Answer>
     ensures whole { (h : RequestHead) (rest : List ℕ) → ReadsRequest came.now h rest
         → length h.fields ≤ 64 → result ≡ Some (answer_to h.method h.target) }
@@ -91,7 +91,7 @@ pub fn read_request(came: &[u8]) -> Option<Answer>
     }
 }
 
-/// Puts the first line of a reply at the end.
+/// Appends the first line of a reply.
 #[tactic(auto, unfolding(crate::specs::Replies::status_line))]
 fn write_status(out: &mut Vec<u8>, answer: Answer) -> Result<(), NoMemory>
     ensures { OnOk result (out.new.items ≡ out.old.items ++ status_line answer) }
@@ -101,7 +101,7 @@ fn write_status(out: &mut Vec<u8>, answer: Answer) -> Result<(), NoMemory>
     write(out, b"\r\n")
 }
 
-/// The lines that each reply has, up to the length of its text.
+/// Returns the header lines that each reply has, up to the length of its text.
 #[tactic(auto, unfolding(crate::specs::Replies::common_lines))]
 fn common_lines() -> &'static str
     ensures { result.now ≡ common_lines }
@@ -109,7 +109,7 @@ fn common_lines() -> &'static str
     "Content-Type: text/plain; version=0.0.4\r\nAllow: GET, HEAD\r\nConnection: close\r\nContent-Length: "
 }
 
-/// Puts the other lines of a reply at the end, and the empty line.
+/// Appends the header lines of a reply, and the empty line.
 #[tactic(auto, unfolding(crate::specs::Replies::header_lines))]
 fn write_headers(out: &mut Vec<u8>, length: usize) -> Result<(), NoMemory>
     ensures { OnOk result (out.new.items ≡ out.old.items ++ header_lines length) }
@@ -120,7 +120,7 @@ fn write_headers(out: &mut Vec<u8>, length: usize) -> Result<(), NoMemory>
     write(out, b"\r\n\r\n")
 }
 
-/// What is sent of a text.
+/// Returns the part of a text that is sent: none for `HEAD`.
 fn body_of(answer: Answer, text: &[u8]) -> &[u8]
     ensures { result.now ≡ body_of answer text.now }
 {
@@ -130,7 +130,7 @@ fn body_of(answer: Answer, text: &[u8]) -> &[u8]
     }
 }
 
-/// The reply with this text, or with its length alone.
+/// Makes the reply with this text. For `HEAD` it has the text's length alone.
 #[tactic(auto, unfolding(crate::specs::Replies::reply_of))]
 pub fn reply(alloc: Global, answer: Answer, text: &[u8]) -> Result<Vec<u8>, NoMemory>
     ensures { IfOk result (λ reply. reply.items ≡ reply_of answer text.now) }

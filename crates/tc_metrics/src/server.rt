@@ -3,7 +3,7 @@ ghost use Rattle.std.specs.Prelude.{◌≡◌};
 ghost use Rattle.tc_metrics.specs.MetricsText.{own_name, own_help, own_is_gauge, own_number, own_unit};
 ghost use Rattle.tc_metrics.specs.MetricsText.{own_metrics};
 
-/// What is told of the server.
+/// The figures of the server.
 #[derive(Clone, Copy, PartialEq, Eq)]
 pub struct ServerFigures {
     /// Connections that have not logged in.
@@ -12,21 +12,21 @@ pub struct ServerFigures {
     pub refused_logins: u64,
     /// Connections that were closed, or not let in, for a limit on connections.
     pub limited: u64,
-    /// Lines that were left out of the log.
+    /// Notices that got no line of their own in the log.
     pub left_out: u64,
-    /// How many bytes of memory it holds; 0 where that is not known.
+    /// Resident memory in bytes; 0 if unknown.
     pub resident: u64,
-    /// How many milliseconds of processors it used; 0 where that is not known.
+    /// Processor time in milliseconds; 0 if unknown.
     pub cpu_millis: u64,
-    /// How many descriptors it has open; 0 where that is not known.
+    /// How many descriptors are open; 0 if unknown.
     pub open_fds: u64,
-    /// How many it may have open; 0 where that is not known.
+    /// How many descriptors may be open; 0 if unknown.
     pub max_fds: u64,
-    /// How many seconds it has served.
+    /// How many seconds the server has run.
     pub uptime: u64,
 }
 
-/// A metric of the server's.
+/// A metric of the server.
 #[derive(Clone, Copy, PartialEq, Eq)]
 pub enum OwnMetric {
     UnboundConnections,
@@ -41,7 +41,7 @@ pub enum OwnMetric {
 }
 
 impl OwnMetric {
-    /// All of them, in the order in which they are told.
+    /// Returns all of them, in the order in which the text has them.
     #[tactic(auto, unfolding(crate::specs::MetricsText::own_metrics))]
     pub fn all() -> [OwnMetric; 9]
         ensures { result ≡ own_metrics }
@@ -59,7 +59,7 @@ impl OwnMetric {
         ]
     }
 
-    /// Its name.
+    /// Returns its name.
     pub fn name(self) -> &'static str
         ensures { result.now ≡ own_name self }
     {
@@ -76,7 +76,7 @@ impl OwnMetric {
         }
     }
 
-    /// What it is, in a line.
+    /// Returns its help, of one line.
     pub fn help(self) -> &'static str
         ensures { result.now ≡ own_help self }
     {
@@ -94,7 +94,7 @@ impl OwnMetric {
         }
     }
 
-    /// Whether it may go down; else it is a count, which does not.
+    /// Whether it is a gauge, which may go down; otherwise it is a counter.
     pub fn is_gauge(self) -> bool
         ensures { result ≡ own_is_gauge self }
     {
@@ -107,7 +107,7 @@ impl OwnMetric {
         )
     }
 
-    /// Its number.
+    /// Returns its value.
     pub fn number(self, server: &ServerFigures) -> u64
         ensures { result ≡ own_number self server.now }
     {
@@ -124,7 +124,7 @@ impl OwnMetric {
         }
     }
 
-    /// What stands behind its number: the exponent of one that counts thousandths.
+    /// Returns what follows its value: an exponent if it counts thousandths, otherwise nothing.
     pub fn unit(self) -> &'static str
         ensures { result.now ≡ own_unit self }
     {

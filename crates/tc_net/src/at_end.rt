@@ -4,18 +4,18 @@ ghost use Rattle.tc_net.specs.Ends.{journal_of, page_length};
 
 use tc_plain::Journal;
 
-/// What a server does once so many connections were closed.
+/// What a server does once the given number of connections were closed.
 #[derive(Clone, Copy, PartialEq, Eq)]
 pub enum AtEnd {
     /// It ends.
     Leaves,
-    /// It does each user's last page again, tells its audience what is found, and ends.
+    /// It repeats the calls of each user's last page, tells its audience what differs, and ends.
     Audits,
 }
 
 impl AtEnd {
-    /// Whether a server keeps what an audit reads: the calls of each user's page, and what its cache stood
-    /// for when the page began.
+    /// Whether a server keeps what an audit reads: the calls on each user's page, and the cache's
+    /// state when the page began.
     pub fn journal(self) -> Journal
         ensures { result ≡ journal_of self }
     {
@@ -25,8 +25,8 @@ impl AtEnd {
         }
     }
 
-    /// How many entries a page has, where settings ask for so many. Where nothing is kept a page never
-    /// ends, since to turn it would give nobody anything.
+    /// Returns how many entries a page has, if the settings ask for `journal`. Without an audit a
+    /// page never ends, since nobody would read it.
     pub(crate) fn page_length(self, journal: usize) -> usize
         requires { 0 < journal }
         ensures value { result ≡ page_length self journal }

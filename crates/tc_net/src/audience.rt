@@ -1,4 +1,4 @@
-//! Who is told how a server fares, and asked what the system says of its process.
+//! Who learns how a server fares, and knows what the system says of its process.
 use crate::descriptors::Descriptors;
 use std::io;
 use std::net::SocketAddr;
@@ -6,47 +6,50 @@ use tc_connections::Notice;
 use tc_locked::Audit;
 use tc_users::UserNo;
 
-/// Told what becomes of a server that is to listen. What it does not care for it leaves out.
+/// Receives a server's reports. Each method does nothing by default. `notes`, `version`,
+/// `resident`, `cpu_millis` and `descriptors` run on the keeper's thread, which waits for them. The
+/// thread that calls `serve` also calls `descriptors`, once.
 pub trait Audience {
-    /// The server listens here.
+    /// The server listens on this address.
     fn listens(&self, _address: SocketAddr) {}
 
-    /// It can't listen, and for this reason.
+    /// The server can't listen, for this reason.
     fn cannot_listen(&self, _why: &io::Error) {}
 
-    /// The metrics are told here.
+    /// The server serves the metrics on this address.
     fn tells_metrics(&self, _address: SocketAddr) {}
 
-    /// The metrics can't be told there, and for this reason.
+    /// The server can't listen for the metrics, for this reason.
     fn cannot_tell_metrics(&self, _why: &io::Error) {}
 
-    /// This became of a connection, or of several. It is told ten notices a second at most, shared out by user and
-    /// cause.
+    /// Something happened to a connection, or to several. It gets at most ten notices a second,
+    /// shared out by user and cause.
     fn notes(&self, _notice: &Notice) {}
 
-    /// The release that runs, as the metrics tell.
+    /// Returns the release that runs, for the metrics.
     fn version(&self) -> &'static str {
         ""
     }
 
-    /// How many bytes of memory are resident, as the metrics tell; 0 where it isn't known.
+    /// Returns how many bytes of memory are resident, for the metrics; 0 if unknown.
     fn resident(&self) -> u64 {
         0
     }
 
-    /// How many milliseconds of processors the process used, as the metrics tell; 0 where it isn't known.
+    /// Returns the process's processor time in milliseconds, for the metrics; 0 if unknown.
     fn cpu_millis(&self) -> u64 {
         0
     }
 
-    /// How many descriptors the process has open, and may have; `None` where it isn't known.
+    /// Returns how many descriptors the process has open and may have; `None` if unknown.
     fn descriptors(&self) -> Option<Descriptors> {
         None
     }
 
-    /// The server has ended, and this is found when the calls of the user's last page are done again.
+    /// The server has ended, and this is the result of repeating the calls of the user's last page.
     fn audited(&self, _user: UserNo, _audit: &Audit) {}
 
-    /// The server has ended, and seats of its hall are missing, so that nothing can be done again.
+    /// The server has ended, and no audit was possible: seats of its hall are missing, or its
+    /// journal was off.
     fn not_audited(&self) {}
 }

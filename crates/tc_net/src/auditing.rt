@@ -6,17 +6,17 @@ use tc_locked::{Closed, Hall, Naming, Seat, Unread};
 use tc_plain::Cache;
 use tc_users::UserNo;
 
-/// What is found at a server's end.
+/// The result of a server's audit.
 #[derive(Clone, Copy, PartialEq, Eq)]
 pub enum Found {
-    /// No call comes to another outcome; or no audit was asked for, or made.
+    /// Each call has the same outcome again; or no audit was asked for, or none could be made.
     Nothing,
-    /// A call of a user's last page comes to another outcome when it is done again.
+    /// A call of a user's last page has another outcome if it is repeated.
     Differs,
 }
 
 impl Found {
-    /// What is found, with what was found before.
+    /// Combines this result with those before it.
     fn or(self, before: Found) -> Found {
         match self {
             Found::Nothing => before,
@@ -25,7 +25,7 @@ impl Found {
     }
 }
 
-/// Does a user's last page again, and tells the audience what is found.
+/// Repeats the calls of a user's last page, and tells the audience the result.
 fn audit_user<C: Cache, N: Naming, A: Audience>(
     alloc: Global,
     closed: &Closed<C, N>,
@@ -42,7 +42,7 @@ fn audit_user<C: Cache, N: Naming, A: Audience>(
     }
 }
 
-/// Does each user's last page again, in the order of their numbers.
+/// Repeats the calls of each user's last page, in the order of the users' numbers.
 fn audit_users<C: Cache, N: Naming, A: Audience>(
     alloc: Global,
     closed: &Closed<C, N>,
@@ -65,7 +65,7 @@ pub(crate) fn audit_hall<C: Cache, N: Naming, A: Audience>(
 ) -> Result<Found, NoMemory> {
     let users = hall.users();
     let Ok(closed) = hall.close(seats) else {
-        // The crew gives each seat back, so no server ends so.
+        // The crew gives each seat back, so no server ends this way.
         audience.not_audited();
         return Ok(Found::Nothing);
     };
@@ -73,7 +73,7 @@ pub(crate) fn audit_hall<C: Cache, N: Naming, A: Audience>(
         Ok(found) => Ok(found),
         Err(Unread::NoMemory) => Err(NoMemory),
         Err(Unread::Off) => {
-            // A server that is to be audited has its journal on.
+            // A server that audits has its journal on.
             audience.not_audited();
             Ok(Found::Nothing)
         }

@@ -7,18 +7,18 @@ use tc_locked::Opened;
 use tc_plain::Cache;
 use tc_users::Users;
 
-/// What a server goes by, wherever it was read.
+/// The settings of a server, wherever they were read.
 #[derive(Drop)]
 pub struct ServerSettings {
-    /// Where it listens.
+    /// Where it listens, as an address and a port.
     pub listen: Address,
-    /// How many threads serve connections.
+    /// The number of threads that serve connections.
     pub workers: usize,
-    /// How many entries a journal's page has.
+    /// The number of entries on a page of the journal.
     pub journal: usize,
     /// The limits on all connections.
     pub limits: ConnectionLimits,
-    /// Where the metrics are told, if they are.
+    /// Where it serves the metrics; `None` for nowhere.
     pub metrics: Option<Address>,
     /// Who may log in.
     pub users: Users,
@@ -26,8 +26,8 @@ pub struct ServerSettings {
     pub user_limits: LimitsByUser,
 }
 
-/// A server's settings, a table for its hall, and a fresh cache for each user, in the order of their
-/// numbers.
+/// A server's settings, a table for its hall, and a fresh cache for each user, in the order of the
+/// users' numbers.
 #[derive(Drop)]
 pub struct Beginning<C: Cache> {
     pub settings: ServerSettings,

@@ -1,4 +1,4 @@
-//! The machine's clock, as the keeper reads it, and what its thread does besides.
+//! The machine's clock, as the keeper reads it, and what else its thread does.
 use crate::audience::Audience;
 use crate::counting::Counting;
 use crate::scraping::{Scraping, Sources};
@@ -12,37 +12,37 @@ use tc_locked::{Clock as Moments, Hall, Naming, Seat};
 use tc_plain::Cache;
 use tc_workers::Source;
 
-/// How many milliseconds the keeper sleeps before each of its turns.
+/// Milliseconds that the keeper sleeps before each of its turns.
 const NAP: u64 = 10;
 
-/// Gives the machine's second, after a nap. Between the keeper's turns it deals out the work, has those go
-/// who stayed too long, tells an audience what there is to be told, and answers who asks for the metrics.
+/// The keeper's source of moments. Before each of the keeper's turns it sleeps, reads the clock,
+/// deals out work and serves scrapers. Once a second it also marks overdue connections and passes
+/// notices to the audience.
 #[derive(Drop)]
 pub(crate) struct Ticking<'a, R: Clock + Drop, N: Naming, A: Audience> {
     pub(crate) rt: R,
-    /// When the server began; `None` where the clock can't be read.
+    /// When the server began; `None` if the clock can't be read.
     pub(crate) begun: Option<Instant>,
     pub(crate) connections: Arc<Connections, Global>,
     pub(crate) audience: &'a A,
-    /// What the audience is told in a second.
+    /// The notices of the current second.
     pub(crate) notices: Vec<Notice>,
-    /// By which the hall is asked for the metrics.
+    /// The seat by which the metrics call the hall.
     pub(crate) seat: Seat<N>,
     pub(crate) scraping: Option<Scraping>,
-    /// Which deals out the work, where users have workers of their own.
+    /// Deals out the work; `None` if users have no workers of their own.
     pub(crate) counting: Option<Counting>,
 }
 
-/// How many microseconds passed since the server began, and one more; `None` where the clock can't be
-/// read.
+/// Returns the microseconds since the server began, plus 1; `None` if the clock can't be read.
 pub(crate) fn micros_since(clock: &impl Clock, begun: &Option<Instant>) -> Option<u64> {
     let since = begun.as_ref()?.elapsed(clock).ok()?;
     let micros = u64::try_from(since.as_micros()).unwrap_or(u64::MAX);
     Some(micros.saturating_add(1))
 }
 
-/// The machine's second, below 0 the first moment and from 2^40 on the last; the first moment too
-/// where the clock can't be read.
+/// Returns the machine's time in seconds since 1970: the first moment if that is negative or the
+/// clock can't be read, and the last moment from 2^40 on.
 pub(crate) fn moment_now(clock: &impl Clock) -> Moment {
     let Ok(now) = SystemTime::now(clock) else {
         return Moment::FIRST;
@@ -57,7 +57,7 @@ pub(crate) fn moment_now(clock: &impl Clock) -> Moment {
 }
 
 impl<'a, R: Clock + Drop, N: Naming, A: Audience> Ticking<'a, R, N, A> {
-    /// The second of the server, counted from 1; the one that it was where the clock can't be read.
+    /// Returns the server's second, counted from 1; the last known one if the clock can't be read.
     fn second(&self) -> u64 {
         match &self.begun {
             Some(begun) => match begun.elapsed(&self.rt) {
@@ -68,7 +68,7 @@ impl<'a, R: Clock + Drop, N: Naming, A: Audience> Ticking<'a, R, N, A> {
         }
     }
 
-    /// Has the work dealt out anew, where there is a choice.
+    /// Deals out the work again, if users have workers of their own and the clock can be read.
     fn deal_out(&mut self) {
         if let Some(now) = micros_since(&self.rt, &self.begun)
             && let Some(counting) = &mut self.counting
@@ -77,7 +77,7 @@ impl<'a, R: Clock + Drop, N: Naming, A: Audience> Ticking<'a, R, N, A> {
         }
     }
 
-    /// Tells the audience what there is to be told.
+    /// Passes the notices of this second to the audience.
     fn tell<W: Wait>(&mut self, rt: &W) {
         self.connections.take_notices(rt, &mut self.notices);
         for notice in &self.notices {
@@ -85,7 +85,7 @@ impl<'a, R: Clock + Drop, N: Naming, A: Audience> Ticking<'a, R, N, A> {
         }
     }
 
-    /// The seat, once the keeper's thread has ended.
+    /// Returns the seat, once the keeper's thread has ended.
     pub(crate) fn into_seat(self) -> Seat<N> {
         let Ticking {
             rt: _,
@@ -121,6 +121,8 @@ impl<'a, C: Cache, R: Clock + Drop, N: Naming, A: Audience> Source<C, N> for Tic
             hall,
             clock,
             connections: &self.connections,
+            counting: &self.counting,
+            now: micros_since(&self.rt, &self.begun).unwrap_or(0),
             audience: self.audience,
         };
         scraping.turn(&from, &mut self.seat);

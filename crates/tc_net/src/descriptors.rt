@@ -7,15 +7,16 @@ ghost use Rattle.tc_net.specs.Descriptors.{room_of};
 pub struct Descriptors {
     /// How many are open.
     pub open: u64,
-    /// How many may be.
+    /// How many may be open.
     pub allowed: u64,
 }
 
-/// How many stay free of connections: for one that is held back, for one that asks for the metrics, for a file that
-/// is read for the metrics, and one more.
+/// Descriptors that connections don't get: for a held connection, a client of the metrics, a file
+/// read for the metrics, and one more.
 const KEPT: u64 = 4;
 
-/// How many connections there is room for beside what is open; where the system does not say, for all.
+/// Returns for how many connections there are descriptors beside those that are open; `u64::MAX` if
+/// the system doesn't say.
 pub(crate) fn room_by(descriptors: Option<Descriptors>) -> u64
     ensures { result ≡ room_of descriptors }
 {

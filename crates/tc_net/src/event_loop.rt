@@ -1,5 +1,5 @@
-//! The connections that the listener and other workers hand over, and the poll in which their worker
-//! waits.
+//! A worker's inlet: the connections that the listener and other workers hand over, and the poll in
+//! which the worker waits.
 ghost use Rattle.std.specs.Prelude.{◌≡◌};
 
 use crate::clocking::micros_since;
@@ -17,51 +17,56 @@ use std::time::{Clock, Duration, Instant};
 use tc_connections::{Connections, ENDING, READABLE, Readiness, WRITABLE};
 use tc_links::{Change, Inlet, Patience, Taken, Talk};
 
-/// The most events of one wait.
+/// The most events that one wait reports.
 const EVENTS: usize = 256;
 
 /// The most connections of one worker.
 const PLACES: usize = 1_024;
 
-/// The most connections that are taken between two looks at the poll.
+/// The most connections that the inlet takes between two looks at the poll.
 const UNPOLLED: u32 = 64;
 
-/// How many milliseconds a worker waits before it tries a connection again, or ends.
+/// Milliseconds that a worker waits before it tries a connection again, or before it looks whether
+/// its last connection is gone at the server's end.
 const BRIEF: u64 = 10;
 
-/// How many milliseconds a worker waits where nothing is to be done before it is woken. What wakes it
-/// is an event of its poll; were one lost, it would look by itself after so long.
+/// Milliseconds that a worker waits if it has nothing to do. An event of its poll ends the wait.
+/// Marks that wake nobody (`Connections::ousts`, `retries`) are found after this time at the
+/// latest, and so would be a lost event.
 const LONG: u64 = 1_000;
 
-/// A worker's inlet.
+/// A worker's inlet: poll, channel and readiness.
 #[derive(Drop)]
 pub(crate) struct EventLoop<R: Wait + Clock + Drop> {
     rt: R,
-    /// When the server began; `None` where the clock can't be read.
+    /// When the server began; `None` if the clock can't be read.
     begun: Option<Instant>,
     alloc: Global,
     intake: Intake,
-    /// Where the connections of each worker are put, where workers pass connections on.
+    /// The outlets to all workers, by number; empty if connections stay where they arrived.
     outlets: Vec<Outlet>,
     poll: Poll,
     events: Events,
     readiness: Arc<Readiness, Global>,
     connections: Arc<Connections, Global>,
-    /// The keys of the sockets of which the poll said something, with room for those of all places.
+    /// The keys of the sockets that have something to do. It has room for one key of each place.
     woken: Vec<usize>,
-    /// A connection came at the last look, so another may be there.
+    /// The last look found a connection, so another may wait.
     brought: bool,
-    /// How many connections were taken since the poll was looked at.
+    /// How many connections the inlet took since it looked at the poll.
     unpolled: u32,
-    /// How often a connection had been told to go when it was last looked who was.
+    /// Value of `Connections::ousts` at the last scan for marked connections.
     ousts: u64,
-    /// In how many seconds a connection had been stuck when it was last looked which is.
+    /// Value of `Connections::retries` at the last scan for stuck connections.
     retries: u64,
-    /// All sockets were woken, since the server is to end.
+    /// When the worker's current turn began, in microseconds since the server began; 0 before its
+    /// first look at the poll.
+    turn_began: u64,
+    /// The server is ending, and all sockets were woken for that.
     is_ending: bool,
 }
 
-/// What an event says of its socket.
+/// Returns the bits that an event sets in its socket's readiness.
 fn bits_of(event: &Event) -> u64 {
     let is_over = event.is_error() || event.is_write_closed();
     let mut bits = 0;
@@ -77,7 +82,7 @@ fn bits_of(event: &Event) -> u64 {
     bits
 }
 
-/// The readiness of a worker of so many.
+/// Makes the readiness of one of `workers` workers.
 fn share_readiness(alloc: Global, workers: usize) -> io::Result<Arc<Readiness, Global>> {
     match Arc::new(alloc, Readiness::new(alloc, PLACES, workers)?) {
         Ok(readiness) => Ok(readiness),
@@ -85,13 +90,13 @@ fn share_readiness(alloc: Global, workers: usize) -> io::Result<Arc<Readiness, G
     }
 }
 
-/// Room for the events of one wait, and for the keys of all places.
+/// Takes room for the events of one wait, and for a key of each place.
 fn make_room(alloc: Global) -> Result<(Events, Vec<usize>), AllocError> {
     let woken = Vec::with_capacity(alloc, PLACES)?;
     Ok((Events::with_capacity(alloc, EVENTS)?, woken))
 }
 
-/// A poll, and the two ends of what is handed to its worker.
+/// Makes a poll, and the two ends of its worker's channel.
 fn open_poll<N: Net + AllocGlobal>(net: &N) -> io::Result<(Poll, Outlet, Intake)> {
     let poll = Poll::new(net)?;
     let waker = Waker::new(poll.registry(), Token(usize::MAX))?;
@@ -100,8 +105,8 @@ fn open_poll<N: Net + AllocGlobal>(net: &N) -> io::Result<(Poll, Outlet, Intake)
 }
 
 impl<R: Wait + Clock + Drop> EventLoop<R> {
-    /// The inlet, of one of so many workers, that passes no connection on, and where its worker's
-    /// connections are put.
+    /// Makes the inlet of one of `workers` workers, which passes no connection on yet, and the
+    /// outlet to it.
     pub(crate) fn new<N: Net + AllocGlobal>(
         net: &N,
         rt: R,
@@ -128,25 +133,27 @@ impl<R: Wait + Clock + Drop> EventLoop<R> {
             unpolled: 0,
             ousts: 0,
             retries: 0,
+            turn_began: 0,
             is_ending: false,
         };
         Ok((event_loop, outlet))
     }
 
-    /// Learns where the connections of each worker are put, in the order of the workers' numbers.
+    /// Sets the outlets to all workers, in the order of the workers' numbers.
     pub(crate) fn set_outlets(&mut self, outlets: Vec<Outlet>) {
         self.outlets = outlets;
     }
 
-    /// Notes that a socket is to be looked at. Each key that is named was taken before the next wait,
-    /// so there is room for all places.
+    /// Names the socket of a place to the worker. The worker takes the keys after each look, so the
+    /// room for one key of each place suffices; a key that exceeds it is lost only if memory is
+    /// refused.
     fn name(&mut self, at: usize) {
         if let Some(key) = self.readiness.key(at) {
             let _ = self.woken.push(key);
         }
     }
 
-    /// How many milliseconds the poll waits.
+    /// Returns how many milliseconds the poll waits.
     fn wait(&self, patience: Patience) -> u64 {
         match patience {
             _ if self.brought => 0,
@@ -156,7 +163,7 @@ impl<R: Wait + Clock + Drop> EventLoop<R> {
         }
     }
 
-    /// Looks at the poll; not before each of many connections that wait.
+    /// Looks at the poll, but only once in `UNPOLLED` connections while many wait.
     fn look(&mut self, patience: Patience) {
         if self.brought && self.unpolled < UNPOLLED {
             self.unpolled += 1;
@@ -168,7 +175,7 @@ impl<R: Wait + Clock + Drop> EventLoop<R> {
         self.wake_stuck();
     }
 
-    /// Wakes the sockets of connections that are stuck, once a second, as if they could be written.
+    /// Once a second, wakes the sockets of stuck connections as if they could be written.
     fn wake_stuck(&mut self) {
         let retries = self.connections.retries();
         if retries == self.retries {
@@ -185,7 +192,7 @@ impl<R: Wait + Clock + Drop> EventLoop<R> {
         }
     }
 
-    /// Wakes the sockets of connections that are to go.
+    /// Wakes the sockets of connections that are marked to go.
     fn wake_ousted(&mut self) {
         let ousts = self.connections.ousts();
         if ousts == self.ousts {
@@ -201,22 +208,33 @@ impl<R: Wait + Clock + Drop> EventLoop<R> {
         }
     }
 
-    /// What the worker did, and what its poll said.
+    /// Returns a handle of the worker's readiness and counts.
     pub(crate) fn readiness(&self) -> Result<Arc<Readiness, Global>, AllocError> {
         Arc::try_clone(&self.readiness)
     }
 
-    /// The moment, in microseconds since the server's begin, where its clock can be read.
+    /// Returns the microseconds since the server began; `None` if the clock can't be read.
     fn now(&self) -> Option<u64> {
         micros_since(&self.rt, &self.begun)
     }
 
-    /// Waits for so many milliseconds at most, and notes for how long; a look alone takes no time.
+    /// Ends the worker's turn at `now`, and begins its next one.
+    fn end_turn(&mut self, now: u64) {
+        if self.turn_began > 0 {
+            let turn = now.saturating_sub(self.turn_began);
+            self.readiness.counts().note_turn(turn);
+        }
+        self.turn_began = now;
+    }
+
+    /// Ends the worker's turn, and waits for `wait` milliseconds at most, which counts as waiting
+    /// and is part of no turn. A wait of 0 is not counted.
     fn poll_for(&mut self, wait: u64) {
-        if wait > 0
-            && let Some(now) = self.now()
-        {
-            self.readiness.counts().wait_from(now);
+        if let Some(now) = self.now() {
+            self.end_turn(now);
+            if wait > 0 {
+                self.readiness.counts().wait_from(now);
+            }
         }
         let _ = self
             .poll
@@ -225,10 +243,11 @@ impl<R: Wait + Clock + Drop> EventLoop<R> {
             && let Some(now) = self.now()
         {
             self.readiness.counts().wait_until(now);
+            self.turn_began = now;
         }
     }
 
-    /// Waits, and notes what the poll said.
+    /// Waits, and sets the readiness of the sockets that the poll reports.
     fn listen(&mut self, patience: Patience) {
         self.poll_for(self.wait(patience));
         for event in self.events.iter() {
@@ -240,7 +259,7 @@ impl<R: Wait + Clock + Drop> EventLoop<R> {
         }
     }
 
-    /// Wakes all sockets, once, so that they learn that the server is to end.
+    /// Wakes all sockets, once, so that they learn of the server's end.
     fn wake_all(&mut self) {
         if self.is_ending {
             return;
@@ -251,7 +270,7 @@ impl<R: Wait + Clock + Drop> EventLoop<R> {
         }
     }
 
-    /// What has the poll watch a wire; `None` where it can't.
+    /// Returns the change that makes the poll watch a wire; `None` if memory is refused.
     fn joining(&self) -> Option<Join<'_>> {
         match Arc::try_clone(&self.readiness) {
             Ok(readiness) => Some(Join {
@@ -262,7 +281,7 @@ impl<R: Wait + Clock + Drop> EventLoop<R> {
         }
     }
 
-    /// Has the poll watch a connection's wire. Whether it can.
+    /// Makes the poll watch a connection's wire, and returns whether it does.
     fn watch(&self, link: &mut Talk<Socket>) -> bool
         ensures { link.new ≡ link.old }
     {
@@ -272,7 +291,7 @@ impl<R: Wait + Clock + Drop> EventLoop<R> {
         }
     }
 
-    /// A new connection; one that can't be watched is closed.
+    /// Makes a wire of a new connection. One that the poll can't watch is closed.
     fn give(&self, conn: u32, place: usize, stream: TcpStream) -> Taken<Socket, Talk<Socket>> {
         let Ok(connections) = Arc::try_clone(&self.connections) else {
             self.connections.leave(place);
@@ -288,7 +307,7 @@ impl<R: Wait + Clock + Drop> EventLoop<R> {
         Taken::Given(conn, wire)
     }
 
-    /// A connection that another worker passed on; one that can't be watched is closed.
+    /// Takes over a connection from another worker. One that the poll can't watch is closed.
     fn give_on(&self, mut link: Talk<Socket>) -> Taken<Socket, Talk<Socket>> {
         if !self.watch(&mut link) {
             return Taken::Nothing;
@@ -300,7 +319,7 @@ impl<R: Wait + Clock + Drop> EventLoop<R> {
 impl<R: Wait + Clock + Drop> Inlet<Socket, Talk<Socket>> for EventLoop<R> {
     fn take(&mut self, patience: Patience) -> Taken<Socket, Talk<Socket>> {
         self.look(patience);
-        // Asked before the channel, so that no connection is left in it.
+        // Read before the channel, so that no connection is left in it.
         let has_ended = self.connections.has_ended();
         let arrival = self.intake.take(&self.rt);
         self.brought = arrival.is_some();
@@ -339,7 +358,7 @@ impl<R: Wait + Clock + Drop> Inlet<Socket, Talk<Socket>> for EventLoop<R> {
             },
             Err(refused) => refused.value,
         };
-        // One that can't be watched here again is closed.
+        // A connection that this poll can't watch again is closed.
         if self.watch(&mut back) {
             return Err(back);
         }

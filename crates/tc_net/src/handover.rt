@@ -1,4 +1,4 @@
-//! The two ends by which connections reach a worker.
+//! The two ends of the channel over which connections reach a worker.
 ghost use Rattle.std.specs.Prelude.{◌≡◌, IfErr};
 ghost use Rattle.crossbeam_channel.specs.Claims.{IsSeatAt};
 ghost use Rattle.crossbeam_channel.specs.Ends.{sends_on, receives_on};
@@ -15,7 +15,7 @@ use tc_links::Talk;
 /// The most connections that wait for one worker.
 const MOST_WAITING: usize = 1_024;
 
-/// Both passes show the same.
+/// Splits a pass into two equal ones.
 struct Same;
 
 impl Split<()> for Same {
@@ -33,12 +33,11 @@ pub(crate) enum Arrival {
         place: usize,
         stream: TcpStream,
     },
-    /// From another worker. The channel has a place for each that may wait, so a connection lies
-    /// elsewhere.
+    /// From another worker. It is boxed so that the channel's 1,024 slots stay small.
     Passed(Box<Talk<Socket>>),
 }
 
-/// Where a worker's connections are put, and what wakes it.
+/// The sending end of a worker's channel, and the worker's waker.
 #[derive(Drop)]
 pub(crate) struct Outlet {
     to: RuledSender<Arrival, (), Free>,
@@ -47,7 +46,7 @@ pub(crate) struct Outlet {
     ghost fits: { IsSeatAt (sends_on to) pass },
 }
 
-/// Where a worker takes them.
+/// The receiving end of a worker's channel.
 #[derive(Drop)]
 pub(crate) struct Intake {
     from: RuledReceiver<Arrival, (), Free>,
@@ -55,7 +54,7 @@ pub(crate) struct Intake {
     ghost fits: { IsSeatAt (receives_on from) pass },
 }
 
-/// Both ends of the channel of a worker, which the waker wakes.
+/// Makes both ends of a worker's channel; `waker` wakes the worker.
 pub(crate) fn handover(alloc: Global, waker: Waker) -> Result<(Outlet, Intake), AllocError> {
     let Ok(waker) = Arc::new(alloc, waker) else {
         return Err(AllocError);
@@ -66,7 +65,7 @@ pub(crate) fn handover(alloc: Global, waker: Waker) -> Result<(Outlet, Intake), 
 }
 
 impl Outlet {
-    /// Another one to the same worker.
+    /// Returns another outlet to the same worker.
     pub(crate) fn another(&mut self) -> Result<Outlet, AllocError> {
         let to = self.to.try_clone()?;
         let waker = Arc::try_clone(&self.waker)?;
@@ -74,14 +73,14 @@ impl Outlet {
         Ok(Outlet { to, pass, waker })
     }
 
-    /// Hands a connection over, and wakes its worker. It comes back where too many wait, or where the
-    /// worker has ended.
+    /// Sends a connection to the worker and wakes it. The connection comes back if 1,024 wait
+    /// already, or if the worker has ended.
     pub(crate) fn send<R: Wait>(&mut self, rt: &R, arrival: Arrival) -> Result<(), Arrival>
         ensures back { IfErr result (λ back. back ≡ arrival) }
     {
         match self.to.try_send_as::<Free, R>(rt, &mut self.pass, arrival) {
             Ok(()) => {
-                // A worker that isn't woken looks by itself soon.
+                // A failed wake costs a delay: the worker looks by itself within 1 s.
                 self.wake();
                 Ok(())
             }
@@ -89,14 +88,14 @@ impl Outlet {
         }
     }
 
-    /// Has the worker look whether something is new.
+    /// Wakes the worker, so that it looks for connections and marks.
     pub(crate) fn wake(&self) {
         let _ = self.waker.wake();
     }
 }
 
 impl Intake {
-    /// A connection that waits; it doesn't wait for one.
+    /// Returns the next connection that waits, or `None`. It never blocks on an empty channel.
     pub(crate) fn take<R: Wait>(&mut self, rt: &R) -> Option<Arrival> {
         self.from.try_recv_as::<Free, R>(rt, &mut self.pass).ok()
     }

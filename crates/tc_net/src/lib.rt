@@ -1,21 +1,27 @@
-//! A server on sockets: the listener, the wires and inlets of the workers, the keeper's clock, and
-//! `serve`, which runs them all.
+//! A server on sockets: the listener, the workers' wires and inlets, the keeper's clock, the
+//! metrics, and `serve`, which runs them all.
 //!
-//! Each worker waits in a poll of its own. What the poll said of a socket stands on that worker's
-//! `Readiness` (tc_connections), so that a `Socket`, which is a wire, asks the system only where there is
-//! something; an `EventLoop`, which is an inlet, names the wires of which the poll said something. The
-//! listener has a thread and a poll of its own; it hands connections over by channels, and wakes the worker.
-//! By the same channels workers pass connections on to the worker of their user, or to one that helps it: each
-//! counts what it did (`Counts`), and the keeper's thread deals the work out by that (`Counting`).
+//! - `Listening` accepts connections on its own thread and hands each to a worker over a channel.
+//! - `EventLoop` is a worker's inlet: its poll, its end of the channel, and the keys of the sockets
+//!   that the poll reported.
+//! - `Socket` is a wire. It calls the system only if the poll reported the socket. What the poll
+//!   reported is in the worker's `Readiness` (tc_connections).
+//! - `Ticking` is what the keeper's thread does between the keeper's turns. It reads the clock,
+//!   marks overdue connections each second, and answers scrapers (`Scraping`) with one `stats` call
+//!   per user, by a seat of its own.
+//! - `Counting` runs there too. Each worker counts its work (`Counts`), and `Counting` derives the
+//!   `Shares` from it.
 //!
-//! A `Socket` reads and writes a `Stream`, by default the system's, of whose bytes nothing is said. Over one that
-//! knows them it gives what the stream gave, and the stream takes what the socket is handed. `unpolled` makes one
-//! that no poll watches.
+//! Workers pass connections on over the same channels: to the worker of the connection's user, or
+//! to one that helps it.
 //!
-//! Each connection has a place among the `Connections` (tc_connections), where it is told to go. A wire whose
-//! connection is to go fails. The keeper's thread looks each second who is overdue, and answers between its
-//! turns who asks for the metrics (`Scraping`): each user's `stats` is one call of the hall by a seat of its
-//! own.
+//! A `Socket` reads and writes a `Stream`, by default the system's `TcpStream`, about whose bytes
+//! no clause says anything. Over a stream that knows its bytes, the socket gives what the stream
+//! gave, and the stream takes what the socket was handed. `unpolled` makes a socket that no poll
+//! watches.
+//!
+//! Each connection has a place among the `Connections` (tc_connections), where it can be marked to
+//! go. From then on its wire fails, and its worker drops it.
 //!
 //! # Who waits, who wakes, who writes
 //!
@@ -25,22 +31,30 @@
 //! worker w: poll <- its sockets, its waker     keeper: nap of 10 ms
 //! ```
 //!
-//! 1. A thread waits in its poll, in a nap, or for a user's lock, and in nothing else.
-//! 2. Whoever puts a connection into a worker's channel wakes that worker behind it. A full channel takes
-//!    nothing: a new connection is closed, and one that was to be passed on stays.
-//! 3. A socket is registered with one poll, that of the worker which has its link, and has one place of that
-//!    worker's `Readiness`. The worker's thread alone writes there: its poll's events set what may be done,
-//!    and its wires clear it by what the system answers.
-//! 4. A place among the `Connections` is written by the wire, and told to go by the listener, the keeper or a wire.
-//!    Who tells it wakes its worker.
-//! 5. `Counts` are written by one worker and read by the keeper; `Shares` are written by the keeper and
-//!    read by the workers.
+//! 1. A running thread blocks in its poll (listener, worker), in a nap of 10 ms (keeper), or for a
+//!    user's lock (worker, keeper). The keeper's thread also blocks in its `Audience`, which may
+//!    write a log or read a file. Before that, workers and keeper wait until all their threads have
+//!    started.
+//! 2. A full or empty channel blocks nobody, and nor does the queue of notices. A call of either
+//!    spins or yields while another thread is in the middle of its own call. A worker may push a
+//!    notice under a user's lock. The journal is memory, so an entry waits for no device.
+//! 3. Whoever sends a connection into a worker's channel then wakes that worker. A full channel
+//!    refuses it. The listener closes a refused connection; a worker takes its own back.
+//! 4. A socket is registered with one poll, that of the worker which has its link, and has one
+//!    place in that worker's `Readiness`. Only the worker's thread writes there: its poll's events
+//!    set bits, and its wires clear them by the system's answers.
+//! 5. The listener fills a place among the `Connections`. The wire that has it writes it and frees
+//!    it; without a wire, the listener or the inlet frees it. The listener, the keeper or a wire
+//!    marks it to go. Only the listener wakes the workers for that. The keeper and a wire just
+//!    count the mark, and a resting worker reads that count within 1 s.
+//! 6. `Counts` are written by one worker and read by the keeper; `Shares` are written by the keeper
+//!    and read by the workers.
 //!
-//! `serve` goes over any cache. A `Beginning` holds what `Hall::new` asks of its caller. An `Audience` is
-//! told where the server listens, and what is found where the hall is audited at the end.
+//! `serve` works over any cache. A `Beginning` holds what `Hall::new` needs. An `Audience` learns
+//! where the server listens, and what the audit of the hall finds at the end.
 //!
-//! No clause says what the system's stream, a poll or a channel does, that a thread gets on, or that memory
-//! suffices.
+//! No clause says what the system's stream, a poll or a channel does, that a thread makes progress,
+//! or that memory suffices.
 #![tactic(auto)]
 
 mod at_end;

@@ -1,4 +1,4 @@
-//! The listener: it takes connections and hands them to the workers in turn.
+//! The listener: accepts connections and hands them to the workers in turn.
 use crate::handover::{Arrival, Outlet};
 use mio::net::{TcpListener, TcpStream};
 use mio::{Events, Interest, Poll, Token};
@@ -9,19 +9,22 @@ use std::sync::{Arc, Wait};
 use std::time::Duration;
 use tc_connections::{Connections, Notice, canonical};
 
-/// The most events of one wait.
+/// The most events that one wait reports.
 const EVENTS: usize = 16;
 
-/// How many milliseconds the listener waits for a connection before it looks whether enough were closed.
+/// Milliseconds that the listener waits for a connection before it checks whether enough were
+/// closed.
 const WAIT: u64 = 20;
 
-/// The same where it ends by no count: then it ends only where the crew could not start.
+/// The same for a server without a count of closed connections. That one ends only if the crew
+/// could not start.
 const LONG_WAIT: u64 = 500;
 
-/// The most connections that are taken before it looks whether it is done.
+/// The most connections that it accepts before it checks whether it is done.
 const BURST: u32 = 1_024;
 
-/// The system's numbers for a process, and a system, that has no descriptor left (errno(3)).
+/// The system's error numbers if the process, or the whole system, has no descriptor left
+/// (errno(3)).
 const EMFILE: i32 = 24;
 
 const ENFILE: i32 = 23;
@@ -34,15 +37,15 @@ pub(crate) struct Listening {
     events: Events,
     outlets: Vec<Outlet>,
     connections: Arc<Connections, Global>,
-    /// After so many closed connections it ends.
+    /// It ends once this many connections were closed.
     until: Option<u64>,
-    /// The number of the next connection, from 0.
+    /// The number of the next connection, counted from 0.
     number: u64,
-    /// How many connections the process has descriptors for.
+    /// The number of connections for which the process has descriptors.
     room: u64,
-    /// One that came beyond these, and from where: it is let in once another closes.
+    /// A connection beyond these, and its peer. It enters once another closes.
     held: Option<(TcpStream, SocketAddr)>,
-    /// Connections wait for descriptors, and an operator was told.
+    /// Connections wait for descriptors, and the operator has a notice of it.
     is_short: bool,
 }
 
@@ -73,17 +76,18 @@ impl Listening {
         })
     }
 
-    /// Learns how many connections the process has descriptors for.
+    /// Sets how many connections the process has descriptors for.
     pub(crate) fn set_room(&mut self, room: u64) {
         self.room = room;
     }
 
-    /// Where it listens; the port is the one that the system gave where port 0 was asked for.
+    /// Returns where it listens. If port 0 was asked for, the port is the one that the system
+    /// chose.
     pub(crate) fn address(&self) -> io::Result<SocketAddr> {
         self.listener.local_addr()
     }
 
-    /// Whether it is to end.
+    /// Whether it must end.
     fn is_done(&self) -> bool {
         if self.connections.has_ended() {
             return true;
@@ -94,12 +98,13 @@ impl Listening {
         }
     }
 
-    /// How many connections were let in and are open.
+    /// The number of connections that it let in and that are open.
     fn open(&self) -> u64 {
         self.number.saturating_sub(self.connections.closed())
     }
 
-    /// Has an operator told, once for all that wait, that there is no descriptor for a further connection.
+    /// Notes for the operator that no descriptor is left for another connection, once for all that
+    /// wait.
     fn note_shortage<R: Wait>(&mut self, rt: &R) {
         if !self.is_short {
             self.is_short = true;
@@ -108,7 +113,7 @@ impl Listening {
         }
     }
 
-    /// The system gave no connection: for want of descriptors, or else since none waits.
+    /// Handles an error of `accept`: no descriptor is left, or else no connection waits.
     fn note_refusal<R: Wait>(&mut self, rt: &R, error: &io::Error) {
         let number = error.raw_os_error().unwrap_or(0);
         if number == EMFILE || number == ENFILE {
@@ -118,7 +123,7 @@ impl Listening {
         }
     }
 
-    /// A connection that waits, and from where: that which is held back, or the system's next.
+    /// Returns a connection that waits, with its peer: the held one, or the system's next.
     fn next<R: Wait>(&mut self, rt: &R) -> Option<(TcpStream, SocketAddr)> {
         if self.held.is_some() {
             return self.held.take();
@@ -132,7 +137,7 @@ impl Listening {
         }
     }
 
-    /// Takes connections until none waits, or there is no descriptor for one now.
+    /// Accepts connections until none waits, no descriptor is left, or `BURST` were accepted.
     fn take_all<R: Wait>(&mut self, rt: &R) {
         for _ in 0..BURST {
             let Some((stream, peer)) = self.next(rt) else {
@@ -147,7 +152,7 @@ impl Listening {
         }
     }
 
-    /// Lets a connection in and hands it over, where there is a place for it; else it is closed.
+    /// Gives a connection a place and hands it to a worker; closes it if there is no place.
     fn let_in<R: Wait>(&mut self, rt: &R, stream: TcpStream, peer: SocketAddr) {
         if self.connections.make_room() {
             self.connections.note(rt, Notice::UnboundFull { peer });
@@ -164,7 +169,8 @@ impl Listening {
         }
     }
 
-    /// Hands a connection to the worker whose turn it is. Whether it was taken; else it is closed.
+    /// Hands a connection to the worker whose turn it is, and returns whether its channel took it.
+    /// If not, the connection is closed.
     fn hand_over<R: Wait>(&mut self, rt: &R, number: u64, place: usize, stream: TcpStream) -> bool {
         let _ = stream.set_nodelay(true);
         let count = self.outlets.len() as u64;
@@ -181,7 +187,7 @@ impl Listening {
         outlet.send(rt, arrival).is_ok()
     }
 
-    /// How long it waits for a connection before it looks whether it is done.
+    /// How long it waits for a connection before it checks whether it is done.
     fn patience(&self) -> Duration {
         match self.until {
             Some(_) => Duration::from_millis(WAIT),
@@ -189,15 +195,15 @@ impl Listening {
         }
     }
 
-    /// Wakes all workers, so that they learn that no further connection comes.
+    /// Wakes all workers, so that they look for marks and for the server's end.
     fn wake_workers(&self) {
         for outlet in &self.outlets {
             outlet.wake();
         }
     }
 
-    /// Takes connections until enough were closed; then no further one comes. It gives back what wakes
-    /// the workers, which is to live until they have ended: what a waker says is lost with it.
+    /// Accepts connections until it is done, then marks the server as ended. It returns the
+    /// outlets, which must outlive the workers: a wake is lost if its waker is dropped.
     pub(crate) fn run<R: Wait>(mut self, rt: &R) -> Vec<Outlet> {
         let patience = self.patience();
         for _ in rt.forever() {

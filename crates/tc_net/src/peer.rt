@@ -1,35 +1,35 @@
-//! One that asks for the metrics.
+//! A client that asks for the metrics.
 use mio::net::TcpStream;
 use std::alloc::Global;
 use std::io::{ErrorKind, Read, Write};
 use tc_item::NoMemory;
 use tc_metrics::{Answer, MOST_HEAD, read_request};
 
-/// The most bytes of a read.
+/// The most bytes of one read.
 const PIECE: usize = 1_024;
 
-/// So many seconds a request and its reply may take.
+/// Seconds that a request and its reply may take together.
 const PATIENCE: u64 = 10;
 
-/// How far one came.
+/// How far a client's request is.
 #[derive(Clone, Copy, PartialEq, Eq)]
 pub(crate) enum Stage {
-    /// It is to be looked at again.
+    /// It has more to read or to write in a later turn.
     Waits,
-    /// Its request came, and is to be answered so.
+    /// Its request is complete and gets this answer.
     Asks(Answer),
-    /// It is to be closed.
+    /// Its connection must close.
     Done,
 }
 
-/// One that asks: its connection, what came, and what is to be sent.
+/// A client: its connection, the bytes that came, and its reply.
 #[derive(Drop)]
 pub(crate) struct Peer {
     stream: TcpStream,
-    /// The second in which it came.
+    /// The server's second in which it came.
     since: u64,
     came: Vec<u8>,
-    /// The reply, once the request came.
+    /// The reply, once its request came.
     reply: Option<Vec<u8>>,
     /// How many bytes of the reply were sent.
     sent: usize,
@@ -46,7 +46,7 @@ impl Peer {
         }
     }
 
-    /// Reads or writes what it can.
+    /// Reads or writes once. A client that exceeds 10 seconds is done.
     pub(crate) fn turn(&mut self, second: u64) -> Stage {
         if second > self.since.saturating_add(PATIENCE) {
             return Stage::Done;
@@ -57,7 +57,7 @@ impl Peer {
         }
     }
 
-    /// Learns its reply.
+    /// Sets its reply, which later turns send.
     pub(crate) fn set_reply(&mut self, reply: Vec<u8>) {
         self.reply = Some(reply);
     }
@@ -77,7 +77,8 @@ impl Peer {
         }
     }
 
-    /// Takes what came.
+    /// Appends what came, and returns whether the request is complete. A head of over 8,192 bytes
+    /// is too long.
     fn take(&mut self, piece: &[u8]) -> Result<Stage, NoMemory> {
         if self.came.len() > MOST_HEAD {
             return Ok(Stage::Asks(Answer::TooLong));

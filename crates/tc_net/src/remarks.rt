@@ -1,10 +1,11 @@
-//! What an operator is told of what a worker remarked on a connection.
+//! Notices for the operator of what a worker remarked on a connection.
 use std::net::SocketAddr;
 use tc_connections::Notice;
 use tc_links::{News, Remark};
 use tc_users::UserNo;
 
-/// The notice for what happened on a connection from there, of this user where it has logged in.
+/// Returns the notice of a remark on a connection from `peer`, whose user is `None` before its
+/// login.
 pub(crate) fn notice_of(peer: SocketAddr, user: Option<UserNo>, remark: Remark) -> Notice {
     match remark {
         Remark::News(News::LoginRefused(user)) => Notice::LoginRefused { peer, user },

@@ -1,4 +1,4 @@
-//! A socket that no poll watches.
+//! A socket that no poll watches, over any stream.
 ghost use Rattle.std.specs.Prelude.{◌≡◌, IfOk};
 
 use crate::socket::Socket;
@@ -10,20 +10,20 @@ use tc_connections::{Connections, READABLE, Readiness, WRITABLE};
 use tc_limits::{ConnectionLimits, LimitsByUser};
 use tc_links::Wire;
 
-/// Says of one socket, in the place of a poll, that it may be read and written.
+/// Marks one socket as readable and writable, in place of a poll.
 #[derive(Drop)]
 pub struct Rouser {
     readiness: Arc<Readiness, Global>,
 }
 
 impl Rouser {
-    /// It may be read and written.
+    /// Marks the socket as readable and writable.
     pub fn rouse(&self) {
         self.readiness.set(0, READABLE | WRITABLE);
     }
 }
 
-/// No limit on any connection.
+/// Makes connections without limits.
 fn unlimited(alloc: Global) -> Result<Connections, AllocError> {
     let limits = ConnectionLimits {
         login_seconds: None,
@@ -33,8 +33,8 @@ fn unlimited(alloc: Global) -> Result<Connections, AllocError> {
     Connections::new(alloc, limits, LimitsByUser::new(Vec::new(alloc)))
 }
 
-/// A socket over a stream from there, alone among connections that have no limits, and what says that it
-/// may be read and written, as it may at first.
+/// Makes a socket over `stream`, from `peer`, alone among connections without limits. It is
+/// readable and writable at first, and again each time the `Rouser` says so.
 pub fn unpolled<S: Stream>(
     alloc: Global,
     stream: S,

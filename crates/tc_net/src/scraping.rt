@@ -1,48 +1,55 @@
-//! The metrics' listener, which the keeper's thread looks at between its turns.
+//! The metrics' listener, which the keeper's thread serves between the keeper's turns.
 use crate::audience::Audience;
+use crate::counting::Counting;
 use crate::peer::{Peer, Stage};
 use mio::net::TcpListener;
 use std::alloc::{AllocError, Global};
 use std::io;
 use std::net::{Net, SocketAddr};
 use std::sync::Wait;
-use tc_connections::Connections;
+use tc_connections::{Cause, Connections, Timeout};
 use tc_grammar::Command;
 use tc_item::NoMemory;
 use tc_locked::{CallFault, Clock, Hall, Naming, Seat};
-use tc_metrics::{Answer, ServerFigures, UserFigures, render, reply};
+use tc_metrics::{Answer, Closed, ServerFigures, UserFigures, WorkerFigures, render, reply};
 use tc_plain::Cache;
 use tc_stats::{Counters, Outcome};
 use tc_users::{UserNo, Users};
 
-/// The most peers at a time.
+/// The most clients at a time.
 const MOST_PEERS: usize = 16;
 
-/// The number of the connection under which the calls for the metrics are entered. The listener gives it
-/// to one connection in 2^32.
+/// The connection number under which the metrics' calls are entered. The listener gives it to one
+/// connection in 2^32.
 const CONN: u32 = u32::MAX;
 
-/// Where the figures are asked for.
+/// Where the figures come from.
 #[derive(Drop)]
 pub(crate) struct Sources<'a, R: Wait, C: Cache, N: Naming, A: Audience> {
     pub(crate) rt: &'a R,
     pub(crate) hall: &'a Hall<C, N>,
     pub(crate) clock: &'a Clock,
     pub(crate) connections: &'a Connections,
+    /// What workers did; `None` if users have no workers of their own.
+    pub(crate) counting: &'a Option<Counting>,
+    /// Microseconds since the server began; 0 if the clock can't be read.
+    pub(crate) now: u64,
     pub(crate) audience: &'a A,
 }
 
-/// What a server tells of itself, and to whom.
+/// The metrics' listener and its clients.
 #[derive(Drop)]
 pub(crate) struct Scraping {
     alloc: Global,
     listener: TcpListener,
     peers: Vec<Peer>,
-    /// Of each user, in the order of the users' numbers.
+    /// Figures of each user, in the order of the users' numbers.
     figures: Vec<UserFigures>,
+    /// Figures of each worker, by number.
+    workers: Vec<WorkerFigures>,
 }
 
-/// The figures of users that have done nothing.
+/// Returns the figures of users that have done nothing.
 fn first_figures(alloc: Global, users: &Users) -> Result<Vec<UserFigures>, NoMemory> {
     let mut figures = Vec::new(alloc);
     for row in users.rows() {
@@ -51,13 +58,16 @@ fn first_figures(alloc: Global, users: &Users) -> Result<Vec<UserFigures>, NoMem
             connections: 0,
             calls: 0,
             journal: 0,
+            refused_logins: 0,
+            no_memory: 0,
+            closed: Closed::default(),
             counters: Counters::new(),
         })?;
     }
     Ok(figures)
 }
 
-/// The server's own figures.
+/// Returns the server's own figures.
 fn figures_of<A: Audience>(connections: &Connections, audience: &A) -> ServerFigures {
     let (open_fds, max_fds) = match audience.descriptors() {
         Some(now) => (now.open, now.allowed),
@@ -91,7 +101,17 @@ fn count_connections(figures: &mut [UserFigures], connections: &Connections) {
     }
 }
 
-/// Asks for a user's `stats`, by one call of the hall, and for what its page keeps.
+/// Returns how many of a user's connections each limit closed.
+fn closed_of(connections: &Connections, user: UserNo) -> Closed {
+    Closed {
+        connections: connections.total(Some(user), Cause::UserFull),
+        idle: connections.total(Some(user), Cause::TimedOut(Timeout::Idle)),
+        stalled: connections.total(Some(user), Cause::TimedOut(Timeout::Stalled)),
+        half_block: connections.total(Some(user), Cause::HoldsUp),
+    }
+}
+
+/// Gets a user's `stats` by one call of the hall, and the size of its page.
 fn ask<R: Wait, C: Cache, N: Naming, A: Audience>(
     from: &Sources<'_, R, C, N, A>,
     alloc: Global,
@@ -105,13 +125,17 @@ fn ask<R: Wait, C: Cache, N: Naming, A: Audience>(
         .call(from.rt, alloc, seat, user, now, CONN, &Command::Stats)?;
     figures.calls = receipt.slip.number;
     figures.journal = from.hall.journal_bytes(from.rt, user);
+    let connections = from.connections;
+    figures.refused_logins = connections.total(Some(user), Cause::LoginRefused);
+    figures.no_memory = connections.total(Some(user), Cause::NoMemory);
+    figures.closed = closed_of(connections, user);
     if let Outcome::Stats(statistics) = &receipt.slip.outcome {
         figures.counters = *statistics.counters();
     }
     Ok(())
 }
 
-/// Asks for each user's `stats`.
+/// Gets each user's `stats`.
 fn ask_all<R: Wait, C: Cache, N: Naming, A: Audience>(
     from: &Sources<'_, R, C, N, A>,
     alloc: Global,
@@ -127,7 +151,7 @@ fn ask_all<R: Wait, C: Cache, N: Naming, A: Audience>(
 }
 
 impl Scraping {
-    /// A listener there.
+    /// Listens on an address.
     pub(crate) fn new<R: Net + AllocGlobal>(
         net: &R,
         address: SocketAddr,
@@ -144,15 +168,17 @@ impl Scraping {
             listener,
             peers,
             figures,
+            workers: Vec::new(alloc),
         })
     }
 
-    /// Where it listens; the port is the one that the system gave where port 0 was asked for.
+    /// Returns where it listens. If port 0 was asked for, the port is the one that the system
+    /// chose.
     pub(crate) fn address(&self) -> io::Result<SocketAddr> {
         self.listener.local_addr()
     }
 
-    /// Takes those that wait to ask.
+    /// Accepts clients that wait, while there are fewer than 16.
     fn let_in(&mut self, second: u64) -> Result<(), AllocError> {
         for _ in self.peers.len()..MOST_PEERS {
             let Ok((stream, _address)) = self.listener.accept() else {
@@ -163,7 +189,7 @@ impl Scraping {
         Ok(())
     }
 
-    /// The text of the metrics.
+    /// Renders the metrics.
     fn tell<R: Wait, C: Cache, N: Naming, A: Audience>(
         &mut self,
         from: &Sources<'_, R, C, N, A>,
@@ -171,12 +197,17 @@ impl Scraping {
     ) -> Result<Vec<u8>, CallFault> {
         count_connections(&mut self.figures, from.connections);
         ask_all(from, self.alloc, seat, &mut self.figures)?;
+        if let Some(counting) = from.counting {
+            counting.tell(from.now, self.figures.len(), &mut self.workers);
+        }
         let server = figures_of(from.connections, from.audience);
         let version = from.audience.version();
-        Ok(render(self.alloc, &self.figures, version, &server)?)
+        let (users, workers) = (&self.figures, &self.workers);
+        Ok(render(self.alloc, users, workers, version, &server)?)
     }
 
-    /// The reply to a request that is answered so; without a text where memory for it is refused.
+    /// Makes the reply to a request. If memory for the metrics is refused, it is a 503 without
+    /// text.
     fn reply<R: Wait, C: Cache, N: Naming, A: Audience>(
         &mut self,
         from: &Sources<'_, R, C, N, A>,
@@ -192,7 +223,7 @@ impl Scraping {
         }
     }
 
-    /// The turn of one peer. Whether it stays.
+    /// Serves one client, and returns whether it stays.
     fn serve<R: Wait, C: Cache, N: Naming, A: Audience>(
         &mut self,
         from: &Sources<'_, R, C, N, A>,
@@ -216,13 +247,14 @@ impl Scraping {
         true
     }
 
-    /// Looks who asks, and reads and writes what can be. It does not wait.
+    /// Accepts clients, and reads and writes what their sockets allow. It never waits for a client,
+    /// but it takes each user's lock to ask for that user's `stats`.
     pub(crate) fn turn<R: Wait, C: Cache, N: Naming, A: Audience>(
         &mut self,
         from: &Sources<'_, R, C, N, A>,
         seat: &mut Seat<N>,
     ) {
-        // One for whom there is no memory is closed.
+        // A client for whom there is no memory is closed.
         let _ = self.let_in(from.connections.second());
         let mut at = 0;
         for _ in 0..self.peers.len() {

@@ -32,10 +32,11 @@ use tc_plain::Cache;
 use tc_users::Users;
 use tc_workers::{Keeper, Returned, Worker, run_crew};
 
-/// Why a server doesn't serve.
+/// Why a server can't serve.
 #[derive(Debug, Drop, Clone, Copy, PartialEq, Eq)]
 pub enum Unserved {
-    /// The settings' address is none, or can't be listened on.
+    /// The address of the server or of the metrics doesn't parse or can't be listened on, or the system refused a
+    /// poll.
     CannotListen,
     /// Memory or a thread was refused.
     NoMemory,
@@ -65,14 +66,12 @@ impl From<io::Error> for Unserved {
 /// Which worker serves a connection once its user is known.
 #[derive(Clone, Copy, PartialEq, Eq)]
 pub enum Affinity {
-    /// That of its user, or one that helps it: users are dealt out to the workers in the order of their
-    /// numbers, and a worker that has no time left gets helpers.
+    /// The worker of its user, or a helper of that one. Users are assigned to the workers in turn, by number.
     ByUser,
-    /// The one that it came to.
+    /// The worker to which the listener handed it.
     Spread,
 }
 
-/// A worker with its inlet, and where its connections are put.
 #[derive(Drop)]
 struct Hired<N: Naming, R: Wait + Time + Drop> {
     worker: Worker<Socket, N>,
@@ -80,7 +79,7 @@ struct Hired<N: Naming, R: Wait + Time + Drop> {
     outlet: Outlet,
 }
 
-/// A worker of so many, for a seat.
+/// Makes one of `workers` workers, for a seat.
 fn hire<N: Naming, R: Wait + Net + Time + AllocGlobal + Copy + Drop>(
     rt: &R,
     alloc: Global,
@@ -100,7 +99,6 @@ fn hire<N: Naming, R: Wait + Net + Time + AllocGlobal + Copy + Drop>(
     })
 }
 
-/// A further handle of the connections.
 fn shared(connections: &Arc<Connections, Global>) -> Result<Arc<Connections, Global>, Unserved> {
     match Arc::try_clone(connections) {
         Ok(connections) => Ok(connections),
@@ -108,10 +106,10 @@ fn shared(connections: &Arc<Connections, Global>) -> Result<Arc<Connections, Glo
     }
 }
 
-/// A worker of a crew, with its inlet.
+/// A worker with its inlet.
 type Member<N, R> = (Worker<Socket, N>, EventLoop<R>);
 
-/// All workers, with their inlets and where their connections are put.
+/// All workers with their inlets, and the outlets to them.
 #[derive(Drop)]
 struct Staff<N: Naming, R: Wait + Time + Drop> {
     crew: Vec<Member<N, R>>,
@@ -119,7 +117,7 @@ struct Staff<N: Naming, R: Wait + Time + Drop> {
 }
 
 impl<N: Naming, R: Wait + Time + Drop> Staff<N, R> {
-    /// One more worker. A refusal changes nothing.
+    /// Adds a worker. A refusal changes nothing.
     fn add(&mut self, hired: Hired<N, R>) -> Result<(), AllocError> {
         self.outlets.reserve(1)?;
         self.crew.reserve(1)?;
@@ -134,7 +132,7 @@ impl<N: Naming, R: Wait + Time + Drop> Staff<N, R> {
     }
 }
 
-/// A worker for each seat.
+/// Makes a worker for each seat.
 fn hire_all<N: Naming, R: Wait + Net + Time + AllocGlobal + Copy + Drop>(
     rt: &R,
     alloc: Global,
@@ -154,7 +152,6 @@ fn hire_all<N: Naming, R: Wait + Net + Time + AllocGlobal + Copy + Drop>(
     Ok(staff)
 }
 
-/// Another outlet to each worker.
 fn another_each(alloc: Global, outlets: &mut Vec<Outlet>) -> Result<Vec<Outlet>, AllocError> {
     let mut others = Vec::new(alloc);
     for outlet in outlets.iter_mut() {
@@ -163,7 +160,7 @@ fn another_each(alloc: Global, outlets: &mut Vec<Outlet>) -> Result<Vec<Outlet>,
     Ok(others)
 }
 
-/// Deals users out to so many workers; what they do is counted, so that helpers come and go.
+/// Assigns users to `workers` workers, and counts the workers' work so that helpers come and go.
 fn deal_out<N: Naming, R: Wait + Time + Drop>(
     alloc: Global,
     staff: &mut Staff<N, R>,
@@ -190,12 +187,12 @@ struct Hiring<N: Naming, R: Wait + Time + Drop> {
     connections: Arc<Connections, Global>,
     /// The seat for the metrics.
     own: Seat<N>,
-    /// What counts what workers do, where users are dealt out to them.
+    /// Counts the workers' work; `None` with `Affinity::Spread`.
     counting: Option<Counting>,
 }
 
-/// A worker for each seat but the last, dealt out to users where that is asked for, and where the
-/// connections of each are put.
+/// Makes a worker for each seat but the last, which is for the metrics, and assigns users to them if `affinity`
+/// says so. Also returns the outlets to the workers.
 fn hire_staff<N: Naming, R: Wait + Net + Time + AllocGlobal + Copy + Drop>(
     rt: &R,
     alloc: Global,
@@ -226,8 +223,7 @@ fn hire_staff<N: Naming, R: Wait + Net + Time + AllocGlobal + Copy + Drop>(
     Ok((hiring, outlets))
 }
 
-/// A listener, which puts connections where their workers take them. Else the audience is told why there is
-/// none.
+/// Opens the listener, which hands connections to these outlets. If it can't, the audience learns why.
 fn open_listener<R: Net + AllocGlobal, A: Audience>(
     rt: &R,
     opening: Opening,
@@ -245,8 +241,7 @@ fn open_listener<R: Net + AllocGlobal, A: Audience>(
     }
 }
 
-/// The metrics' listener, where the settings ask for one. The audience is told where it listens, or why
-/// it can't.
+/// Opens the metrics' listener if the settings ask for one. The audience learns where it listens, or why it can't.
 fn listen_for_metrics<R: Net + AllocGlobal, A: Audience>(
     rt: &R,
     metrics: &Option<Address>,
@@ -271,10 +266,13 @@ fn listen_for_metrics<R: Net + AllocGlobal, A: Audience>(
     }
 }
 
-/// Listens and serves, until so many connections were closed. The audience is told once it listens, or
-/// why it can't; while it serves, what becomes of connections; and at the end what an audit finds, if one
-/// is asked for. The hall has a seat for each worker, and one more for the metrics. It keeps pages where
-/// they are audited; else nothing is kept, and no page ends.
+/// Listens and serves until `until` connections were closed; with `None`, until the process ends.
+///
+/// The audience learns where the server listens or why it can't, and then what happens to connections. If `at_end`
+/// asks for an audit, the audience learns the result.
+///
+/// The hall has a seat for each worker and one for the metrics. Its journal is on only for an audit; otherwise no
+/// page ends and none keeps anything.
 pub fn serve<
     C: Cache + Send + Sync,
     N: Naming + Send + Sync,
@@ -324,18 +322,17 @@ pub fn serve<
     }
 }
 
-/// How a server is to listen and serve.
+/// How a server listens and serves.
 #[derive(Clone, Copy)]
 struct Opening {
     address: SocketAddr,
     affinity: Affinity,
-    /// It ends once so many connections were closed.
+    /// The server ends once this many connections were closed; `None` for never.
     until: Option<u64>,
     /// One for each worker, and one for the metrics.
     seats: usize,
 }
 
-/// How a server of these settings is to listen and serve.
 fn opening_of(
     settings: &ServerSettings,
     affinity: Affinity,
@@ -357,8 +354,8 @@ fn opening_of(
     })
 }
 
-/// The places of all connections, by the settings' limits. Those of users are taken out of these, whatever comes
-/// of it.
+/// Makes the places of all connections, under the settings' limits. It moves the users' limits out of `settings`,
+/// even if it fails.
 fn share_connections(
     alloc: Global,
     settings: &mut ServerSettings,
@@ -376,7 +373,6 @@ fn share_connections(
     }
 }
 
-/// A server that listens.
 #[derive(Drop)]
 struct Standing<'a, N: Naming, R: Wait + Time + Drop, A: Audience> {
     crew: Vec<Member<N, R>>,
@@ -384,7 +380,8 @@ struct Standing<'a, N: Naming, R: Wait + Time + Drop, A: Audience> {
     listening: Listening,
 }
 
-/// Has workers hired and listens, for connections and for who asks for metrics. The audience is told so.
+/// Makes the workers, opens the listeners for connections and for the metrics, and tells the audience where they
+/// listen.
 fn stand<'a, N: Naming, R: Wait + Net + Time + AllocGlobal + Copy + Drop, A: Audience>(
     rt: &R,
     alloc: Global,
@@ -402,7 +399,7 @@ fn stand<'a, N: Naming, R: Wait + Net + Time + AllocGlobal + Copy + Drop, A: Aud
     let (hiring, outlets) = hire_staff(rt, alloc, connections, begun, seats, affinity, workers)?;
     let mut listening = open_listener(rt, opening, outlets, connections, audience)?;
     let scraping = listen_for_metrics(rt, &settings.metrics, &settings.users, audience)?;
-    // All else that stays open is open now.
+    // All other descriptors that stay open are open by this point.
     listening.set_room(room_by(audience.descriptors()));
     audience.listens(listening.address().unwrap_or(opening.address));
     let Hiring {
@@ -428,7 +425,7 @@ fn stand<'a, N: Naming, R: Wait + Net + Time + AllocGlobal + Copy + Drop, A: Aud
     })
 }
 
-/// A server, as each of its parts knows it.
+/// What each part of a server shares.
 #[derive(Drop)]
 struct Server<'a, C: Cache, N: Naming, R, A: Audience> {
     rt: &'a R,
@@ -444,7 +441,8 @@ impl<
     R: Threads + Wait + Net + Time + AllocGlobal + Send + Sync + Copy + Drop + 'static,
     A: Audience + Sync,
 > Server<'a, C, N, R, A> {
-    /// Serves the hall's users, whose last seat is for the metrics, until it ends. All seats come back.
+    /// Serves the hall's users until the listener ends, and returns all seats. The last of `seats` is for the
+    /// metrics.
     fn serve(
         &self,
         seats: Vec<Seat<N>>,
@@ -466,7 +464,7 @@ impl<
         self.run(&settings.users, standing, &connections)
     }
 
-    /// Runs the listener, the workers and the keeper, until the listener ends. All seats come back.
+    /// Runs the listener, the workers and the keeper until the listener ends, and returns all seats.
     fn run(
         &self,
         users: &Users,
@@ -479,7 +477,7 @@ impl<
             listening,
         } = standing;
         let clock = Clock::new();
-        // Commands that come before the keeper's first turn are done at the right moment.
+        // So commands before the keeper's first turn get the right moment.
         clock.advance(moment_now(self.rt));
         let own = *self.rt;
         let Ok(listener) = thread::spawn(self.rt, move || listening.run(&own)) else {

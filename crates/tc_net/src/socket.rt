@@ -15,14 +15,14 @@ use tc_fairness::Traffic;
 use tc_links::{Change, Got, News, Parts, Put, Remark, Wire, home_of};
 use tc_users::UserNo;
 
-/// After so many reads on end what a socket's worker did is noted.
+/// After this many reads without a write, the socket counts them for its worker.
 const MOST_UNNOTED: u64 = 16;
 
-/// A socket's place in the readiness of its worker's sockets, until it is dropped.
+/// A socket's place in the readiness of its worker, until it is dropped.
 struct Watch {
     readiness: Arc<Readiness, Global>,
     at: usize,
-    /// The home of its user, once it logged in.
+    /// The home of its user, once known.
     home: Option<usize>,
 }
 
@@ -37,7 +37,7 @@ impl Drop for Watch {
     }
 }
 
-/// The home of a user among those that a worker counts by; `None` where there is none.
+/// Returns the home of a user among those that a worker counts by; `None` if there are none.
 fn home_of_user(readiness: &Readiness, user: UserNo) -> Option<usize> {
     match readiness.counts().homes() {
         0 => None,
@@ -45,8 +45,8 @@ fn home_of_user(readiness: &Readiness, user: UserNo) -> Option<usize> {
     }
 }
 
-/// A socket that asks the system only where the poll said that there is something. It has a place at
-/// the connections until it is dropped. What it gives and takes is what its stream gives and takes.
+/// A socket that calls the system only if the poll reported it. It has a place among the
+/// connections until it is dropped. Its bytes are its stream's.
 pub struct Socket<S: Stream = TcpStream> {
     stream: S,
     /// None while it is on its way to a worker.
@@ -55,7 +55,7 @@ pub struct Socket<S: Stream = TcpStream> {
     place: usize,
     /// The user that logged in.
     user: Option<UserNo>,
-    /// What its worker did that is not noted yet.
+    /// What its worker did and has not counted yet.
     done: Traffic,
 }
 
@@ -76,7 +76,7 @@ impl<S: Stream> Drop for Socket<S> {
 }
 
 impl<S: Stream> Socket<S> {
-    /// A wire that has this place among the connections, and that no worker has yet.
+    /// Makes a wire with this place among the connections, before a worker has it.
     pub(crate) fn new(stream: S, connections: Arc<Connections, Global>, place: usize) -> Socket<S>
         ensures { result.stream ≡ stream }
     {
@@ -90,7 +90,7 @@ impl<S: Stream> Socket<S> {
         }
     }
 
-    /// Takes a place in a worker's readiness. Whether there was one.
+    /// Takes a place in a worker's readiness, and returns whether there was one.
     pub(crate) fn claim(&mut self, readiness: Arc<Readiness, Global>) -> bool
         ensures { self.new.stream ≡ self.old.stream }
     {
@@ -106,8 +106,8 @@ impl<S: Stream> Socket<S> {
         true
     }
 
-    /// Takes a place in a worker's readiness, which the worker's poll writes from now on. Whether there was
-    /// one and the poll took it.
+    /// Takes a place in a worker's readiness and registers with its poll. Returns whether both
+    /// succeeded; if not, it has no place.
     pub(crate) fn join(&mut self, registry: &Registry, readiness: Arc<Readiness, Global>) -> bool
         ensures gives_nothing { S.gave self.new.stream ≡ S.gave self.old.stream }
         ensures takes_nothing { S.took self.new.stream ≡ S.took self.old.stream }
@@ -125,12 +125,12 @@ impl<S: Stream> Socket<S> {
         is_registered
     }
 
-    /// On whose users' account its worker serves it.
+    /// Returns the home to which its worker's work counts.
     fn home_on(&self, readiness: &Readiness) -> Option<usize> {
         home_of_user(readiness, self.user?)
     }
 
-    /// Its worker read or wrote so many bytes.
+    /// Adds a call of the system that moved `bytes` bytes.
     fn count(&mut self, bytes: usize)
         ensures { self.new.stream ≡ self.old.stream }
     {
@@ -138,7 +138,7 @@ impl<S: Stream> Socket<S> {
         self.done.bytes = self.done.bytes.saturating_add(bytes as u64);
     }
 
-    /// Notes what its worker did.
+    /// Adds what its worker did to the worker's counts.
     fn note_done(&mut self)
         ensures { self.new.stream ≡ self.old.stream }
     {
@@ -151,7 +151,7 @@ impl<S: Stream> Socket<S> {
         self.done = Traffic::default();
     }
 
-    /// Its worker read so many bytes. Mostly it writes soon, and then both are noted at once.
+    /// Adds a read of `bytes` bytes. A write mostly follows soon, and counts both in one step.
     fn count_read(&mut self, bytes: usize)
         ensures { self.new.stream ≡ self.old.stream }
     {
@@ -161,7 +161,7 @@ impl<S: Stream> Socket<S> {
         }
     }
 
-    /// Its worker wrote so many bytes.
+    /// Adds a write of `bytes` bytes, and counts all that was done.
     fn count_write(&mut self, bytes: usize)
         ensures { self.new.stream ≡ self.old.stream }
     {
@@ -169,7 +169,7 @@ impl<S: Stream> Socket<S> {
         self.note_done();
     }
 
-    /// Gives its place up, and leaves the worker's poll.
+    /// Leaves the worker's poll and gives up its place in the readiness.
     pub(crate) fn leave(&mut self, registry: &Registry)
         ensures gives_nothing { S.gave self.new.stream ≡ S.gave self.old.stream }
         ensures takes_nothing { S.took self.new.stream ≡ S.took self.old.stream }
@@ -178,7 +178,7 @@ impl<S: Stream> Socket<S> {
         self.watch = None;
     }
 
-    /// Whether the poll said this of it.
+    /// Whether this bit of its readiness is set.
     fn has(&self, bit: u64) -> bool {
         match &self.watch {
             Some(watch) => watch.readiness.has(watch.at, bit),
@@ -186,23 +186,22 @@ impl<S: Stream> Socket<S> {
         }
     }
 
-    /// Notes that the system said that it isn't so any more.
+    /// Clears a bit of its readiness, since the system answered that nothing can be done.
     fn clear(&self, bit: u64) {
         if let Some(watch) = &self.watch {
             watch.readiness.clear(watch.at, bit);
         }
     }
 
-    /// After a read of `n` bytes into `room`: the poll tells anew of bytes that come after a read that
-    /// left room, but not of an end that it told already.
+    /// Clears `READABLE` after a short read of `n` bytes into `room`. The edge-triggered poll
+    /// reports later bytes, but reports an end only once, so an ending socket stays readable.
     fn note_read(&self, n: usize, room: usize) {
         if n < room && !self.has(ENDING) {
             self.clear(READABLE);
         }
     }
 
-    /// Hands the first bytes to the system in one call, from where they lie: of one slice, or of four,
-    /// which is as many as the call takes.
+    /// Hands the first bytes to the system in one call, without a copy: one slice, or up to four.
     fn send(&mut self, from: &Parts<'_>) -> io::Result<usize>
         ensures within { WritesAtMost result from.now }
         ensures takes { WriteAppends (S.took self.old.stream) (S.took self.new.stream) result
@@ -309,7 +308,7 @@ impl<S: Stream> Wire for Socket<S> {
     }
 }
 
-/// A worker takes a socket over, which gets a place in its readiness; its poll writes that from now on.
+/// The change of a worker that takes a socket over: a place in its readiness, and its poll.
 #[derive(Drop)]
 pub(crate) struct Join<'a> {
     pub(crate) registry: &'a Registry,
@@ -326,7 +325,7 @@ impl<'a, S: Stream> Change<Socket<S>> for Join<'a> {
     }
 }
 
-/// A worker passes a socket on, which gives its place up and leaves the worker's poll.
+/// The change of a worker that passes a socket on: it leaves the poll and the readiness.
 #[derive(Drop)]
 pub(crate) struct Leave<'a> {
     pub(crate) registry: &'a Registry,

@@ -1,4 +1,4 @@
-//! What waits, done to a copy.
+//! Waiting look-ups, done on a copy.
 ghost use Rattle.std.specs.Prelude.{◌≡◌, ℕ, ◌<◌, ◌+◌, ◌^◌, slice_get, Some};
 ghost use Rattle.tc_model.specs.Areas.{total};
 ghost use Rattle.tc_plain.specs.Entries.{weight};
@@ -12,7 +12,7 @@ use tc_plain::EvictionState;
 use tc_readbuf::{LookUp, ReadBuf};
 use tc_slots::Slots;
 
-/// Does what was noted: a hit by the key of what its slot holds.
+/// Does a noted look-up. It looks up a hit by the key of the entry in its slot.
 fn do_noted(live: &mut EvictionState, slots: &Slots, noted: LookUp)
     requires weight { total weight (areas_of live.old.areas) < 2 ^ 32 }
     requires room { HasRoom 0 live.old.areas }
@@ -27,7 +27,7 @@ fn do_noted(live: &mut EvictionState, slots: &Slots, noted: LookUp)
     }
 }
 
-/// Does the record at a place, at its own moment.
+/// Does the look-up at a place of the ring, at its own moment.
 fn replay_at(live: &mut EvictionState, slots: &Slots, waiting: &ReadBuf, place: usize)
     requires sound { AreSound live.old.limits (areas_of live.old.areas) }
     requires light { live.old.limits.window + live.old.limits.main < 2 ^ 32 }
@@ -43,7 +43,7 @@ fn replay_at(live: &mut EvictionState, slots: &Slots, waiting: &ReadBuf, place: 
     }
 }
 
-/// Does all that waits, each record at its own moment, and comes to the moment.
+/// Does all waiting look-ups in order, each at its own moment, and then advances to `moment`.
 pub fn replay(live: &mut EvictionState, slots: &Slots, waiting: &ReadBuf, moment: Moment)
     requires lazy { IsLazy (lazy_over (live_of live.old) slots.now.slots waiting.now moment) }
     requires light { live.old.limits.window + live.old.limits.main < 2 ^ 32 }

@@ -31,25 +31,26 @@ use tc_slots::Slots;
 use tc_slru::Area;
 use tc_stats::Counters;
 
-/// So many keys at most are read ahead together.
+/// The most keys that are prefetched together.
 pub(crate) const TOGETHER: usize = 64;
 
-/// What look-ups touch: the entries, how often each key was seen, and when the entries go.
+/// What look-ups touch: the entries, how often each key was seen, and when entries go.
 #[derive(Drop)]
 pub struct LiveSlots {
     /// The entries held.
     pub held: Slots,
-    /// Where keys were found last.
+    /// Where keys were last found.
     pub hints: Hints,
-    /// How often each key was seen of late.
+    /// How often each key was seen lately.
     pub sketch: SparingSketch,
-    /// The second at which all entries go, if that was asked for.
+    /// The second at which all entries go, if a delayed flush is pending.
     pub flush: Option<u64>,
-    /// The moment that the cache was last advanced to.
+    /// The latest moment that the cache was advanced to.
     pub moment: Moment,
 }
 
-/// Whether what a key holds in this slot is alive at the moment, with this due if one is given.
+/// Returns whether what a key holds in this slot is alive at the moment. A given due replaces the
+/// entry's own.
 fn lives_on(slots: &Slots, key: &Key, slot: Slot, due: Option<Due>, moment: Moment) -> bool
     requires { IsFound key.now slot.0 slots.now }
     ensures { (e : Entry) → held key.now slots.now.areas ≡ Some e
@@ -65,7 +66,7 @@ fn lives_on(slots: &Slots, key: &Key, slot: Slot, due: Option<Due>, moment: Mome
 }
 
 impl LiveSlots {
-    /// Takes all entries out, and forgets where they were.
+    /// Removes all entries, and forgets their hints.
     fn clear(&mut self)
         ensures live { live_of self.new ≡ record (live_of self.old) { areas = no_entries } }
         ensures room { self.old.held.has_room ≡ true → self.new.held.has_room ≡ true }
@@ -74,7 +75,8 @@ impl LiveSlots {
         self.hints = Hints::new(self.held.allocator());
     }
 
-    /// Brings it to the moment, if that is later than its own.
+    /// Advances to the moment, if that is later than its own: a due flush removes all entries,
+    /// otherwise those that expired go.
     pub(crate) fn advance(&mut self, now: Moment)
         ensures live { live_of self.new ≡ advanced (live_of self.old) now }
         ensures alive { (n : ℕ) (e : Entry) → slice_index_or self.old.held.slots n None ≡ Some e
@@ -92,7 +94,7 @@ impl LiveSlots {
         }
     }
 
-    /// Reads what look-ups of keys of these hashes are going to read and to change, and does nothing with it.
+    /// Prefetches what look-ups of keys with these hashes will read and change.
     pub(crate) fn read_ahead(&self, hashes: &[u64]) {
         let mut slots = [Slot(0); TOGETHER];
         for some in hashes.chunks(TOGETHER) {
@@ -101,9 +103,9 @@ impl LiveSlots {
         }
     }
 
-    /// Where a hint says that the key at a place is, of keys of these hashes that are sought one after another.
-    /// At the first place, and at each that is `TOGETHER` places behind one, the next keys are read ahead, and
-    /// `slots` keeps where their hints say that they are.
+    /// Returns the slot that a hint names for the key at place `at`, for callers that go through
+    /// these hashes in order. At each multiple of `TOGETHER` it prefetches the next keys, and
+    /// `slots` keeps what their hints name.
     pub(crate) fn next_hint(&self, hashes: &[u64], at: usize, slots: &mut [Slot; TOGETHER]) -> Slot
         requires { at < length hashes.now }
     {
@@ -114,9 +116,9 @@ impl LiveSlots {
         slots[place]
     }
 
-    /// Reads what look-ups of keys of these hashes are going to read, as many as `slots` has places, and puts down
-    /// where their hints say that they are. To know where an entry lies is to have read its hint, and where data lies
-    /// its entry, so all hints are looked into first, then all entries are read, and then their data.
+    /// Prefetches what look-ups of keys with these hashes will read, as many as `slots` has places,
+    /// and fills `slots` with what their hints name. An entry's address comes from its hint, and
+    /// the data's from the entry. So it reads all hints, then all entries, then their data.
     fn read_together(&self, hashes: &[u64], slots: &mut [Slot; TOGETHER]) {
         self.hints.find_all(hashes, slots);
         let mut sum: u64 = 0;
@@ -129,8 +131,8 @@ impl LiveSlots {
         have_read(sum);
     }
 
-    /// Reads what hits in these slots of keys of these hashes are going to change: all nodes in the lists first, and
-    /// then what these lead to.
+    /// Prefetches what hits in these slots of keys with these hashes will change: all list nodes,
+    /// and after that the nodes that they link to.
     fn read_changes(&self, hashes: &[u64], slots: &[Slot; TOGETHER]) {
         let mut sum: u64 = 0;
         for (slot, _) in slots.iter().zip(hashes) {
@@ -142,13 +144,13 @@ impl LiveSlots {
         have_read(sum);
     }
 
-    /// Reads what a hit in this slot of a key of this hash changes: its links in the lists, and its counters. What
-    /// that comes to says nothing; so in the one below.
+    /// Prefetches what a hit in this slot of a key of this hash changes: its links in the lists,
+    /// and its counters. The result has no meaning, and neither has that of `read_noted`.
     fn read_changed(&self, slot: Slot, hash: u64) -> u64 {
         self.held.read_links(slot) ^ self.sketch.read(hash)
     }
 
-    /// Reads what a look-up that was noted will change.
+    /// Prefetches what a noted look-up will change.
     pub(crate) fn read_noted(&self, noted: LookUp) -> u64 {
         match noted {
             LookUp::Hit(slot, hash) => self.read_changed(slot, hash),
@@ -156,7 +158,8 @@ impl LiveSlots {
         }
     }
 
-    /// Where what a key holds is, which may be this slot, and that: where it is there, the index is not asked.
+    /// Returns what a key holds, and its slot. `slot` is the first guess: if the key is there, the
+    /// index is not searched.
     #[inline(always)]
     fn find_entry(&self, slot: Slot, key: &Key) -> Option<(Slot, &Entry)>
         ensures { MatchOption result (held key.now self.now.held.areas ≡ None)
@@ -176,7 +179,7 @@ impl LiveSlots {
         }
     }
 
-    /// Where what a key will hold at the moment is, which may be this slot, and that.
+    /// Returns what a key will hold at the moment, and its slot. `slot` is the first guess.
     #[inline(always)]
     pub(crate) fn seek_entry(&self, slot: Slot, key: &Key, moment: Moment) -> Option<(Slot, &Entry)>
         requires { AreSound self.now.held.limits self.now.held.areas }
@@ -195,7 +198,8 @@ impl LiveSlots {
         }
     }
 
-    /// Where what a key will hold at the moment is, which may be this slot.
+    /// Returns the slot of what a key will hold at the moment. `slot` is the first guess.
+    #[inline(always)]
     pub(crate) fn seek_from(&self, slot: Slot, key: &Key, moment: Moment) -> Option<Slot>
         requires { AreSound self.now.held.limits self.now.held.areas }
         ensures { SeeksSlot result moment key.now self.now }
@@ -206,7 +210,7 @@ impl LiveSlots {
         }
     }
 
-    /// What is held at the place that was found for a key.
+    /// Returns the entry in the slot that was found for a key.
     pub(crate) fn held_at(&self, place: Option<Slot>) -> Option<&Entry>
         ensures { (moment : ℕ) (key : List ℕ) → SeeksSlot place moment key self.now
             → MatchOption result (peeked moment key (live_of self.now) ≡ None)
@@ -218,8 +222,7 @@ impl LiveSlots {
         }
     }
 
-    /// One look-up of a key: whether it is held. What it holds has this due from now on, if one is
-    /// given.
+    /// Looks up one key and returns whether it is held. If a due is given, its entry gets it.
     pub(crate) fn look(&mut self, key: &Key, due: Option<Due>) -> bool
         requires sound { AreSound self.old.held.limits self.old.held.areas }
         requires weight { total weight self.old.held.areas < 2 ^ 32 }
@@ -231,8 +234,8 @@ impl LiveSlots {
         self.look_at(place, key, due)
     }
 
-    /// One look-up of a key that was found at this place or holds nothing: whether it is held. What
-    /// it holds has this due from now on, if one is given.
+    /// Looks up one key that was found in this slot or holds nothing, and returns whether it is
+    /// held. If a due is given, its entry gets it.
     pub(crate) fn look_at(&mut self, place: Option<Slot>, key: &Key, due: Option<Due>) -> bool
         requires sound { AreSound self.old.held.limits self.old.held.areas }
         requires weight { total weight self.old.held.areas < 2 ^ 32 }
@@ -256,7 +259,7 @@ impl LiveSlots {
         true
     }
 
-    /// One look-up of the key of what a slot holds, which has this hash.
+    /// Does one look-up of the key in a slot, which has this hash.
     pub(crate) fn hit_at(&mut self, slot: Slot, key_hash: u64)
         requires held { IsPlaced self.old.held.slots (LookUp.Hit slot key_hash) }
         requires sound { AreSound self.old.held.limits self.old.held.areas }
@@ -272,7 +275,7 @@ impl LiveSlots {
         self.held.access_at(slot);
     }
 
-    /// One look-up of a key of this hash that holds nothing.
+    /// Does one look-up of a key of this hash that holds nothing.
     pub(crate) fn miss(&mut self, hash: u64)
         ensures live { live_of self.new ≡ do_note (Miss hash) (live_of self.old) }
         ensures slots { self.new.held.slots ≡ self.old.held.slots }
@@ -280,8 +283,8 @@ impl LiveSlots {
         self.sketch.record(hash);
     }
 
-    /// Puts an entry in the place of what its key holds, or into a vacant slot. Where it is not alive, its
-    /// key holds nothing from now on.
+    /// Puts an entry in the place of what its key holds, or into a vacant slot. If the entry is not
+    /// alive, its key holds nothing after that.
     fn use_new(&mut self, place: Option<Slot>, key_hash: u64, entry: Entry)
         requires hashed { key_hash ≡ hash entry.key }
         requires place { FindsSlot place entry.key self.old.held }
@@ -310,8 +313,8 @@ impl LiveSlots {
         }
     }
 
-    /// Puts an entry in the place of what its key holds, or into a vacant slot, and brings each area within
-    /// its limit; each entry that is dropped is counted.
+    /// Puts an entry in the place of what its key holds, or into a vacant slot, and brings each
+    /// area within its limit. Returns `evictions` plus the number of dropped entries.
     fn change(&mut self, place: Option<Slot>, key_hash: u64, entry: Entry, evictions: u64) -> u64
         requires hashed { key_hash ≡ hash entry.key }
         requires place { FindsSlot place entry.key self.old.held }
@@ -331,7 +334,7 @@ impl LiveSlots {
         self.held.settle(&self.sketch, evictions)
     }
 
-    /// Room for some work. A refusal changes nothing.
+    /// Makes room for some work. A refusal leaves the entries unchanged.
     pub(crate) fn make_room(&mut self, work: &Work) -> Result<(), NoMemory>
         ensures live { live_of self.new ≡ live_of self.old }
         ensures slots { self.new.held.slots ≡ self.old.held.slots }
@@ -344,7 +347,7 @@ impl LiveSlots {
         Ok(())
     }
 
-    /// Takes all entries out, at once or so many seconds from its moment.
+    /// Removes all entries, at once or `delay` seconds after its moment.
     pub(crate) fn flush(&mut self, delay: u32)
         ensures state { live_of self.new ≡ flushed delay (live_of self.old) }
     {
@@ -356,7 +359,7 @@ impl LiveSlots {
         }
     }
 
-    /// Takes out what a key holds, and says whether it held anything.
+    /// Removes what a key holds, and returns whether it held anything.
     pub(crate) fn remove(&mut self, key: &Key) -> bool
         ensures held { result ≡ is_some (held key.now self.old.held.areas) }
         ensures live { live_of self.new ≡ record (live_of self.old)
@@ -365,7 +368,7 @@ impl LiveSlots {
         self.held.remove(key)
     }
 
-    /// The same as lists, of their own. The limits are those that it has.
+    /// Copies it into lists. `limits` are its own. Fails if memory is refused.
     pub(crate) fn copy(&self, alloc: Global, limits: Limits) -> Result<EvictionState, NoMemory>
         requires { limits ≡ self.now.held.limits }
         ensures { IfOk result (λ live. lists_live live ≡ live_of self.now) }
@@ -379,14 +382,15 @@ impl LiveSlots {
         })
     }
 
-    /// Gives memory back that is done with, at most so many pieces.
+    /// Frees at most `most` pieces of unused memory.
     pub(crate) fn let_go(&mut self, most: usize)
         ensures { self.new ≡ self.old }
     {
         self.held.let_go(most);
     }
 
-    /// Has smaller tables in use in the place of large ones.
+    /// Replaces large tables by smaller ones, and forgets the hints. If memory is refused, nothing
+    /// changes.
     pub(crate) fn renew(&mut self)
         requires sound { AreSound self.old.held.limits self.old.held.areas }
         requires sum { total weight self.old.held.areas < 2 ^ 64 }
@@ -398,8 +402,9 @@ impl LiveSlots {
         }
     }
 
-    /// Carries work out, for which there is room: a draft gets the next cas number after `last`, and each
-    /// entry that is dropped for it is counted.
+    /// Carries out some work, for which there is room. A draft gets the cas number after `last`; if
+    /// there is none, nothing changes and the end is `CasWorn`. Each entry dropped for it counts as
+    /// an eviction.
     pub(crate) fn carry_out(&mut self, work: Work, last: &mut u64, counters: &mut Counters) -> End
         requires weight { total weight self.old.held.areas < 2 ^ 63 }
         requires light { IsLightPlan self.old.held.limits (plan_of work) }

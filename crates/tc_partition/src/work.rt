@@ -1,4 +1,4 @@
-//! What a command will do, and where.
+//! What a command will do, and to which slot.
 ghost use Rattle.std.specs.Prelude.{◌≡◌, ℕ, List};
 ghost use Rattle.tc_item.specs.KeyHash.{hash as hash_of};
 ghost use Rattle.tc_plain.specs.Plans.{IsUnder};
@@ -10,14 +10,15 @@ ghost use Rattle.tc_partition.specs.declared.live_slots.LiveSlots.{LiveSlots};
 use tc_item::{Key, Slot};
 use tc_plain::{Draft, End, Plan};
 
-/// What a command will do: end so at once, or use a draft under a key, with the next cas number,
-/// before it ends so.
+/// What a command will do: end at once, or first store a draft under a key with the next cas
+/// number.
 #[derive(Drop)]
 pub enum Work {
     Ends(End),
     Changes {
         end: End,
-        /// Where the key holds something; into a vacant slot where it holds nothing.
+        /// The slot of the entry that the key holds. The draft goes to a vacant slot if there is
+        /// none.
         place: Option<Slot>,
         /// The key's hash.
         hash: u64,
@@ -27,7 +28,7 @@ pub enum Work {
 }
 
 impl Work {
-    /// A plan, whose key has this hash and was found at this place, or holds nothing.
+    /// The work of a plan, whose key has this hash and was found in this slot, or holds nothing.
     pub fn of(hash: u64, place: Option<Slot>, plan: Plan) -> Work
         ensures plan { plan_of result ≡ plan }
         ensures sought { (moment : ℕ) (key : List ℕ) (live : LiveSlots)
@@ -46,7 +47,7 @@ impl Work {
         }
     }
 
-    /// Whether it fills a slot that is vacant.
+    /// Returns whether the work fills a vacant slot.
     pub fn is_new(&self) -> bool
         ensures { result ≡ is_new self.now }
     {

@@ -1,6 +1,6 @@
 -- The areas and what look-ups touch, as the code keeps them. Source: this project's own.
-use Rattle.std.specs.Prelude.{ℕ, ◌+◌, ◌≤◌, ◌∷◌, ◌++◌, [], ◌≡◌, ◌⊎◌, cond, not, map, vec_len, vec_capacity, Bool, true, false}
-use Rattle.std.specs.Prelude.{List, Option, Some, None}
+use Rattle.std.specs.Prelude.{ℕ, ◌+◌, ◌≤◌, ◌∷◌, ◌++◌, [], ◌≡◌, ◌⊎◌, cond, not, vec_len, vec_capacity, Bool, true, false}
+use Rattle.std.specs.Prelude.{Option, Some, None}
 use Rattle.tc_model.specs.Areas.{Areas}
 use Rattle.tc_item.specs.KeyHash.{hash}
 use Rattle.tc_sketch.specs.Sketch.{Sketch, freq}
@@ -13,7 +13,7 @@ use Rattle.tc_plain.specs.declared.reference.areas.Origin.{Origin}
 use Rattle.tc_plain.specs.declared.reference.areas.Origin.TheVariants.{Window, Main}
 use Rattle.tc_plain.specs.declared.reference.eviction_state.EvictionState.{EvictionState as LiveLists}
 use Rattle.tc_plain.specs.Entries.{with_due}
-use Rattle.tc_plain.specs.EvictionState.{EvictionState, at_moment, held}
+use Rattle.tc_plain.specs.EvictionState.{EvictionState}
 
 -- the areas that three lists are
 abbrev pub areas_of : AreaLists → Areas Entry
@@ -64,7 +64,3 @@ frequency_in s e = freq s (hash e.key)
 abbrev pub is_due : Option Due → ℕ → Bool
 is_due None moment = false
 is_due (Some due) moment = not (is_before moment due)
-
--- what keys will hold at a moment, in the order asked
-abbrev pub found_in : ℕ → List (List ℕ) → EvictionState → List (Option Entry)
-found_in moment keys l = map (λ key. held key (at_moment moment l).areas) keys

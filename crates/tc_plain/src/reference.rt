@@ -1,7 +1,7 @@
 //! The reference: one user's cache as the definition has it, three lists with nothing deferred.
 //!
-//! It looks through its entries at each command, so no server runs it. `partcached run --reference` and
-//! the audit of a page do, and tests hold the served cache against it.
+//! It searches its lists at each command, so no server runs it. `partcached run --reference` and
+//! the audit of a page do, and tests compare the served cache with it.
 
 pub(crate) mod areas;
 pub(crate) mod eviction_state;

@@ -1,11 +1,14 @@
-//! What every cache shares of a command: the law that it keeps (`Cache`), the entry under a key, which
-//! work each command is (`Commands`, `act`), what a storage line offers (`offer`), what a command will
-//! do (`Plan`), how it ends (`End`), when a flush takes effect (`is_flush_due`), the hits that it shows,
-//! what is given to answer and to keep (`Acted`),
-//! whether it is kept at all (`Journal`), and how far deferred work came (`Progress`).
+//! What all caches share:
 //!
-//! The cache that a server runs (`tc_partition`) and the reference keep these alike. Nothing here looks
-//! through a list of entries.
+//! - the law that each keeps (`Cache`), and the progress of deferred work (`Progress`);
+//! - the entry under a key, and the hits that it shows;
+//! - the work of each kind of command (`Commands`, `act`);
+//! - what a storage line offers (`offer`), what a command will do (`Plan`) and how it ends (`End`);
+//! - when a flush takes effect (`is_flush_due`);
+//! - the outcome to answer and the one to keep (`Acted`), and whether to keep one (`Journal`).
+//!
+//! The cache that a server runs (`tc_partition`) and the reference both use it. Nothing here
+//! searches a list of entries.
 
 pub(crate) mod acted;
 pub(crate) mod cache;

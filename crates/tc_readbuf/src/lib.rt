@@ -1,8 +1,8 @@
-//! Hits and misses that wait to be replayed, in the order noted.
+//! A ring of look-ups that a cache answered and has yet to apply, in the order noted.
 //!
-//! A `ReadBuf` is seen as the list of its records, each what was noted and its moment, the first
-//! noted first; there are 128 of them at most. The contracts are equations on that list. `new`
-//! alone takes memory. Nothing is said of where the records lie.
+//! Contracts see a `ReadBuf` as the list of its records, oldest first. A record is what a look-up
+//! found, and its moment. There are at most 128. Only `new` takes memory. No clause says where the
+//! records lie.
 #![tactic(auto)]
 
 mod look_up;

@@ -1,12 +1,12 @@
-//! What a look-up found.
+//! The result of a look-up, as the ring keeps it.
 
 use tc_item::Slot;
 
-/// What a look-up found: it is noted, and counted for eviction later.
+/// The result of a look-up, which the cache counts for eviction later.
 #[derive(Clone, Copy, PartialEq, Eq)]
 pub enum LookUp {
-    /// The item at this place, whose key has this hash (`tc_item::hash`).
+    /// The item in this slot, whose key has this hash (`tc_item::hash`).
     Hit(Slot, u64),
-    /// Nothing, under a key of this hash.
+    /// No item, under a key of this hash.
     Miss(u64),
 }

@@ -1,4 +1,4 @@
-//! The ring of records that wait.
+//! The ring of records.
 ghost use Rattle.std.specs.Prelude.{◌≡◌, ◌↔◌, ◌≤◌, ◌∷◌, ◌++◌, [], length, IfOk, IsErr, OnErr, OnOk, IsTrue, MatchOption};
 ghost use Rattle.std.specs.Prelude.{slice_get};
 ghost use Rattle.tc_readbuf.specs.Places.{places};
@@ -11,10 +11,10 @@ use std::fmt;
 use std::marker::Model;
 use tc_item::{Moment, NoMemory};
 
-/// How many records may wait.
+/// The most records that may wait.
 pub const PLACES: usize = 128;
 
-/// As many records wait as there are places. Nothing was changed.
+/// The ring has `PLACES` records already. Nothing changed.
 #[derive(Clone, Copy, Debug, PartialEq, Eq)]
 pub struct Full;
 
@@ -26,7 +26,7 @@ impl fmt::Display for Full {
 
 impl Error for Full {}
 
-/// Up to 128 records that wait, each what was noted and its moment, in the order noted.
+/// Up to 128 records, oldest first. A record is what a look-up found, and its moment.
 #[derive(Drop)]
 pub struct ReadBuf {
     ring: HeapCircularBuffer<(LookUp, Moment)>,
@@ -48,7 +48,7 @@ impl Model for ReadBuf {
 }
 
 impl ReadBuf {
-    /// No record, and room for 128. It alone takes memory.
+    /// Returns an empty ring with room for 128 records. Nothing else takes memory.
     pub fn new(alloc: Global) -> Result<ReadBuf, NoMemory>
         ensures { IfOk result (λ b. b ≡ []) }
     {
@@ -56,8 +56,9 @@ impl ReadBuf {
         Ok(ReadBuf { ring })
     }
 
-    /// Notes what a look-up found at a moment, behind the records that wait. `Full` where 128 wait,
-    /// and nothing changes.
+    /// Appends what a look-up found at `moment`. Fails, and changes nothing, only if 128 records
+    /// wait.
+    #[inline(always)]
     pub fn note(&mut self, noted: LookUp, moment: Moment) -> Result<(), Full>
         ensures noted { OnOk result (self.new ≡ self.old ++ (noted, moment) ∷ []) }
         ensures full { IsErr result ↔ (length self.old ≡ places) }
@@ -69,7 +70,7 @@ impl ReadBuf {
         }
     }
 
-    /// Takes the record that was noted first, if one waits.
+    /// Removes and returns the oldest record, if there is one.
     pub fn take(&mut self) -> Option<(LookUp, Moment)>
         ensures { MatchOption result ((self.old ≡ []) × (self.new ≡ []))
             (λ first. self.old ≡ first ∷ self.new) }
@@ -77,21 +78,22 @@ impl ReadBuf {
         self.ring.pop_front()
     }
 
-    /// The record at a place in the order noted, the first at 0; none where fewer wait.
+    /// Returns the record at an index, the oldest at 0; `None` if there are not so many.
     pub fn get(&self, place: usize) -> Option<(LookUp, Moment)>
         ensures { result ≡ slice_get self.now place }
     {
         self.ring.get(place).copied()
     }
 
-    /// Whether as many records wait as there are places.
+    /// Whether 128 records wait.
     pub fn is_full(&self) -> bool
         ensures { IsTrue result ↔ (length self.now ≡ places) }
     {
         self.ring.is_full()
     }
 
-    /// How many records wait.
+    /// Returns the number of records, at most 128.
+    #[inline(always)]
     pub fn len(&self) -> usize
         ensures count { result ≡ length self.now }
         ensures at_most { result ≤ places }

@@ -1,11 +1,11 @@
-//! Vectors that have room for what they hold, and for no more.
+//! Vectors without spare room.
 ghost use Rattle.std.specs.Prelude.{◌≡◌, ◌≤◌, length, OnOk, OnErr};
 ghost use Rattle.tc_ring.specs.Lengthening.{lengthened};
 
 use tc_item::NoMemory;
 
-/// Adds values up to so many, with room for no more: a vector's own `resize` makes room for twice as many.
-/// A refusal changes nothing.
+/// Appends copies of `blank` until there are `count` values, without spare room: a vector's own
+/// `resize` would reserve twice as much. A refusal changes nothing.
 pub fn lengthen<T: Copy>(values: &mut Vec<T>, count: usize, blank: T) -> Result<(), NoMemory>
     requires { length values.old.items ≤ count }
     ensures items { OnOk result (values.new.items ≡ lengthened count blank values.old.items) }

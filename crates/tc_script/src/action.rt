@@ -1,10 +1,10 @@
-//! What a script asks for, step by step.
+//! The steps of a script.
 ghost use Rattle.std.specs.Prelude.{◌≡◌};
 
 use std::marker::Model;
 use tc_item::Moment;
 
-/// Bytes that come on a connection.
+/// Bytes that arrive on a connection.
 #[derive(Debug, Drop)]
 pub struct Bytes {
     bytes: Vec<u8>,
@@ -19,14 +19,14 @@ impl Model for Bytes {
 }
 
 impl Bytes {
-    /// These bytes, which are not copied.
+    /// Takes over the bytes without copying them.
     pub fn new(bytes: Vec<u8>) -> Bytes
         ensures { result ≡ bytes.items }
     {
         Bytes { bytes }
     }
 
-    /// The bytes.
+    /// Returns the bytes.
     pub fn as_bytes(&self) -> &[u8]
         ensures { result.now ≡ self.now }
     {
@@ -34,21 +34,21 @@ impl Bytes {
     }
 }
 
-/// What a line of a script asks for. Connections are numbered by the script, users from 1.
+/// The action of a script's line. The script numbers connections; users count from 1.
 #[derive(Debug, Drop)]
 pub enum Action {
-    /// A connection is opened.
+    /// A connection opens.
     Open(u32),
-    /// Bytes come on a connection.
+    /// Bytes arrive on a connection.
     Piece(u32, Bytes),
-    /// One byte comes so many times over on a connection: connection, how often, byte.
+    /// One byte arrives many times over: connection, how often, byte.
     Fill(u32, u32, u8),
-    /// A connection's next request is done, so many times.
+    /// A connection does its next requests: connection, how many.
     Act(u32, u32),
-    /// A connection is shut.
+    /// A connection closes.
     Shut(u32),
-    /// The clock comes to this moment.
+    /// The clock advances to this moment.
     Tick(Moment),
-    /// A user's cache does deferred work, at most so many pieces of it.
+    /// A user's cache does deferred work: user, and the most pieces of it.
     Keep(u32, u32),
 }

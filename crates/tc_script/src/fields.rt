@@ -1,4 +1,4 @@
-//! The fields and numbers of a line.
+//! Reads the fields and numbers of a line.
 ghost use Rattle.std.specs.Prelude.{◌≡◌, ◌<◌, ◌≤◌, ◌+◌, None, Some, MatchOption, IfSome, length, position, ◌==◌};
 ghost use Rattle.tc_script.specs.Texts.{cut, first_field as first_field_of, short_number as short_number_of};
 ghost use Rattle.tc_script.specs.Texts.{word_number as word_number_of, count_of, hex_digit, hex_pair, hex_byte};
@@ -8,7 +8,7 @@ use tc_grammar::read_number;
 /// The most digits of a number.
 const LONGEST_NUMBER: usize = 13;
 
-/// Where the first such byte stands.
+/// Returns the index of the first byte that equals `mark`.
 fn place_of(text: &[u8], mark: u8) -> Option<usize>
     ensures place { result ≡ position (λ b. b == mark) text.now }
     ensures within { IfSome result (λ place. place < length text.now) }
@@ -16,7 +16,7 @@ fn place_of(text: &[u8], mark: u8) -> Option<usize>
     text.iter().position(|byte| *byte == mark)
 }
 
-/// What stands before the first such byte, and behind it.
+/// Splits a text at the first byte that equals `mark`, which is in neither part.
 pub fn cut(text: &[u8], mark: u8) -> Option<(&[u8], &[u8])>
     ensures sides { MatchOption result (cut mark text.now ≡ None)
         (λ sides. cut mark text.now ≡ Some (sides.0.now, sides.1.now)) }
@@ -26,7 +26,7 @@ pub fn cut(text: &[u8], mark: u8) -> Option<(&[u8], &[u8])>
     Some((&text[..place], &text[place + 1..]))
 }
 
-/// The field before the first space, and what stands behind it.
+/// Splits a text at its first space: the field before it, and the rest.
 pub fn first_field(text: &[u8]) -> Option<(&[u8], &[u8])>
     ensures { MatchOption result (first_field_of text.now ≡ None)
         (λ sides. first_field_of text.now ≡ Some (sides.0.now, sides.1.now)) }
@@ -34,7 +34,7 @@ pub fn first_field(text: &[u8]) -> Option<(&[u8], &[u8])>
     cut(text, b' ')
 }
 
-/// The number of 1 to 13 digits that a field is, where it is at most `greatest`.
+/// Returns the number that a field spells in 1 to 13 digits, if it is at most `greatest`.
 pub fn short_number(field: &[u8], greatest: u64) -> Option<u64>
     ensures value { result ≡ short_number_of greatest field.now }
     ensures within { IfSome result (λ n. n ≤ greatest) }
@@ -45,7 +45,7 @@ pub fn short_number(field: &[u8], greatest: u64) -> Option<u64>
     read_number(field, greatest)
 }
 
-/// The number of 32 bits that a field is.
+/// Returns the number below 2^32 that a field spells.
 pub fn word_number(field: &[u8]) -> Option<u32>
     ensures { result ≡ word_number_of field.now }
 {
@@ -53,7 +53,7 @@ pub fn word_number(field: &[u8]) -> Option<u32>
     Some(number as u32)
 }
 
-/// How often something is done: a number from 1 to `greatest`.
+/// Returns the number from 1 to `greatest` that a field spells.
 pub fn count(field: &[u8], greatest: u32) -> Option<u32>
     ensures value { result ≡ count_of greatest field.now }
 {
@@ -64,7 +64,7 @@ pub fn count(field: &[u8], greatest: u32) -> Option<u32>
     Some(number as u32)
 }
 
-/// A hexadecimal digit of either case.
+/// Returns the value of a hexadecimal digit of either case.
 fn hex_digit(byte: u8) -> Option<u8>
     ensures value { result ≡ hex_digit byte }
     ensures within { IfSome result (λ n. n < 16) }
@@ -77,7 +77,7 @@ fn hex_digit(byte: u8) -> Option<u8>
     }
 }
 
-/// The byte of two hexadecimal digits.
+/// Returns the byte that two hexadecimal digits spell.
 pub fn hex_pair(high: u8, low: u8) -> Option<u8>
     ensures { result ≡ hex_pair high low }
 {
@@ -86,7 +86,7 @@ pub fn hex_pair(high: u8, low: u8) -> Option<u8>
     Some(16 * high + low)
 }
 
-/// A field that is two hexadecimal digits.
+/// Returns the byte of a field of exactly two hexadecimal digits.
 pub fn hex_byte(field: &[u8]) -> Option<u8>
     ensures { result ≡ hex_byte field.now }
 {

@@ -1,12 +1,15 @@
-//! A script of steps, run on one server from the beginning, and what its connections were sent.
+//! Scripts of steps: each runs on a server of its own, from the beginning, and prints what
+//! connections were sent.
 //!
-//! `Script::read` answers what a text says, line by line (`specs/Plans.antt` over
-//! `specs/ScriptLines.antt`): its plan, or the number of its first refused line. `play` does a plan
-//! on the server's machine (`specs/Playing.antt`), and of what connections were sent promises all that
-//! `tc_core::run` promises; `print` is the text of it (`specs/Printing.antt`). The contract of
-//! `run_script` (`specs/Answering.antt`) says that what is written is the text of such outputs of the
-//! script that was read, wherever the reader and the writer say what they hold, and a front of it where
-//! a write failed. No clause says that memory suffices, nor when a read or a write fails.
+//! `Script::read` returns the plan that a text has line by line, or the number of its first refused
+//! line (`specs/Plans.antt` over `specs/ScriptLines.antt`). `play` does a plan on the server's
+//! machine (`specs/Playing.antt`), and promises about what connections were sent all that
+//! `tc_core::run` promises. `print` makes text of it (`specs/Printing.antt`).
+//!
+//! The contract of `run_script` is in `specs/Answering.antt`. It applies if the reader and the
+//! writer say what they hold. Then the output is the text of such a run of the script that was
+//! read, or a front part of it after a failed write. No clause says that memory suffices, or when a
+//! read or a write fails.
 #![tactic(auto)]
 
 mod action;

@@ -1,4 +1,4 @@
-//! What one line of a script says.
+//! Reads one line of a script.
 ghost use Rattle.std.specs.Prelude.{◌≡◌, IfOk};
 ghost use Rattle.tc_script.specs.ScriptLines.{user_line, second_line, largest_line, step_line, line_by, line_of, is_blank};
 
@@ -9,16 +9,16 @@ use std::alloc::Global;
 use tc_item::{LARGEST_ITEM, NoMemory};
 use tc_users::{Text, UserSpec};
 
-/// What a line says.
+/// The meaning of a line.
 #[derive(Drop)]
 pub enum Line {
-    /// Nothing: it is empty or a comment.
+    /// The line is empty or a comment.
     Blank,
     /// A user's row.
     User(UserSpec),
     /// A user's second token.
     Second(u32, Text),
-    /// A user's largest item, in bytes of data.
+    /// The most data of a user's items: user, bytes.
     Largest(u32, u64),
     /// A step.
     Step(Action),
@@ -33,7 +33,7 @@ fn is_blank(line: &[u8]) -> bool
     }
 }
 
-/// `user <name> <token> <budget>`, from behind its word.
+/// Reads what follows the word of `user <name> <token> <budget>`.
 fn read_user(alloc: Global, rest: &[u8]) -> Result<Option<Line>, NoMemory>
     ensures { IfOk result (λ line. line ≡ user_line rest.now) }
 {
@@ -55,7 +55,7 @@ fn read_user(alloc: Global, rest: &[u8]) -> Result<Option<Line>, NoMemory>
     })))
 }
 
-/// `second <u> <token>`, from behind its word.
+/// Reads what follows the word of `second <u> <token>`.
 fn read_second(alloc: Global, rest: &[u8]) -> Result<Option<Line>, NoMemory>
     ensures { IfOk result (λ line. line ≡ second_line rest.now) }
 {
@@ -68,7 +68,7 @@ fn read_second(alloc: Global, rest: &[u8]) -> Result<Option<Line>, NoMemory>
     Ok(Some(Line::Second(user, Text::copy(alloc, token)?)))
 }
 
-/// `largest <u> <n>`, from behind its word.
+/// Reads what follows the word of `largest <u> <n>`.
 fn read_largest(rest: &[u8]) -> Option<Line>
     ensures { result ≡ largest_line rest.now }
 {
@@ -76,14 +76,14 @@ fn read_largest(rest: &[u8]) -> Option<Line>
     Some(Line::Largest(word_number(user)?, short_number(most, u64::MAX)?))
 }
 
-/// A step's line, by its word.
+/// Reads a step's line, by its word.
 fn read_step(alloc: Global, word: &[u8], rest: &[u8]) -> Result<Option<Line>, NoMemory>
     ensures { IfOk result (λ line. line ≡ step_line word.now rest.now) }
 {
     Ok(read_action(alloc, word, rest)?.map(Line::Step))
 }
 
-/// A line, by its word.
+/// Reads a line, by its word.
 fn read_by_word(alloc: Global, word: &[u8], rest: &[u8]) -> Result<Option<Line>, NoMemory>
     ensures { IfOk result (λ line. line ≡ line_by word.now rest.now) }
 {
@@ -99,7 +99,7 @@ fn read_by_word(alloc: Global, word: &[u8], rest: &[u8]) -> Result<Option<Line>,
     read_step(alloc, word, rest)
 }
 
-/// What a line says; `None` where it is refused.
+/// Reads a line; `None` if it is refused.
 pub fn read_line(alloc: Global, line: &[u8]) -> Result<Option<Line>, NoMemory>
     ensures { IfOk result (λ found. found ≡ line_of line.now) }
 {

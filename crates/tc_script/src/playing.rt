@@ -1,4 +1,4 @@
-//! What a script asks for, done.
+//! Does the actions of a script.
 ghost use Rattle.std.specs.Prelude.{◌≡◌, ℕ, ◌∷◌, [], IfOk, OnOk, replicate};
 ghost use Rattle.std.specs.List.{flat_map};
 ghost use Rattle.tc_model.specs.Connection.{Act as ActHappening};
@@ -16,7 +16,7 @@ use tc_item::NoMemory;
 use tc_kinds::{Kind, begin_all};
 use tc_plain::{Cache, advancing, freshness};
 
-/// A byte so many times over.
+/// Returns a byte repeated `count` times.
 fn filled(alloc: Global, count: u32, byte: u8) -> Result<Vec<u8>, NoMemory>
     ensures { IfOk result (λ bytes. bytes.items ≡ replicate count byte) }
 {
@@ -25,7 +25,7 @@ fn filled(alloc: Global, count: u32, byte: u8) -> Result<Vec<u8>, NoMemory>
     Ok(bytes)
 }
 
-/// A connection's next requests, so many.
+/// Does the next `count` requests of a connection.
 fn act_often<C: Cache>(
     server: &mut Server<C>,
     alloc: Global,
@@ -42,7 +42,7 @@ fn act_often<C: Cache>(
     Ok(())
 }
 
-/// One action.
+/// Does one action.
 fn perform<C: Cache>(server: &mut Server<C>, alloc: Global, action: &Action) -> Result<(), NoMemory>
     ensures users { server.new.users ≡ server.old.users }
     ensures world { OnOk result (server.new.world
@@ -67,7 +67,7 @@ fn perform<C: Cache>(server: &mut Server<C>, alloc: Global, action: &Action) -> 
     }
 }
 
-/// All of a script's actions, in order.
+/// Does all actions, in order.
 fn perform_all<C: Cache>(
     server: &mut Server<C>,
     alloc: Global,
@@ -83,7 +83,7 @@ fn perform_all<C: Cache>(
     Ok(())
 }
 
-/// What connections are sent on all of a script's steps, from the beginning.
+/// Does all of a script's steps, from the beginning, and returns what connections were sent.
 fn play_all<C: Kind>(
     alloc: Global,
     hasher: RandomState,
@@ -98,11 +98,12 @@ fn play_all<C: Kind>(
     server.outputs(alloc)
 }
 
-/// Does what a script asks for, from the beginning, each user with an empty cache of the kind, and
-/// gives what each connection was sent. It stops at the first refusal of memory.
+/// Does a script from the beginning, each user with an empty cache of the kind, and returns what
+/// each connection was sent. It stops, and fails, at the first refusal of memory.
 ///
-/// Of that all is promised that `tc_core::run` promises of steps: it is what the server's machine sends
-/// (`sent`), each user's connections are sent what that user's machine alone sends (`isolated`), and so on.
+/// `promised` is all that `tc_core::run` promises about steps. The output is what the server's
+/// machine sends (`sent`), each user's connections are sent what that user's machine alone sends
+/// (`isolated`), and so on.
 pub fn play<C: Kind>(
     alloc: Global,
     hasher: RandomState,

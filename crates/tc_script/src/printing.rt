@@ -1,4 +1,4 @@
-//! What connections were sent, as text.
+//! Prints what connections were sent.
 ghost use Rattle.std.specs.Prelude.{◌≡◌, ◌++◌, ◌∷◌, [], ◌<◌, ◌≤◌, IfOk, OnOk, ℕ};
 ghost use Rattle.tc_script.specs.Printing.{lower_hex, escape_of, escaped, phase_text, output_line, printed};
 
@@ -6,7 +6,7 @@ use std::alloc::Global;
 use tc_core::{Output, Outputs};
 use tc_item::NoMemory;
 
-/// A hexadecimal digit in lower case.
+/// Returns a hexadecimal digit in lower case.
 fn lower_hex(number: u8) -> u8
     requires { number < 16 }
     ensures { result ≡ lower_hex number }
@@ -18,7 +18,7 @@ fn lower_hex(number: u8) -> u8
     }
 }
 
-/// Appends a byte as it is printed.
+/// Appends a byte in its printed form: as it is if it is printable, otherwise as an escape.
 fn write_byte(text: &mut Vec<u8>, byte: u8) -> Result<(), NoMemory>
     ensures { OnOk result (text.new.items ≡ text.old.items ++ escape_of byte) }
 {
@@ -35,7 +35,7 @@ fn write_byte(text: &mut Vec<u8>, byte: u8) -> Result<(), NoMemory>
     Ok(())
 }
 
-/// Appends bytes as they are printed.
+/// Appends bytes in their printed form.
 pub fn write_bytes(text: &mut Vec<u8>, bytes: &[u8]) -> Result<(), NoMemory>
     ensures { OnOk result (text.new.items ≡ text.old.items ++ escaped bytes.now) }
 {
@@ -45,7 +45,7 @@ pub fn write_bytes(text: &mut Vec<u8>, bytes: &[u8]) -> Result<(), NoMemory>
     Ok(())
 }
 
-/// What a connection is at the end.
+/// Returns the words for whether a connection is closed at the end.
 fn phase_text(closed: bool) -> &'static [u8]
     ensures { result.now ≡ phase_text closed }
 {
@@ -64,7 +64,7 @@ fn write_line(text: &mut Vec<u8>, output: &Output) -> Result<(), NoMemory>
     Ok(())
 }
 
-/// A line for each connection, by rising number.
+/// Returns a line for each connection, by rising number.
 pub fn print(alloc: Global, outputs: &Outputs) -> Result<Vec<u8>, NoMemory>
     ensures { IfOk result (λ text. text.items ≡ printed outputs.now) }
 {

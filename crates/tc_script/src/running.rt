@@ -1,4 +1,4 @@
-//! A script from a reader, run, and printed to a writer.
+//! Runs a script from a reader, and prints to a writer.
 ghost use Rattle.std.specs.Prelude.{◌≡◌, IfSome, IfOk, IfErr, OnOk, OnErr};
 ghost use Rattle.std.specs.Io.KnownBytes.{Appends};
 ghost use Rattle.tc_script.specs.Plans.{reading_of};
@@ -13,20 +13,21 @@ use std::hash::RandomState;
 use std::io::{self, ErrorKind, Read, Write};
 use tc_kinds::Kind;
 
-/// How the run of a script ends.
+/// How the run of a script ended.
 #[derive(Clone, Copy, Debug, PartialEq, Eq)]
 pub enum Ended {
-    /// It was run, and its output written.
+    /// The script ran, and all of its output is written.
     Done,
-    /// This line, counted from 1, is the first that is refused. Nothing was run or written.
+    /// This line, counted from 1, is the first refused one. Nothing ran or was written.
     BadLine(u64),
     /// Memory was refused. Nothing was written.
     NoMemory,
-    /// Reading failed, and nothing was written; or writing failed, and a front of the output is written.
+    /// Reading failed, and nothing was written; or writing failed, and only a front part of the
+    /// output is written.
     Stream,
 }
 
-/// How the run of a text that is no script ends.
+/// Returns how the run of a text that is no script ends.
 fn ended_by(fault: ScriptFault) -> Ended
     ensures { result ≡ ended_of fault }
 {
@@ -36,7 +37,7 @@ fn ended_by(fault: ScriptFault) -> Ended
     }
 }
 
-/// All bytes that a reader has left.
+/// Reads all bytes that a reader has left.
 fn read_all<R: Read>(alloc: Global, input: &mut R) -> Result<Vec<u8>, Ended>
     ensures text { IfOk result (λ text. IfSome (R.remaining input.old)
         (λ bytes. text.items ≡ bytes)) }
@@ -50,7 +51,7 @@ fn read_all<R: Read>(alloc: Global, input: &mut R) -> Result<Vec<u8>, Ended>
     }
 }
 
-/// What the run of a script prints.
+/// Runs a script, and returns what it prints.
 fn run_text<C: Kind>(
     alloc: Global,
     hasher: RandomState,
@@ -64,7 +65,7 @@ fn run_text<C: Kind>(
     Ok(print(alloc, &outputs)?)
 }
 
-/// Writes all bytes, down to where the writer writes to. Where that fails a front of them is written.
+/// Writes and flushes all bytes. If that fails, a front part of them is written.
 fn write_out<W: Write>(out: &mut W, text: &[u8]) -> io::Result<()>
     ensures written { OnOk result (Appends (W.contents out.old) (W.contents out.new) text.now) }
     ensures begun { OnErr result (IsBegun text.now (W.contents out.old) (W.contents out.new)) }
@@ -84,9 +85,9 @@ fn write_out<W: Write>(out: &mut W, text: &[u8]) -> io::Result<()>
     Err(ErrorKind::Interrupted.into())
 }
 
-/// Reads a script, runs it on a server of its own from the beginning, each user with a cache of the
-/// kind, and writes a line for each opened connection, by rising number:
-/// `conn <c> <open|closed> =<all bytes sent, escaped>`. What is written is the same for each kind and
+/// Reads a script, and runs it from the beginning on a server of its own, each user with a cache of
+/// the kind. It writes a line for each opened connection, by rising number:
+/// `conn <c> <open|closed> =<all bytes sent, escaped>`. The output is the same for each kind and
 /// each hasher.
 pub fn run_script<C: Kind, R: Read, W: Write>(
     alloc: Global,

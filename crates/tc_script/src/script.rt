@@ -1,4 +1,4 @@
-//! A whole script, read line by line.
+//! Reads a whole script, line by line.
 ghost use Rattle.std.specs.Prelude.{◌≡◌, ◌≤◌, ◌+◌, ◌++◌, ◌∷◌, [], ℕ, Bool, Some, None, IfOk, IfErr, OnOk, OnErr, length, ◌==◌};
 ghost use Rattle.std.specs.List.{list_any};
 ghost use Rattle.tc_script.specs.Plans.{no_plan, with_user_line, with_second_line, with_largest_line, with_line, with_text};
@@ -14,7 +14,7 @@ use std::marker::Model;
 use tc_item::NoMemory;
 use tc_users::{SettingsFault, Text, UserNo, UserSpec, Users};
 
-/// What a script asks for: its users and what is done, in order.
+/// A script: its users, the users whose largest item a line has set, and its actions in order.
 #[derive(Drop)]
 pub struct Script {
     users: Users,
@@ -51,7 +51,7 @@ impl From<NoMemory> for ScriptFault {
     }
 }
 
-/// Whether a line has set this user's largest item.
+/// Whether a line has set the most data of this user's items.
 fn is_sized(sized: &[u32], user: u32) -> bool
     ensures { result ≡ list_any (λ u. u == user) sized.now }
 {
@@ -59,7 +59,7 @@ fn is_sized(sized: &[u32], user: u32) -> bool
 }
 
 impl Script {
-    /// A script with no line.
+    /// Returns a script of no lines.
     fn new(alloc: Global) -> Script
         ensures { result ≡ no_plan }
     {
@@ -70,7 +70,7 @@ impl Script {
         }
     }
 
-    /// The users, in the order of their lines, and what is done, in order.
+    /// Returns the users, in the order of their lines, and the actions, in order.
     pub fn into_parts(self) -> (Users, Vec<Action>)
         ensures users { result.0 ≡ self.users }
         ensures actions { result.1.items ≡ self.actions }
@@ -78,7 +78,7 @@ impl Script {
         (self.users, self.actions)
     }
 
-    /// Takes a user's line, and says whether it is good.
+    /// Takes a user's line, and returns whether it is good.
     fn take_user(&mut self, row: UserSpec) -> Result<bool, NoMemory>
         ensures { IfOk result (λ good. with_user_line self.old row ≡ taken_as good self.new) }
     {
@@ -89,7 +89,8 @@ impl Script {
         }
     }
 
-    /// Takes a second token's line, and says whether it is good.
+    /// Takes the line of a second token, and returns whether it is good. A user may have one such
+    /// line.
     fn take_second(&mut self, user: u32, token: Text) -> bool
         ensures { with_second_line self.old user token ≡ taken_as result self.new }
     {
@@ -105,7 +106,8 @@ impl Script {
         self.users.set_second(user, token).is_ok()
     }
 
-    /// Takes a largest item's line, and says whether it is good.
+    /// Takes the line of a largest item, and returns whether it is good. A user may have one such
+    /// line.
     fn take_largest(&mut self, user: u32, most: u64) -> Result<bool, NoMemory>
         ensures { IfOk result (λ good. with_largest_line self.old user most
             ≡ taken_as good self.new) }
@@ -127,7 +129,7 @@ impl Script {
         Ok(true)
     }
 
-    /// Takes what a line says, and says whether it may stand here.
+    /// Takes a line, and returns whether it may come here. Lines about users come before all steps.
     fn take(&mut self, line: Line) -> Result<bool, NoMemory>
         ensures { IfOk result (λ good. with_line self.old line ≡ taken_as good self.new) }
     {
@@ -145,7 +147,7 @@ impl Script {
         }
     }
 
-    /// Takes a line of text, and says whether it is good.
+    /// Reads and takes a line, and returns whether it is good.
     fn take_text(&mut self, alloc: Global, line: &[u8]) -> Result<bool, NoMemory>
         ensures { IfOk result (λ good. with_text self.old line.now ≡ taken_as good self.new) }
     {
@@ -155,8 +157,7 @@ impl Script {
         }
     }
 
-    /// The script that a text is. The fault of a text that is none is its first refused line, or
-    /// want of memory.
+    /// Reads a script. The fault is the first refused line, or `NoMemory`.
     pub fn read(alloc: Global, text: &[u8]) -> Result<Script, ScriptFault>
         ensures script { IfOk result (λ script. reading_of text.now ≡ Good script) }
         ensures fault { IfErr result (IsFaultOf (reading_of text.now)) }

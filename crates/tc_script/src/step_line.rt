@@ -1,4 +1,4 @@
-//! The lines of a script's steps.
+//! Reads the lines of a script's steps.
 ghost use Rattle.std.specs.Prelude.{◌≡◌, IfOk};
 ghost use Rattle.tc_script.specs.ScriptLines.{open_line, piece_line, fill_line, act_line, shut_line, tick_line, keep_line};
 ghost use Rattle.tc_script.specs.ScriptLines.{action_by};
@@ -12,10 +12,10 @@ use tc_item::{MOMENT_LIMIT, Moment, NoMemory};
 /// The most bytes of a `fill`.
 const LONGEST_FILL: u32 = 2_097_152;
 
-/// The most acts of one line.
+/// The most acts of a line.
 const MOST_ACTS: u32 = 1_000_000;
 
-/// `open <c>`, from behind its word; so of each line below.
+/// Reads what follows the word of `open <c>`. The readers below do so for their lines.
 fn read_open(rest: &[u8]) -> Option<Action>
     ensures { result ≡ open_line rest.now }
 {
@@ -85,7 +85,7 @@ fn read_keep(rest: &[u8]) -> Option<Action>
     Some(Action::Keep(word_number(user)?, word_number(limit)?))
 }
 
-/// What a step's line says, by its word; `None` where it is refused.
+/// Reads a step's line, by its word; `None` if it is refused.
 pub fn read_action(alloc: Global, word: &[u8], rest: &[u8]) -> Result<Option<Action>, NoMemory>
     ensures { IfOk result (λ action. action ≡ action_by word.now rest.now) }
 {

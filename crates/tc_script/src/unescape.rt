@@ -1,4 +1,4 @@
-//! Texts and the bytes that they stand for.
+//! Reads escaped texts.
 ghost use Rattle.std.specs.Prelude.{◌≡◌, ◌<◌, ◌++◌, IfOk, IfSome, None, Some, MatchOption, length, option_map};
 ghost use Rattle.tc_script.specs.Texts.{unescaped, some_bytes as some_bytes_of, short_escape, front_of};
 
@@ -7,7 +7,7 @@ use crate::fields::hex_pair;
 use std::alloc::Global;
 use tc_item::NoMemory;
 
-/// The byte that an escape of one letter stands for.
+/// Returns the byte that an escape of one letter stands for.
 fn short_escape(letter: u8) -> Option<u8>
     ensures { result ≡ short_escape letter }
 {
@@ -19,7 +19,7 @@ fn short_escape(letter: u8) -> Option<u8>
     }
 }
 
-/// The byte at the front of a text that is not empty, and the text behind it.
+/// Returns the byte at the front of a text, and the rest; `None` for a bad escape or an empty text.
 fn front(text: &[u8]) -> Option<(u8, &[u8])>
     ensures front { MatchOption result (front_of text.now ≡ None)
         (λ f. front_of text.now ≡ Some (f.0, f.1.now)) }
@@ -34,7 +34,7 @@ fn front(text: &[u8]) -> Option<(u8, &[u8])>
     }
 }
 
-/// The bytes that a text stands for; `None` where an escape in it is none.
+/// Returns the bytes that a text stands for; `None` if an escape in it is bad.
 fn unescape(alloc: Global, text: &[u8]) -> Result<Option<Bytes>, NoMemory>
     ensures { IfOk result (λ bytes. bytes ≡ unescaped text.now) }
 {
@@ -50,7 +50,7 @@ fn unescape(alloc: Global, text: &[u8]) -> Result<Option<Bytes>, NoMemory>
     Ok(Some(Bytes::new(bytes)))
 }
 
-/// The bytes that a text stands for, at least one.
+/// Returns the bytes that a text stands for; `None` if it is empty or an escape in it is bad.
 pub fn some_bytes(alloc: Global, text: &[u8]) -> Result<Option<Bytes>, NoMemory>
     ensures { IfOk result (λ bytes. bytes ≡ some_bytes_of text.now) }
 {

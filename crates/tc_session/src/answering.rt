@@ -1,5 +1,5 @@
-//! Which outcomes a command can come to, and how its reply is written: the texts of replies, but VALUE lines and
-//! rows of counters, which are `values.rt`. It writes to an `Output`, and knows no connection.
+//! Which outcomes a command can have, and the text of its reply. `values.rt` has VALUE lines and
+//! rows of counters. These functions write to an `Output`, and know no connection.
 ghost use Rattle.std.specs.Prelude.{◌≡◌, ◌≤◌, ◌+◌, ◌++◌, true, false, codes, IsOk, OnOk, OnErr};
 ghost use Rattle.tc_session.specs.SessionView.{reply_room};
 ghost use Rattle.tc_session.specs.Texts.{fault_line, line_end};
@@ -11,7 +11,7 @@ use tc_grammar::{Command, Fault, Form, StoreKind};
 use tc_item::NoMemory;
 use tc_stats::{Outcome, VERSION};
 
-/// Whether the outcome is a storage name's refusal for what its key holds.
+/// Whether a storage command of this kind refuses with this outcome because of what its key holds.
 fn is_refusal(kind: StoreKind, outcome: &Outcome) -> bool
     ensures { result ≡ is_refusal kind outcome.now }
 {
@@ -24,7 +24,7 @@ fn is_refusal(kind: StoreKind, outcome: &Outcome) -> bool
     }
 }
 
-/// Whether any storage name may come to the outcome.
+/// Whether a storage command of any kind can have this outcome.
 fn is_store_end(outcome: &Outcome) -> bool
     ensures { result ≡ is_store_end outcome.now }
 {
@@ -34,8 +34,8 @@ fn is_store_end(outcome: &Outcome) -> bool
     )
 }
 
-/// Whether the command has outcomes of this kind. A cache gives no other; one who makes outcomes by hand
-/// may ask.
+/// Whether the command can have this outcome. A cache returns no other; a caller that makes
+/// outcomes by hand may check.
 pub fn can_end(command: &Command, outcome: &Outcome) -> bool
     ensures { result ≡ can_end command.now outcome.now }
 {
@@ -66,7 +66,7 @@ pub(crate) fn form_of(command: &Command) -> Form
     }
 }
 
-/// Says a fault's line.
+/// Appends a fault's line.
 pub(crate) fn write_fault(out: &mut Output, fault: Fault)
     requires { reply_room ≤ out.old.room }
     ensures bytes { out.new.bytes ≡ out.old.bytes ++ fault_line fault }
@@ -76,7 +76,7 @@ pub(crate) fn write_fault(out: &mut Output, fault: Fault)
     out.write(b"\r\n");
 }
 
-/// Writes the server's version.
+/// Appends the line with the server's version.
 pub(crate) fn write_version(out: &mut Output)
     requires { reply_room ≤ out.old.room }
     ensures { out.new.bytes
@@ -87,7 +87,7 @@ pub(crate) fn write_version(out: &mut Output)
     out.write(b"\r\n");
 }
 
-/// Writes the reply to an outcome. A refusal changes nothing.
+/// Appends the reply to an outcome. If memory is refused, nothing changes.
 fn write_outcome(out: &mut Output, form: Form, outcome: &Outcome) -> Result<(), NoMemory>
     requires { reply_room ≤ out.old.room }
     ensures bytes { OnOk result (out.new.bytes ≡ out.old.bytes ++ reply_of form outcome.now) }
@@ -117,7 +117,8 @@ fn write_outcome(out: &mut Output, form: Form, outcome: &Outcome) -> Result<(), 
     Ok(())
 }
 
-/// Writes the reply to a command, unless its line has `noreply`. A refusal changes nothing.
+/// Appends the reply to a command, unless its line has `noreply`. If memory is refused, nothing
+/// changes.
 pub(crate) fn write_reply(
     out: &mut Output,
     command: &Command,

@@ -1,4 +1,4 @@
-//! Data that is shared from the cache, between a connection's own bytes.
+//! Data shared with the cache, between a connection's own bytes.
 ghost use Rattle.std.specs.Prelude.{◌≡◌, ◌≤◌, ◌<◌, ◌+◌, ◌^◌, ◌++◌, ◌∷◌, [], drop, length};
 ghost use Rattle.std.specs.Prelude.{IfOk, OnOk, OnErr, IfSome, MatchOption};
 ghost use Rattle.tc_session.specs.Unsent.{reach, weight, HaveData, IsBegun};
@@ -8,12 +8,12 @@ use std::collections::VecDeque;
 use std::marker::Model;
 use tc_item::{Blob, NoMemory};
 
-/// Shared data, behind so many own bytes.
+/// Shared data, and where it belongs.
 #[derive(Drop)]
 pub(crate) struct Piece {
-    /// How many own bytes stand between the data before and this.
+    /// The number of own bytes between the piece before and this one.
     pub before: usize,
-    /// A byte at least.
+    /// One or more bytes.
     pub blob: Blob,
 }
 
@@ -21,9 +21,9 @@ pub(crate) struct Piece {
 #[derive(Drop)]
 pub(crate) struct Chain {
     pieces: VecDeque<Piece>,
-    /// How many own bytes stand before the last piece's data.
+    /// The number of own bytes before the last piece's data.
     reach: usize,
-    /// How many bytes are shared.
+    /// The number of shared bytes.
     weight: usize,
 }
 
@@ -40,13 +40,13 @@ impl Model for Chain {
         × (c.weight ≡ weight_of c.pieces.items) × (c.weight ≤ 2 ^ 62) × HaveData c.pieces.items };
 }
 
-/// The most bytes that are counted: more than any memory has.
+/// The most bytes that a chain counts: more than any memory has.
 const MOST_COUNTED: usize = 1 << 62;
 
-/// The most pieces whose room is kept once all are sent.
+/// The most pieces for which room stays once all are sent.
 const KEPT_PIECES: usize = 1_024;
 
-/// The sum of two counts of bytes.
+/// Returns the sum of two counts of bytes, or `NoMemory` above `MOST_COUNTED`.
 fn sum_of(a: usize, b: usize) -> Result<usize, NoMemory>
     ensures { IfOk result (λ n. (n ≡ a + b) × (n ≤ 2 ^ 62)) }
 {
@@ -57,7 +57,7 @@ fn sum_of(a: usize, b: usize) -> Result<usize, NoMemory>
 }
 
 impl Chain {
-    /// No piece.
+    /// Returns an empty chain.
     pub fn new(alloc: Global) -> Chain
         ensures { result ≡ [] }
     {
@@ -68,7 +68,7 @@ impl Chain {
         }
     }
 
-    /// No piece, and room for so many.
+    /// Returns an empty chain with room for `count` pieces.
     pub fn with_capacity(alloc: Global, count: usize) -> Result<Chain, NoMemory>
         ensures { IfOk result (λ chain. chain ≡ []) }
     {
@@ -79,14 +79,14 @@ impl Chain {
         })
     }
 
-    /// How many own bytes stand before the last piece's data.
+    /// Returns the number of own bytes before the last piece's data.
     pub fn reach(&self) -> usize
         ensures { result ≡ reach self.now }
     {
         self.reach
     }
 
-    /// How many bytes are shared.
+    /// Returns the number of shared bytes.
     pub fn weight(&self) -> usize
         ensures value { result ≡ weight self.now }
         ensures few { result ≤ 2 ^ 62 }
@@ -94,7 +94,7 @@ impl Chain {
         self.weight
     }
 
-    /// The piece at a place, counted from 0.
+    /// Returns the piece at an index from 0.
     pub fn get(&self, at: usize) -> Option<&Piece>
         ensures found { MatchOption result (drop at self.now ≡ [])
             (λ piece. drop at self.now ≡ piece.now ∷ drop (at + 1) self.now) }
@@ -106,7 +106,7 @@ impl Chain {
         self.pieces.get(at)
     }
 
-    /// Puts data at the end, behind so many own bytes. A refusal changes nothing.
+    /// Appends data that follows `before` own bytes. If memory is refused, nothing changes.
     pub fn push(&mut self, before: usize, blob: Blob) -> Result<(), NoMemory>
         requires { 0 < length blob }
         ensures pushed { OnOk result (self.new
@@ -121,7 +121,7 @@ impl Chain {
         Ok(())
     }
 
-    /// Puts pieces at the end. A refusal changes nothing.
+    /// Appends pieces. If memory is refused, nothing changes.
     pub fn append(&mut self, behind: Chain) -> Result<(), NoMemory>
         ensures appended { OnOk result (self.new ≡ self.old ++ behind) }
         ensures some { HaveData behind }
@@ -136,7 +136,7 @@ impl Chain {
         Ok(())
     }
 
-    /// Takes the first piece out.
+    /// Removes the first piece, if there is one.
     pub fn pop(&mut self)
         ensures { self.new ≡ drop 1 self.old }
     {
@@ -146,7 +146,7 @@ impl Chain {
         }
     }
 
-    /// Takes all pieces out, and gives up their room where it is large.
+    /// Removes all pieces, and frees their room if that is for more than `KEPT_PIECES`.
     pub fn clear(&mut self)
         ensures { self.new ≡ [] }
     {

@@ -1,4 +1,4 @@
-//! The requests that were declined.
+//! The list of declined requests, in proofs alone.
 ghost use Rattle.std.specs.Prelude.{◌≡◌, ◌++◌, ◌∷◌, []};
 
 use http_server::Log;
@@ -6,9 +6,9 @@ use std::marker::Model;
 use tc_feed::Feed;
 use tc_users::UserNo;
 
-/// The requests that were declined, since memory was refused to look for them: what was unread before
-/// each, and whose it is. `Session::ask` alone adds to them, where `Session::next` was refused. They
-/// stand in proofs alone: the list takes no memory, and there is nothing to it when it runs.
+/// The requests that a connection declined for lack of memory: the unread bytes before each, and
+/// the user. Only `Session::ask` adds to it, on a retry that was refused memory. It exists in
+/// proofs alone: at run time it is empty and takes no memory.
 #[derive(Drop)]
 pub struct Declined {
     log: Log<Feed, UserNo>,
@@ -24,14 +24,14 @@ impl Model for Declined {
 }
 
 impl Declined {
-    /// No request was declined.
+    /// Returns the empty list.
     pub fn new() -> Declined
         ensures { result ≡ [] }
     {
         Declined { log: Log::new() }
     }
 
-    /// The same and one request more.
+    /// Returns the list with one request more.
     pub(crate) fn and(&self, unread: &Feed, user: UserNo) -> Declined
         ensures { result ≡ self.now ++ (unread.now, user) ∷ [] }
     {

@@ -1,20 +1,20 @@
-//! What an operator may want to know of a connection.
+//! Events of a connection that an operator may want to see.
 ghost use Rattle.std.specs.Prelude.{◌<◌, ◌≤◌, length, IfSome};
 
 use tc_users::{UserNo, Users};
 
-/// What happened on a connection that a log has a line for. It holds no token.
+/// An event that deserves a line in a log. It holds no token.
 #[derive(Clone, Copy, Debug, PartialEq, Eq)]
 pub enum News {
-    /// A login was refused: that of this user, or of none, where its name is nobody's.
+    /// A login was refused. The user is the one named, or `None` if no user has that name.
     LoginRefused(Option<UserNo>),
-    /// An unbound connection sent a block longer than a login's may be.
+    /// An unbound connection announced a block longer than a login may be.
     LongBlock,
-    /// Memory was refused to a command, or to its reply.
+    /// Memory was refused to a command or to its reply, or a command was declined.
     NoMemory,
 }
 
-/// The user whose name stands before the first space of a login's data.
+/// Returns the user whose name is before the first space of a login's data.
 pub(crate) fn named(users: &Users, text: &[u8]) -> Option<UserNo>
     ensures { IfSome result (λ user. (0 < user) × (user ≤ length users.now)) }
 {

@@ -1,4 +1,4 @@
-//! Bytes that wait to be sent. What they say is written by `answering.rt` and `replies.rt`.
+//! The bytes that wait to be sent. `answering.rt` and `replies.rt` decide what they say.
 ghost use Rattle.std.specs.Prelude.{◌≡◌, ◌+◌, ◌-◌, ◌<◌, ◌≤◌, ◌++◌, [], decimal, drop, length, vec_len, vec_capacity};
 ghost use Rattle.std.specs.Prelude.{OnOk, OnErr};
 ghost use Rattle.tc_session.specs.Replies.{values_text, stats_text};
@@ -15,18 +15,19 @@ use tc_grammar::Form;
 use tc_item::NoMemory;
 use tc_stats::{Counters, Hit};
 
-/// The most room that is kept once all bytes are sent.
+/// The most room, in bytes, that stays once all bytes are sent.
 const KEPT_ROOM: usize = 65_536;
 
-/// Bytes that wait to be sent, and room for more: own bytes, and between them data that is shared.
+/// Bytes that wait to be sent, and room for more: own bytes, with shared data between them.
 #[derive(Drop)]
 pub(crate) struct Output {
     own: Vec<u8>,
-    /// How many own bytes were sent that no piece counts.
+    /// The number of sent own bytes in front that no piece counts.
     start: usize,
-    /// Each counts the own bytes since the one before it, the first those behind the start.
+    /// The shared data. Each piece counts the own bytes since the piece before it, the first one
+    /// those from `start` on.
     chain: Chain,
-    /// How many bytes of the first piece, and of those before it, were sent.
+    /// Of the first piece and the own bytes before it, this many bytes were sent.
     sent: usize,
 }
 
@@ -44,7 +45,7 @@ impl Model for Output {
     ghost invariant = { λ o. (o.start + reach o.chain ≤ vec_len o.own) × IsBegun o.sent o.chain };
 }
 
-/// Gives up the room of bytes that are no more, where it is large.
+/// Empties the vector, and frees its room if that is over `KEPT_ROOM`.
 fn clear_bytes(bytes: &mut Vec<u8>)
     ensures { bytes.new.items ≡ [] }
 {
@@ -54,8 +55,8 @@ fn clear_bytes(bytes: &mut Vec<u8>)
     }
 }
 
-/// Gives up the room of the first bytes, which were sent, once they are more than those that wait. How
-/// many that were sent are left.
+/// Frees the room of the first `sent` bytes, once they outnumber those that wait. Returns how many
+/// sent bytes are left in front.
 fn compact(bytes: &mut Vec<u8>, sent: usize) -> usize
     requires { sent ≤ vec_len bytes.old }
     ensures waiting { drop result bytes.new.items ≡ drop sent bytes.old.items }
@@ -69,7 +70,7 @@ fn compact(bytes: &mut Vec<u8>, sent: usize) -> usize
 }
 
 impl Output {
-    /// Nothing waits.
+    /// Returns an empty output.
     pub fn new(alloc: Global) -> Output
         ensures { result.bytes ≡ [] }
     {
@@ -81,7 +82,7 @@ impl Output {
         }
     }
 
-    /// Makes room for so many bytes. It is refused only where there was less.
+    /// Makes room for `n` bytes. Fails only if there was less room and memory was refused.
     pub fn reserve(&mut self, n: usize) -> Result<(), NoMemory>
         ensures bytes { self.new.bytes ≡ self.old.bytes }
         ensures room { OnOk result (n ≤ self.new.room) }
@@ -92,14 +93,14 @@ impl Output {
         Ok(())
     }
 
-    /// For how many bytes there is room.
+    /// Returns for how many bytes there is room.
     pub fn room(&self) -> usize
         ensures { result ≡ self.now.room }
     {
         self.own.capacity() - self.own.len()
     }
 
-    /// Puts bytes at the end, for which there is room.
+    /// Appends bytes, for which there must be room.
     #[tactic(auto, using(crate::proofs::Waiting::written))]
     pub fn write(&mut self, text: &[u8])
         requires { length text.now ≤ self.old.room }
@@ -109,7 +110,7 @@ impl Output {
         let _ = self.own.extend_from_slice(text);
     }
 
-    /// Puts a number at the end, for which there is room.
+    /// Appends a number, for which there must be room: 20 bytes.
     pub fn write_number(&mut self, number: u64)
         requires { 20 ≤ self.old.room }
         ensures bytes { self.new.bytes ≡ self.old.bytes ++ decimal number }
@@ -119,7 +120,7 @@ impl Output {
         self.write(buffer.format(number).as_bytes());
     }
 
-    /// Puts the rows of counters at the end, and END. A refusal changes nothing.
+    /// Appends the rows of counters and END. If memory is refused, nothing changes.
     #[tactic(auto, using(crate::proofs::Waiting::written))]
     pub fn write_stats(&mut self, counters: &Counters) -> Result<(), NoMemory>
         ensures bytes { OnOk result (self.new.bytes ≡ self.old.bytes ++ stats_text counters.now) }
@@ -129,8 +130,8 @@ impl Output {
         append_stats(&mut self.own, counters)
     }
 
-    /// Puts all hits at the end, and END; large data is shared, and not copied. A refusal changes nothing,
-    /// and gives back what room was made.
+    /// Appends all hits and END. Large data is shared, not copied. If memory is refused, nothing
+    /// changes, and the room made for them is freed.
     #[tactic(auto, using(crate::proofs::Waiting::written))]
     pub fn write_values(&mut self, form: Form, hits: &[Hit]) -> Result<(), NoMemory>
         ensures bytes { OnOk result (self.new.bytes
@@ -146,7 +147,7 @@ impl Output {
         Ok(())
     }
 
-    /// Puts all hits at the end, and END, for which there is room.
+    /// Appends all hits and END, for which there must be room.
     #[tactic(auto, using(crate::proofs::Waiting::written))]
     pub fn write_composed(&mut self, room: usize, form: Form, hits: &[Hit])
         requires room { room ≡ room_of hits.now }
@@ -157,14 +158,14 @@ impl Output {
         compose(&mut self.own, room, form, hits);
     }
 
-    /// The bytes that wait.
+    /// Returns the bytes that wait.
     pub fn parts(&self) -> Parts<'_>
         ensures { result ≡ self.now.bytes }
     {
         Parts::new(&self.own[self.start..], &self.chain, self.sent)
     }
 
-    /// How many bytes wait.
+    /// Returns the number of bytes that wait.
     #[tactic(auto, using(crate::proofs::Waiting::length_waiting, crate::proofs::Waiting::begun_le))]
     pub fn len(&self) -> usize
         ensures { result ≡ length self.now.bytes }
@@ -172,7 +173,8 @@ impl Output {
         self.own.len() - self.start + self.chain.weight() - self.sent
     }
 
-    /// So many of the first bytes were sent. Their room is given up, and a large one once all are sent.
+    /// Drops the first `n` bytes, which were sent. Frees their room once they outnumber the rest,
+    /// and large room once all are sent.
     pub fn sent(&mut self, n: usize)
         ensures { self.new.bytes ≡ drop n self.old.bytes }
     {
@@ -186,7 +188,7 @@ impl Output {
         }
     }
 
-    /// All bytes were sent.
+    /// Drops all bytes, which were sent.
     fn clear(&mut self)
         ensures { self.new.bytes ≡ [] }
     {
@@ -196,8 +198,8 @@ impl Output {
         self.sent = 0;
     }
 
-    /// So many of the first bytes were sent, and not all: passes them, as far as the end of the first
-    /// shared data. How many are left.
+    /// Drops some of the first `n` bytes, which were sent: up to the end of the first shared data.
+    /// Returns how many are left to drop.
     #[tactic(auto, using(crate::proofs::Waiting::own_sent, crate::proofs::Waiting::piece_sent))]
     fn pass(&mut self, n: usize) -> usize
         requires { n < length self.old.bytes }

@@ -1,4 +1,4 @@
-//! The bytes that wait, as a wire takes them.
+//! The bytes that wait to be sent, as slices for a wire.
 ghost use Rattle.std.specs.Prelude.{◌≡◌, ◌≤◌, ◌<◌, ◌++◌, ◌↔◌, [], drop, length, IsTrue, IfOk};
 ghost use Rattle.tc_session.specs.Unsent.{joined, reach, IsBegun};
 
@@ -7,15 +7,15 @@ use std::alloc::Global;
 use std::marker::Model;
 use tc_item::NoMemory;
 
-/// Bytes in slices, one after another: own bytes, and between them data that is shared. Where no data
-/// is shared, they are one slice.
+/// Bytes in slices, one after another: own bytes, with shared data between them. Without shared
+/// data they are one slice.
 #[derive(Drop)]
 pub struct Parts<'a> {
     own: &'a [u8],
     chain: &'a Chain,
-    /// The place of the piece that comes next.
+    /// The index of the next piece.
     at: usize,
-    /// How many bytes of that piece, and of those before it, are passed.
+    /// Of the next piece and the own bytes before it, this many bytes are passed.
     passed: usize,
     len: usize,
 }
@@ -34,7 +34,7 @@ impl<'a> Model for Parts<'a> {
 }
 
 impl<'a> Parts<'a> {
-    /// Own bytes, and the pieces of a chain between them, without so many that were sent.
+    /// Returns own bytes with the pieces of a chain between them, less the first `sent` bytes.
     pub(crate) fn new(own: &'a [u8], chain: &'a Chain, sent: usize) -> Parts<'a>
         requires reach { reach chain.now ≤ length own.now }
         requires begun { IsBegun sent chain.now }
@@ -49,7 +49,7 @@ impl<'a> Parts<'a> {
         }
     }
 
-    /// How many bytes.
+    /// Returns the number of bytes.
     pub fn len(&self) -> usize
         ensures { result ≡ length self.now }
     {
@@ -63,7 +63,7 @@ impl<'a> Parts<'a> {
         self.len == 0
     }
 
-    /// The first slice, and what stands behind it.
+    /// Returns the first slice, and the rest. The slice is empty only if no bytes are left.
     pub fn split_first(&self) -> (&'a [u8], Parts<'a>)
         ensures split { self.now ≡ result.0.now ++ result.1 }
         ensures some { 0 < length self.now → 0 < length result.0.now }
@@ -100,7 +100,7 @@ impl<'a> Parts<'a> {
         (first, behind)
     }
 
-    /// A copy of all of them.
+    /// Returns a copy of all bytes.
     pub fn to_vec(&self, alloc: Global) -> Result<Vec<u8>, NoMemory>
         ensures { IfOk result (λ bytes. bytes.items ≡ self.now) }
     {

@@ -1,6 +1,7 @@
-//! VALUE lines of a reply with much data, behind bytes that wait: piece by piece.
+//! Appends VALUE lines of a reply with much data, hit by hit.
 //!
-//! Large data is shared: it stays where it lies, and a piece of a chain says behind which bytes.
+//! Large data is shared: it stays in its block, and a piece of a chain says how many own bytes
+//! precede it.
 ghost use Rattle.std.specs.Prelude.{◌≡◌, ◌+◌, ◌≤◌, ◌<◌, ◌++◌, drop, take, length, vec_len, vec_capacity, OnOk, OnErr, IfOk};
 ghost use Rattle.tc_item.specs.Bounds.{longest_key};
 ghost use Rattle.tc_session.specs.Replies.{value_line, value_text, values_text};
@@ -12,29 +13,29 @@ use tc_grammar::Form;
 use tc_item::{LONGEST_KEY, NoMemory};
 use tc_stats::Hit;
 
-/// Data of at least so many bytes is shared. A shared piece costs half a call of the system, which is
-/// dearer than the copy of less.
+/// Data of at least this many bytes is shared. A shared piece costs half a system call, which is
+/// dearer than copying less.
 const SHARED: usize = 16_384;
 
-/// In a reply that would have more than `MOST_COPIED` own bytes, data of at least so many bytes is shared.
+/// In a reply of more than `MOST_COPIED` own bytes, data of at least this many bytes is shared.
 const SHARED_IN_LARGE: usize = 256;
 
-/// Room for a VALUE line.
+/// The room, in bytes, that suffices for a VALUE line.
 const LINE_ROOM: usize = LONGEST_KEY + BESIDE;
 
-/// What a reply takes.
+/// The needs of a reply.
 #[derive(Clone, Copy)]
 struct Plan {
-    /// Data of at least so many bytes is shared.
+    /// Data of at least this many bytes is shared.
     least: usize,
     /// The most own bytes.
     own: usize,
-    /// How many pieces are shared.
+    /// The number of shared pieces.
     pieces: usize,
 }
 
 impl Plan {
-    /// What the reply to a look-up takes.
+    /// Returns the needs of the reply to a look-up.
     fn of(hits: &[Hit]) -> Plan
         ensures { 0 < result.least }
     {
@@ -45,7 +46,7 @@ impl Plan {
         Plan::sharing(SHARED_IN_LARGE, hits)
     }
 
-    /// What it takes where data of at least so many bytes is shared.
+    /// Returns the needs if data of at least `least` bytes is shared.
     fn sharing(least: usize, hits: &[Hit]) -> Plan
         ensures { result.least ≡ least }
     {
@@ -64,7 +65,7 @@ impl Plan {
     }
 }
 
-/// Puts the VALUE line of a hit with so many bytes of data at the end of bytes that have room for it.
+/// Appends the VALUE line of a hit with `size` bytes of data. There must be room for it.
 fn append_value_line(to: &mut Vec<u8>, form: Form, hit: &Hit, size: usize)
     requires size { size ≡ length hit.now.blob }
     requires room { vec_len to.old + (length hit.now.key + 71) ≤ vec_capacity to.old }
@@ -78,7 +79,7 @@ fn append_value_line(to: &mut Vec<u8>, form: Form, hit: &Hit, size: usize)
     let _ = to.extend_from_slice(&text[..end]);
 }
 
-/// Puts a hit at the end whose data is copied.
+/// Appends a hit and copies its data. If memory is refused, no bytes are appended.
 #[tactic(auto, unfolding(crate::specs::Replies::value_text))]
 fn append_copied(to: &mut Vec<u8>, form: Form, hit: &Hit) -> Result<(), NoMemory>
     ensures bytes { OnOk result (to.new.items ≡ to.old.items ++ value_text form hit.now) }
@@ -93,7 +94,8 @@ fn append_copied(to: &mut Vec<u8>, form: Form, hit: &Hit) -> Result<(), NoMemory
     Ok(())
 }
 
-/// Puts a hit at the end whose data is shared: its VALUE line, a piece, and a line end.
+/// Appends a hit and shares its data: a VALUE line, a piece, and a line end. If memory is refused,
+/// some of these may be left behind the old bytes.
 #[tactic(auto, unfolding(crate::specs::Replies::value_text))]
 fn append_shared(
     to: &mut Vec<u8>,
@@ -118,7 +120,7 @@ fn append_shared(
     Ok(())
 }
 
-/// Puts a hit at the end, whose data is shared where it has at least so many bytes.
+/// Appends a hit. Shares its data if that has at least `least` bytes.
 fn append_piece(
     to: &mut Vec<u8>,
     chain: &mut Chain,
@@ -142,7 +144,8 @@ fn append_piece(
     Ok(())
 }
 
-/// Puts all hits at the end, and END: the pieces of their data, which count own bytes from a place on.
+/// Appends all hits and END. Returns the pieces of shared data, the first of which counts own bytes
+/// from `from` on.
 #[tactic(auto, unfolding(crate::specs::Replies::values_text))]
 fn append_pieces(to: &mut Vec<u8>, from: usize, form: Form, hits: &[Hit]) -> Result<Chain, NoMemory>
     requires within { from ≤ vec_len to.old }
@@ -162,8 +165,8 @@ fn append_pieces(to: &mut Vec<u8>, from: usize, form: Form, hits: &[Hit]) -> Res
     Ok(chain)
 }
 
-/// Puts all hits at the end, and END, with the pieces of their data behind those of a chain. Where memory
-/// is refused, the chain stays, and what stood there before is in front.
+/// Appends all hits and END, and the pieces of shared data to `chain`. If memory is refused, the
+/// chain is unchanged, but bytes may be left behind the old ones.
 fn append_spliced(
     to: &mut Vec<u8>,
     chain: &mut Chain,
@@ -183,7 +186,7 @@ fn append_spliced(
     Ok(())
 }
 
-/// Takes off what was put behind so many bytes, and gives back what room was made for it.
+/// Truncates to `len` bytes, and frees room beyond a capacity of `room`.
 fn cut_back(to: &mut Vec<u8>, len: usize, room: usize)
     ensures items { to.new.items ≡ take len to.old.items }
     ensures capacity { room ≤ vec_capacity to.old → room ≤ vec_capacity to.new }
@@ -192,8 +195,8 @@ fn cut_back(to: &mut Vec<u8>, len: usize, room: usize)
     to.shrink_to(room);
 }
 
-/// Puts all hits at the end, and END, with the pieces of their data behind those of a chain. A refusal
-/// changes nothing, and gives back what room was made.
+/// Appends all hits and END, and the pieces of shared data to `chain`. If memory is refused,
+/// nothing changes, and the room made for them is freed.
 pub(crate) fn splice_values(
     to: &mut Vec<u8>,
     chain: &mut Chain,

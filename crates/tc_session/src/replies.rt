@@ -1,8 +1,8 @@
-//! Replies: those that are written, and behind them those that are owed.
+//! Replies: the written ones, and behind them those that are owed.
 //!
-//! Who asks for many replies while others wait for it owes them, and writes them once nobody does. Room is
-//! made for a reply when it comes to be owed, so that to write it takes no memory. Contracts see what waits
-//! to be sent, as if all of it were written.
+//! A caller that others wait for, such as a worker that holds a user's lock, owes the replies to
+//! look-ups and writes them later. Owing a reply makes room for it, so writing it takes no memory.
+//! Contracts see what waits to be sent as if all of it were written.
 ghost use Rattle.std.specs.Prelude.{◌≡◌, ◌+◌, ◌<◌, ◌≤◌, ◌++◌, ◌-◌, ◌↔◌, [], drop, take, length};
 ghost use Rattle.std.specs.Prelude.{IsOk, IsTrue, OnOk, OnErr, IfOk, true, false};
 ghost use Rattle.tc_session.specs.SessionView.{reply_room};
@@ -21,7 +21,7 @@ use tc_grammar::{Command, Fault, Form};
 use tc_item::{NoMemory, have_read};
 use tc_stats::{Hits, Outcome};
 
-/// The reply to a look-up that is not written yet, and for how many bytes room is made for it.
+/// The reply to a look-up that is not written yet, and the room made for it in bytes.
 #[derive(Drop)]
 pub(crate) struct Owed {
     form: Form,
@@ -34,7 +34,7 @@ pub(crate) struct Owed {
 pub(crate) struct Replies {
     written: Output,
     owed: Vec<Owed>,
-    /// How much of the room behind what is written is for those owed.
+    /// The part of the room behind the written bytes that is for owed replies.
     taken: usize,
 }
 
@@ -55,8 +55,8 @@ impl Model for Replies {
         × AreMeasured r.owed.items };
 }
 
-/// Reads the data of all hits that are owed, so that they wait for memory together. It is long since they were
-/// looked up, where many others were behind them.
+/// Reads the data of all owed hits, so that they wait for memory together. Their look-up may be
+/// long ago if many others followed.
 fn read_data(owed: &[Owed]) {
     let mut sum: u64 = 0;
     for reply in owed {
@@ -67,7 +67,7 @@ fn read_data(owed: &[Owed]) {
     have_read(sum);
 }
 
-/// Writes all that is owed, for which there is room.
+/// Writes all owed replies, for which there must be room.
 fn write_owed(written: &mut Output, owed: &mut Vec<Owed>)
     requires fits { owed_room owed.old.items ≤ written.old.room }
     requires measured { AreMeasured owed.old.items }
@@ -82,7 +82,7 @@ fn write_owed(written: &mut Output, owed: &mut Vec<Owed>)
     owed.clear();
 }
 
-/// Owes one reply more. A refusal changes nothing.
+/// Appends an owed reply. If memory is refused, nothing changes.
 #[tactic(auto, using(crate::proofs::Owing::text_behind, crate::proofs::Owing::room_behind, crate::proofs::Owing::measured_behind))]
 fn push_owed(owed: &mut Vec<Owed>, form: Form, room: usize, hits: Hits) -> Result<(), NoMemory>
     requires room { room ≡ room_of hits }
@@ -106,7 +106,7 @@ fn owes(owed: &Vec<Owed>) -> bool
 }
 
 impl Replies {
-    /// Nothing waits.
+    /// Returns empty replies.
     pub fn new(alloc: Global) -> Replies
         ensures { result.bytes ≡ [] }
     {
@@ -117,7 +117,8 @@ impl Replies {
         }
     }
 
-    /// Makes room for so many bytes. It is refused only where there was less.
+    /// Makes room for `n` bytes beside what is owed. Fails only if there was less room and memory
+    /// was refused.
     pub fn reserve(&mut self, n: usize) -> Result<(), NoMemory>
         ensures bytes { self.new.bytes ≡ self.old.bytes }
         ensures room { OnOk result (n ≤ self.new.room) }
@@ -132,7 +133,7 @@ impl Replies {
         self.written.reserve(all)
     }
 
-    /// Puts bytes at the end, for which there is room.
+    /// Appends bytes, for which there must be room.
     pub fn write(&mut self, text: &[u8])
         requires { length text.now ≤ self.old.room }
         ensures bytes { self.new.bytes ≡ self.old.bytes ++ text.now }
@@ -142,7 +143,7 @@ impl Replies {
         self.written.write(text);
     }
 
-    /// Says a fault's line.
+    /// Appends a fault's line.
     pub fn write_fault(&mut self, fault: Fault)
         requires { reply_room ≤ self.old.room }
         ensures bytes { self.new.bytes ≡ self.old.bytes ++ fault_line fault }
@@ -152,7 +153,7 @@ impl Replies {
         write_fault(&mut self.written, fault);
     }
 
-    /// Writes the reply to a command. A refusal changes nothing.
+    /// Appends the reply to a command. If memory is refused, nothing changes.
     #[tactic(auto, using(crate::proofs::Owing::owed_room_none))]
     pub fn write_reply(&mut self, command: &Command, outcome: &Outcome) -> Result<(), NoMemory>
         requires room { reply_room ≤ self.old.room }
@@ -167,8 +168,8 @@ impl Replies {
         write_reply(&mut self.written, command, outcome)
     }
 
-    /// Owes the reply to a look-up, with room for it, where it is short enough to be written in one; else
-    /// writes it. A refusal changes nothing.
+    /// Owes the reply to a look-up and makes room for it. A reply that is not composed
+    /// (`values.rt`) is written at once. If memory is refused, nothing changes.
     #[tactic(auto, using(crate::proofs::Owing::owed_room_none))]
     pub fn owe(&mut self, form: Form, hits: Hits) -> Result<(), NoMemory>
         ensures bytes { OnOk result (self.new.bytes ≡ self.old.bytes ++ values_text form hits) }
@@ -188,7 +189,7 @@ impl Replies {
         Ok(())
     }
 
-    /// Writes all that is owed.
+    /// Writes all owed replies.
     pub fn settle(&mut self)
         ensures bytes { self.new.bytes ≡ self.old.bytes }
         ensures written { self.new.unwritten ≡ 0 }
@@ -198,7 +199,7 @@ impl Replies {
         self.taken = 0;
     }
 
-    /// The bytes that wait and are written.
+    /// Returns the bytes that wait and are written.
     pub fn parts(&self) -> Parts<'_>
         ensures parts { result ≡ take (length self.now.bytes - self.now.unwritten) self.now.bytes }
         ensures whole { self.now.unwritten ≡ 0 → result ≡ self.now.bytes }
@@ -206,7 +207,7 @@ impl Replies {
         self.written.parts()
     }
 
-    /// The bytes that wait, copied.
+    /// Returns a copy of all bytes that wait, owed replies included.
     pub fn to_vec(&self, alloc: Global) -> Result<Vec<u8>, NoMemory>
         ensures { IfOk result (λ bytes. bytes.items ≡ self.now.bytes) }
     {
@@ -217,20 +218,21 @@ impl Replies {
         Ok(bytes)
     }
 
-    /// How many bytes wait, where all replies that are owed take the room that is made for them. It is
-    /// for who weighs what to do next, and no promise.
+    /// Estimates how many bytes wait: the written ones and the room made for owed replies. No
+    /// clause promises it.
     pub fn about(&self) -> usize {
         self.written.len().saturating_add(self.taken)
     }
 
-    /// Whether bytes wait.
+    /// Whether bytes wait, written or owed.
     pub fn has_some(&self) -> bool
         ensures { IsTrue result ↔ (0 < length self.now.bytes) }
     {
         owes(&self.owed) || self.written.len() > 0
     }
 
-    /// So many of the first bytes were sent. Their room is given up, and a large one once all are sent.
+    /// Drops the first `n` bytes, which were sent, and writes owed replies first. Frees room as
+    /// `Output::sent` does.
     #[tactic(auto, using(crate::proofs::Owing::owed_room_none))]
     pub fn sent(&mut self, n: usize)
         ensures { self.new.bytes ≡ drop n self.old.bytes }

@@ -1,7 +1,8 @@
-//! A connection: its next request, and the reply to what was asked.
+//! A connection: its next request, and the reply to it.
 //!
-//! What is asked before a login is `session/unbound.rt`, what is passed over is `session/declining.rt`. A session
-//! reads its own bytes and the users' table, and knows no socket and no cache.
+//! `session/unbound.rt` handles requests before a login, and `session/declining.rt` requests for
+//! which there is no memory. A session reads its own bytes and the users' table, and knows no
+//! socket and no cache.
 ghost use Rattle.std.specs.Prelude.{◌≡◌, ◌≢◌, ◌+◌, ◌-◌, ◌<◌, ◌≤◌, ◌++◌, ◌↔◌, List, [], true, false, drop, take, length};
 ghost use Rattle.std.specs.Prelude.{None, Some, IsOk, IfOk, IfSome, IsTrue, OnOk, OnErr};
 ghost use Rattle.tc_model.specs.Connection.{turn, with_piece, shut_endpoint, new_endpoint, Bound, Nothing, Close, is_closed};
@@ -32,34 +33,37 @@ use tc_item::{LARGEST_ITEM, NoMemory};
 use tc_stats::{Hits, Outcome};
 use tc_users::{UserNo, Users};
 
-/// The most bytes of a block before a connection is bound; after it they are those of the largest item.
+/// The most bytes of a block before a login. After it the limit is that of an item's data.
 const UNBOUND_LIMIT: u32 = 256;
 
-/// Room that a reply is said in, but that to a look-up or to `stats`, and that a refusal is.
+/// The room, in bytes, that suffices for any reply but that of a look-up or of `stats`, and for a
+/// refusal.
 const REPLY_ROOM: usize = 64;
 
-/// Room that a request is read with: for what is said at once, and for a reply or its refusal.
+/// The room, in bytes, that reading a request requires: for what it says at once, and for a reply
+/// or its refusal.
 const NEEDED_ROOM: usize = 2 * REPLY_ROOM;
 
-/// A request is read ahead where so many bytes are unread at most, so that its keys take little memory while it waits.
+/// A request is read ahead only if at most this many bytes are unread, so that waiting keys take
+/// little memory.
 const MOST_AHEAD: usize = 2_048;
 
-/// Whose a connection is.
+/// Whom a connection belongs to.
 #[derive(Clone, Copy, PartialEq, Eq)]
 enum Phase {
     Unbound,
-    /// To this user.
+    /// The connection belongs to this user.
     Bound(UserNo),
     Closed,
 }
 
-/// A connection: what came on it and is unread, whose it is, and what waits to be sent.
+/// A connection: its unread bytes, its user, and the bytes that wait to be sent.
 #[derive(Drop)]
 pub struct Session {
     feed: Feed,
     phase: Phase,
     out: Replies,
-    /// What a log is to be told, until it is asked for. No reply rests on it.
+    /// The last event that deserves a line in a log, until `take_news`. No reply depends on it.
     news: Option<News>,
 }
 
@@ -77,7 +81,7 @@ impl Model for Session {
 }
 
 impl Session {
-    /// A connection as it is opened: unbound, with nothing to read or to send.
+    /// Returns a connection as it is opened: unbound, with nothing to read or to send.
     pub fn new(alloc: Global) -> Session
         ensures endpoint { result.endpoint ≡ new_endpoint text_protocol }
         ensures out { result.out ≡ [] }
@@ -90,7 +94,8 @@ impl Session {
         }
     }
 
-    /// Takes bytes that came; a closed connection takes none. A refusal changes nothing.
+    /// Takes bytes that arrived. A closed connection drops them. If memory is refused, nothing
+    /// changes.
     pub fn push(&mut self, piece: &[u8]) -> Result<(), NoMemory>
         ensures endpoint { OnOk result (self.new.endpoint
             ≡ with_piece text_protocol self.old.endpoint piece.now) }
@@ -105,10 +110,13 @@ impl Session {
         }
     }
 
-    /// The connection's next request. What needs no cache is answered at once. Where there is nothing
-    /// to do, at most 65,538 bytes and the limit of blocks are unread, unless it is closed. A refusal leaves
-    /// the request unread. It comes only where room is lacking for what may be said, or a whole line is
-    /// unread: never where nothing came, or the connection is closed, once there is room.
+    /// Reads the connection's next request, and answers at once what needs no cache. After
+    /// `Want::Nothing`, an open connection has at most 65,538 bytes unread beyond the limit of a
+    /// block, which is 256 before the login and 1,048,576 after it.
+    ///
+    /// If memory is refused, the request stays unread and nothing is said. That happens only if
+    /// there is less than 128 bytes of room and no more to be had, or if an open connection has a
+    /// whole line unread.
     pub fn next(&mut self, alloc: Global, users: &Users) -> Result<Want, NoMemory>
         ensures want { IfOk result (λ want. want_of want
             ≡ (turn text_protocol users.now self.old.endpoint).want) }
@@ -146,8 +154,8 @@ impl Session {
         }
     }
 
-    /// Reads the next request of a bound connection ahead, where it is a short look-up, so that `next` has it at
-    /// once. It is not done.
+    /// Reads a bound connection's next request ahead if it is a short look-up, so that `next` has
+    /// it at once. It is not done.
     pub fn read_ahead(&mut self, alloc: Global)
         ensures { self.new ≡ self.old }
     {
@@ -156,8 +164,8 @@ impl Session {
         }
     }
 
-    /// Whether it is known that there is nothing to do until more comes, so that most looks for a further
-    /// request are over at once.
+    /// Whether the last search already shows that nothing is to be done until more bytes arrive.
+    /// Most searches for a further request end here.
     fn is_resting(&self) -> bool
         ensures none { IsTrue result → (rows : List UserSpec)
             → turn text_protocol rows self.now.endpoint ≡ resting_turn self.now.endpoint }
@@ -171,9 +179,16 @@ impl Session {
         }
     }
 
-    /// The connection's next request, as `next` has it. Where memory is refused once more to a request,
-    /// `None`: a bound connection's command is then passed over, and its refusal said. A refusal leaves
-    /// the request unread.
+    /// Reads the connection's next request as `next` does. If memory is refused, the request stays
+    /// unread, nothing is said, and `ask` fails, unless `is_retry`.
+    ///
+    /// With `is_retry`, a refusal makes `ask` skip a bound connection's whole request instead, with
+    /// its block. A command is declined: it is not done, and `declined` lists it. Its reply is
+    /// `SERVER_ERROR out of memory`, unless its line has `noreply`, and the result is `None`. `ask`
+    /// handles `quit` and faults as `next` does.
+    ///
+    /// A retry still fails if the connection is not bound, no whole request is there, or memory for
+    /// what it says is refused. Then the request stays unread, and nothing is said or listed.
     pub fn ask(
         &mut self,
         alloc: Global,
@@ -202,7 +217,7 @@ impl Session {
         }
     }
 
-    /// What a request means once the connection is bound.
+    /// Does a request of a bound connection.
     fn serve_bound(&mut self, user: UserNo, request: Option<Request>) -> Want
         requires room { needed_room ≤ self.old.room }
         requires bound { self.old.endpoint.phase ≡ Bound user }
@@ -219,7 +234,7 @@ impl Session {
         }
     }
 
-    /// Says a fault, unless it is quiet; after a line that is too long the connection is closed.
+    /// Says a fault, unless it is quiet. After a line that is too long it closes the connection.
     fn fail(&mut self, fault: Fault, quiet: bool) -> Want
         requires { needed_room ≤ self.old.room }
         ensures want { want_of result ≡ fault_want fault }
@@ -236,7 +251,7 @@ impl Session {
         }
     }
 
-    /// Says a fault's line, unless it is quiet.
+    /// Appends a fault's line, unless it is quiet.
     fn say_fault(&mut self, fault: Fault, quiet: bool)
         requires { reply_room ≤ self.old.room }
         ensures endpoint { self.new.endpoint ≡ self.old.endpoint }
@@ -248,8 +263,9 @@ impl Session {
         }
     }
 
-    /// Appends the reply to a command, whose outcome is one that it can come to. Where memory is refused,
-    /// which only the reply to a look-up or to `stats` may meet, that is said in the reply's place.
+    /// Appends the reply to a command that ended in this outcome. `can_end` must hold of the two.
+    /// If memory is refused, the reply is `SERVER_ERROR out of memory` instead, unless the line has
+    /// `noreply`. That happens only to a look-up or to `stats`.
     pub fn answer(&mut self, command: &Command, outcome: &Outcome) -> Result<(), NoMemory>
         requires room { reply_room ≤ self.old.room }
         requires can_end { can_end command.now outcome.now ≡ true }
@@ -266,8 +282,9 @@ impl Session {
         Ok(())
     }
 
-    /// `answer`, but the reply to a look-up is mostly written later: where bytes are to be sent, or
-    /// something else is said. What is refused is known at once.
+    /// Does what `answer` does, but mostly leaves writing a look-up's text for later: to `settle`,
+    /// `sent`, or the next text that is written. It makes room at once, so it also reports a
+    /// refusal at once.
     pub fn answer_later(&mut self, command: &Command, outcome: Outcome) -> Result<(), NoMemory>
         requires room { reply_room ≤ self.old.room }
         requires can_end { can_end command.now outcome ≡ true }
@@ -282,7 +299,7 @@ impl Session {
         }
     }
 
-    /// Owes the hits of a look-up.
+    /// Owes the reply to a look-up.
     fn owe(&mut self, command: &Command, hits: Hits) -> Result<(), NoMemory>
         requires room { reply_room ≤ self.old.room }
         requires can_end { can_end command.now (Values hits) ≡ true }
@@ -301,7 +318,8 @@ impl Session {
         Ok(())
     }
 
-    /// Appends that memory was refused to a command, unless its line has `noreply`.
+    /// Appends `SERVER_ERROR out of memory` as the reply to a command, unless its line has
+    /// `noreply`.
     pub fn refuse(&mut self, command: &Command)
         requires { reply_room ≤ self.old.room }
         ensures endpoint { self.new.endpoint ≡ self.old.endpoint }
@@ -311,7 +329,8 @@ impl Session {
         self.say_fault(Fault::NoMemory, command.is_quiet());
     }
 
-    /// The last that a log is to be told, once. A `next` that was refused is its caller's to tell.
+    /// Takes the last event that deserves a line in a log. It does not cover a refused `next`,
+    /// which the caller sees.
     pub fn take_news(&mut self) -> Option<News>
         ensures { self.new ≡ self.old }
     {
@@ -320,7 +339,7 @@ impl Session {
         news
     }
 
-    /// Writes the replies that were to be written later.
+    /// Writes the replies that `answer_later` left.
     pub fn settle(&mut self)
         ensures endpoint { self.new.endpoint ≡ self.old.endpoint }
         ensures out { self.new.out ≡ self.old.out }
@@ -329,7 +348,7 @@ impl Session {
         self.out.settle();
     }
 
-    /// The bytes that wait to be sent, but those that are not written yet.
+    /// Returns the bytes that wait to be sent, less those that are not written yet.
     pub fn parts(&self) -> Parts<'_>
         ensures parts { result ≡ take (length self.now.out - self.now.unwritten) self.now.out }
         ensures whole { self.now.unwritten ≡ 0 → result ≡ self.now.out }
@@ -337,27 +356,27 @@ impl Session {
         self.out.parts()
     }
 
-    /// The bytes that wait to be sent, copied.
+    /// Returns a copy of all bytes that wait to be sent, with those that are not written yet.
     pub fn copy_out(&self, alloc: Global) -> Result<Vec<u8>, NoMemory>
         ensures { IfOk result (λ bytes. bytes.items ≡ self.now.out) }
     {
         self.out.to_vec(alloc)
     }
 
-    /// About how many bytes wait to be sent: for a reply that is written later, as many as there is room
-    /// for. It is for who weighs what to do next, and no promise.
+    /// Estimates how many bytes wait to be sent; a reply not written yet counts with the room made
+    /// for it. No clause promises it.
     pub fn about_out(&self) -> usize {
         self.out.about()
     }
 
-    /// Whether bytes wait to be sent.
+    /// Whether bytes wait to be sent, written or not.
     pub fn has_out(&self) -> bool
         ensures { IsTrue result ↔ (0 < length self.now.out) }
     {
         self.out.has_some()
     }
 
-    /// So many of the first bytes that wait were sent; all of them, where fewer wait.
+    /// Drops the first `n` bytes that wait, which were sent, or all if fewer wait.
     pub fn sent(&mut self, n: usize)
         ensures endpoint { self.new.endpoint ≡ self.old.endpoint }
         ensures out { self.new.out ≡ drop n self.old.out }
@@ -365,20 +384,20 @@ impl Session {
         self.out.sent(n);
     }
 
-    /// What the request that begins so many bytes behind the first unread one seems to ask for. It is a guess,
-    /// for who reads memory ahead of its use.
+    /// Guesses what the request that begins `at` bytes behind the first unread one asks for, so
+    /// that a caller can read memory ahead of its use.
     pub fn peek(&self, at: usize) -> Option<Peeked<'_>> {
         self.feed.peek(at)
     }
 
-    /// How many bytes came and are unread.
+    /// Returns the number of unread bytes.
     pub fn unread_len(&self) -> usize
         ensures { result ≡ length self.now.endpoint.reader.unread }
     {
         self.feed.unread_len()
     }
 
-    /// Whose the connection is, once it has logged in and is not closed.
+    /// Returns the user of a bound connection; `None` before the login and once it is closed.
     pub fn user(&self) -> Option<UserNo>
         ensures { IfSome result (λ user. self.now.endpoint.phase ≡ Bound user) }
     {
@@ -395,7 +414,7 @@ impl Session {
         matches!(self.phase, Phase::Closed)
     }
 
-    /// Ends the connection.
+    /// Closes the connection. Its output stays to be sent.
     pub fn shut(&mut self)
         ensures endpoint { self.new.endpoint ≡ shut_endpoint text_protocol self.old.endpoint }
         ensures out { self.new.out ≡ self.old.out }
@@ -403,7 +422,7 @@ impl Session {
         let _ = self.close();
     }
 
-    /// Ends the connection, which is to be closed once its output is sent.
+    /// Closes the connection, and returns that its owner must close it once its output is sent.
     fn close(&mut self) -> Want
         ensures want { want_of result ≡ Close }
         ensures endpoint { self.new.endpoint ≡ shut_endpoint text_protocol self.old.endpoint }

@@ -1,9 +1,9 @@
-//! Bytes and numbers, put into a text that has room for them.
+//! Writes bytes and numbers into a buffer that has room for them.
 ghost use Rattle.std.specs.Prelude.{◌≡◌, ◌+◌, ◌<◌, ◌≤◌, ◌++◌, ◌∷◌, decimal, take, length};
 
 use itoa::{Buffer, write_digits};
 
-/// Puts bytes into a text at a place. Where they end.
+/// Writes bytes at `at`. Returns where they end.
 pub(crate) fn put_bytes(text: &mut [u8], at: usize, bytes: &[u8]) -> usize
     requires room { at + length bytes.now ≤ length text.old }
     ensures written { take result text.new ≡ take at text.old ++ bytes.now }
@@ -14,7 +14,7 @@ pub(crate) fn put_bytes(text: &mut [u8], at: usize, bytes: &[u8]) -> usize
     end
 }
 
-/// How many digits a number of two to four has.
+/// Returns the number of digits of a number from 10 to 9,999.
 fn few_digits(number: u64) -> usize
     requires least { 10 ≤ number }
     requires most { number < 10000 }
@@ -30,7 +30,7 @@ fn few_digits(number: u64) -> usize
     }
 }
 
-/// Puts a number of two to four digits into a text at a place. Where it ends.
+/// Writes a number from 10 to 9,999 at `at`. Returns where it ends.
 fn put_few_digits(text: &mut [u8], at: usize, number: u64) -> usize
     requires room { at + 4 ≤ length text.old }
     requires least { 10 ≤ number }
@@ -43,8 +43,8 @@ fn put_few_digits(text: &mut [u8], at: usize, number: u64) -> usize
     end
 }
 
-/// Puts a number into a text at a place. Where it ends. Flags are mostly 0, and most data has fewer than
-/// 10,000 bytes, so few digits are quick.
+/// Writes a number at `at`. Returns where it ends. Few digits have a quick way, since flags are
+/// mostly 0 and most data has fewer than 10,000 bytes.
 fn put_digits(text: &mut [u8], at: usize, number: u64) -> usize
     requires room { at + 20 ≤ length text.old }
     ensures written { take result text.new ≡ take at text.old ++ decimal number }
@@ -61,7 +61,7 @@ fn put_digits(text: &mut [u8], at: usize, number: u64) -> usize
     put_bytes(text, at, buffer.format(number).as_bytes())
 }
 
-/// Puts a space and a number into a text at a place. Where they end.
+/// Writes a space and a number at `at`. Returns where they end.
 pub(crate) fn put_number(text: &mut [u8], at: usize, number: u64) -> usize
     requires room { at + 21 ≤ length text.old }
     ensures written { take result text.new ≡ take at text.old ++ (32 ∷ decimal number) }

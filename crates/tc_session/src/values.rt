@@ -1,7 +1,8 @@
-//! VALUE lines with their data, and rows of counters, behind bytes that wait.
+//! Appends VALUE lines with their data, and rows of counters.
 //!
-//! Hits with little data are written in one: room is made for all of them, and each byte is put where it
-//! stays. Where one has much data, `pieces.rt` appends it or shares it.
+//! Hits with little data are composed: the buffer grows once for all of them, and each byte is
+//! written to its final place. If a hit has more data, or the reply is large, `pieces.rt` appends
+//! it.
 ghost use Rattle.std.specs.Prelude.{◌≡◌, ◌+◌, ◌≤◌, ◌++◌, take, length, vec_len, vec_capacity, OnOk, OnErr, IfSome};
 ghost use Rattle.tc_session.specs.Replies.{cas_text, value_line, value_text, values_text, stats_text};
 ghost use Rattle.tc_session.specs.Room.{most_of, room_of};
@@ -11,22 +12,23 @@ use tc_grammar::Form;
 use tc_item::NoMemory;
 use tc_stats::{Counters, Hit};
 
-/// The most bytes of data that are written in one with what stands beside them.
+/// The most data, in bytes, of a hit that is composed.
 const MOST_COMPOSED: usize = 1_024;
 
-/// A reply for which more room may be needed than this isn't written in one.
+/// A reply is composed only if all hits but the last need at most this much room, in bytes.
 pub(crate) const MOST_COPIED: usize = 1_048_576;
 
-/// The most own bytes of a hit beside its key and its data: those of its VALUE line and a line end.
+/// The most own bytes of a hit beside its key and its data: its VALUE line and a line end.
 pub(crate) const BESIDE: usize = 73;
 
-/// What stands behind a VALUE line, and behind the data.
+/// The end of a VALUE line, and of the data.
 pub(crate) const LINE_END: &[u8] = b"\r\n";
 
-/// What stands behind the last hit.
+/// The end of the reply, behind the last hit.
 pub(crate) const END: &[u8] = b"END\r\n";
 
-/// Puts the cas number of a VALUE line into a text at a place, where it is asked for. Where it ends.
+/// Writes a space and the cas number of a VALUE line at `at` if the form shows it. Returns where
+/// they end.
 fn put_cas(text: &mut [u8], at: usize, form: Form, cas: u64) -> usize
     requires room { at + 21 ≤ length text.old }
     ensures written { take result text.new ≡ take at text.old ++ cas_text form cas }
@@ -38,7 +40,7 @@ fn put_cas(text: &mut [u8], at: usize, form: Form, cas: u64) -> usize
     }
 }
 
-/// Puts the VALUE line of a hit with so many bytes of data into a text at a place. Where it ends.
+/// Writes the VALUE line of a hit with `size` bytes of data at `at`. Returns where it ends.
 #[tactic(auto, unfolding(crate::specs::Replies::value_line))]
 pub(crate) fn put_value_line(
     text: &mut [u8],
@@ -60,7 +62,7 @@ pub(crate) fn put_value_line(
     put_bytes(text, at, LINE_END)
 }
 
-/// Puts a hit into a text at a place. Where it ends.
+/// Writes a hit at `at`. Returns where it ends.
 #[tactic(auto, unfolding(crate::specs::Replies::value_text))]
 fn put_hit(text: &mut [u8], at: usize, form: Form, hit: &Hit) -> usize
     requires room { at + most_of hit.now ≤ length text.old }
@@ -73,7 +75,7 @@ fn put_hit(text: &mut [u8], at: usize, form: Form, hit: &Hit) -> usize
     put_bytes(text, at, LINE_END)
 }
 
-/// Puts all hits into a text at a place, and END. Where they end.
+/// Writes all hits and END at `at`. Returns where they end.
 #[tactic(auto, unfolding(crate::specs::Replies::values_text))]
 fn put_hits(text: &mut [u8], at: usize, form: Form, hits: &[Hit]) -> usize
     requires { at + room_of hits.now ≤ length text.old }
@@ -87,7 +89,7 @@ fn put_hits(text: &mut [u8], at: usize, form: Form, hits: &[Hit]) -> usize
     put_bytes(text, end, END)
 }
 
-/// Room for all hits and for END, where they are to be written in one: each has little data.
+/// Returns the room, in bytes, for all hits and END, or `None` if the reply is not composed.
 pub(crate) fn room_to_compose(hits: &[Hit]) -> Option<usize>
     ensures { IfSome result (λ room. room ≡ room_of hits.now) }
 {
@@ -102,7 +104,7 @@ pub(crate) fn room_to_compose(hits: &[Hit]) -> Option<usize>
     Some(room)
 }
 
-/// Puts all hits at the end, and END, for which there is room.
+/// Appends all hits and END. `room` is what they may need, and must be there.
 pub(crate) fn compose(to: &mut Vec<u8>, room: usize, form: Form, hits: &[Hit])
     requires room { room ≡ room_of hits.now }
     requires fits { vec_len to.old + room ≤ vec_capacity to.old }
@@ -116,7 +118,7 @@ pub(crate) fn compose(to: &mut Vec<u8>, room: usize, form: Form, hits: &[Hit])
     to.truncate(end);
 }
 
-/// Puts all hits at the end, and END, with room for them. A refusal changes nothing.
+/// Appends all hits and END, after making room for them. If memory is refused, nothing changes.
 pub(crate) fn append_composed(
     to: &mut Vec<u8>,
     room: usize,
@@ -133,7 +135,7 @@ pub(crate) fn append_composed(
     Ok(())
 }
 
-/// Puts the rows of counters at the end, and END. A refusal changes nothing.
+/// Appends the rows of counters and END. If memory is refused, nothing changes.
 #[tactic(auto, unfolding(crate::specs::Replies::stats_text))]
 pub(crate) fn append_stats(to: &mut Vec<u8>, counters: &Counters) -> Result<(), NoMemory>
     ensures bytes { OnOk result (to.new.items ≡ to.old.items ++ stats_text counters.now) }

@@ -1,17 +1,18 @@
-//! What a connection's next request wants.
+//! What a connection's next request asks of its owner.
 
 use tc_grammar::Command;
 use tc_users::UserNo;
 
-/// What a connection's next request wants.
+/// What a connection's next request asks of its owner.
 #[derive(Drop)]
 pub enum Want {
     /// No whole request is there.
     Nothing,
-    /// A fault or a login was answered, or kept quiet.
+    /// The session answered a fault or a login, or kept quiet as the line asked.
     Said,
-    /// The user's cache is to do the command; one `answer`, `answer_later` or `refuse` follows.
+    /// The user's cache must do the command. The owner then calls `answer`, `answer_later` or
+    /// `refuse` once.
     Call(UserNo, Command),
-    /// The connection is closed once its output is sent.
+    /// The session is closed. The owner closes the connection once its output is sent.
     Close,
 }

@@ -1,6 +1,6 @@
-//! The numbers of the settings. `specs/Bounds.antt` has them for contracts.
+//! Numbers that bound the settings. `specs/Bounds.antt` has them for contracts.
 
-/// The most threads that serve connections.
+/// The most workers, the threads that serve connections.
 pub const MOST_WORKERS: usize = 64;
 
 /// The fewest entries of a journal's page.
@@ -9,11 +9,11 @@ pub const SMALLEST_PAGE: usize = 16;
 /// The most entries of a journal's page.
 pub const LARGEST_PAGE: usize = 65_536;
 
-/// The most seconds of a limit.
+/// The greatest value of a limit in seconds.
 pub const MOST_SECONDS: u32 = 86_400;
 
-/// The most connections of a limit.
+/// The greatest value of a limit on the number of connections.
 pub const MOST_CONNECTIONS: u32 = 1_024;
 
-/// The entries of a journal's page where the settings say nothing.
+/// The entries of a journal's page if the settings do not say.
 pub const DEFAULT_PAGE: usize = 65_536;

@@ -1,4 +1,4 @@
-//! The fields of a settings text.
+//! Reads the fields of a table by their type.
 ghost use Rattle.std.specs.Prelude.{◌≡◌, option_map, IfOk};
 ghost use Rattle.std.specs.Result.{result_err};
 ghost use Rattle.toml.specs.View.{view};
@@ -7,7 +7,7 @@ ghost use Rattle.tc_settings.specs.Fields.{found_of, field_in, text_in, number_i
 use tc_users::{Field, Found, SettingsFault};
 use toml::Value;
 
-/// The kind of a value.
+/// Returns the type of a value.
 pub fn found_of(value: &Value) -> Found
     ensures { result ≡ found_of (view value.now) }
 {
@@ -22,14 +22,14 @@ pub fn found_of(value: &Value) -> Found
     }
 }
 
-/// What the table has in the field.
+/// Returns the value of a field; `None` if the table lacks it.
 pub fn find_field(field: Field, table: &Value) -> Option<&Value>
     ensures { option_map (λ value. view value.now) result ≡ field_in field (view table.now) }
 {
     table.get(field.key())
 }
 
-/// The text in the field.
+/// Returns the text in a field. A missing field or a value of another type is a fault.
 pub fn read_text(field: Field, table: &Value) -> Result<&str, SettingsFault>
     ensures fault { result_err result ≡ missing_text_in field (view table.now) }
     ensures text { IfOk result (λ text. text.now ≡ text_in (field_in field (view table.now))) }
@@ -47,7 +47,7 @@ pub fn read_text(field: Field, table: &Value) -> Result<&str, SettingsFault>
     }
 }
 
-/// The whole number in the field.
+/// Returns the whole number in a field. A missing field or a value of another type is a fault.
 pub fn read_number(field: Field, table: &Value) -> Result<i64, SettingsFault>
     ensures fault { result_err result ≡ missing_number_in field (view table.now) }
     ensures number { IfOk result (λ n. n ≡ number_in (field_in field (view table.now))) }

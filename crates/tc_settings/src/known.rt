@@ -1,7 +1,7 @@
-//! Which keys of a settings text are fields.
+//! The keys that a settings text may have.
 use tc_users::{Field, Limit};
 
-/// The fields of the settings, but a user's.
+/// The fields outside of users' tables and the metrics' table.
 const FIELDS: [Field; 8] = [
     Field::Listen,
     Field::Workers,
@@ -13,10 +13,10 @@ const FIELDS: [Field; 8] = [
     Field::Users,
 ];
 
-/// The fields of the metrics' table.
+/// The fields of the `[metrics]` table.
 const METRICS_FIELDS: [Field; 1] = [Field::MetricsListen];
 
-/// A user's fields.
+/// The fields of a user's table.
 const USER_FIELDS: [Field; 7] = [
     Field::Name(0),
     Field::Token(0),
@@ -27,17 +27,17 @@ const USER_FIELDS: [Field; 7] = [
     Field::Limited(Limit::IdleSeconds(0)),
 ];
 
-/// Whether a key is one of these fields.
+/// Whether the key is one of these fields.
 fn is_among(fields: &[Field], key: &str) -> bool {
     fields.iter().any(|field| field.key() == key)
 }
 
-/// Whether a key of the settings is a field.
+/// Whether a key at the top of the settings is a field.
 pub fn is_field(key: &str) -> bool {
     is_among(&FIELDS, key)
 }
 
-/// Whether a key of the metrics' table is a field.
+/// Whether a key of the `[metrics]` table is a field.
 pub fn is_metrics_field(key: &str) -> bool {
     is_among(&METRICS_FIELDS, key)
 }

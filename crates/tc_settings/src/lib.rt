@@ -1,10 +1,12 @@
-//! The settings of a server, read from a TOML text: where it listens, how many threads serve, its users, and
-//! what their connections may come to.
+//! The settings of a server, read from a TOML text: the addresses it listens on, the number of
+//! workers, its users, and the limits on their connections.
 //!
-//! `Settings::from_toml` answers by the table that a text is for the TOML reader (`specs/SettingsTable.antt`): its
-//! contract is `IsAnswer`. Users' rows and their faults are those of `tc_users`, addresses and limits those of
-//! `tc_limits`. No clause says where a text that is not TOML is wrong, nor, of a text
-//! with more than white space and comments, that memory suffices.
+//! `Settings::from_toml` reads the table that the TOML reader finds in a text
+//! (`specs/SettingsTable.antt`); its contract is `IsAnswer`. `tc_users` has users' rows and their
+//! faults, and `tc_limits` addresses and limits.
+//!
+//! No clause says where a text that is not TOML is wrong. Only for a text of white space and
+//! comments does a clause say that memory suffices.
 #![tactic(auto)]
 
 mod bounds;

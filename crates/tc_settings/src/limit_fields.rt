@@ -1,4 +1,4 @@
-//! The limits in a settings text.
+//! Reads the limits in a settings text.
 ghost use Rattle.std.specs.Prelude.{◌≡◌, ◌<◌, ◌+◌, ◌^◌, ◌∷◌, ◌++◌, [], length, map, IfOk, IfErr, OnOk, OnErr};
 ghost use Rattle.std.specs.Result.{result_err};
 ghost use Rattle.toml.specs.View.{view};
@@ -14,7 +14,7 @@ use tc_limits::{ConnectionLimits, LimitsByUser, UserLimits};
 use tc_users::{Field, Limit, SettingsFault};
 use toml::Value;
 
-/// The largest number that a limit may be.
+/// Returns the greatest value of a limit. The least is 1.
 fn most_of(limit: Limit) -> u32
     ensures { result ≡ most_of limit }
 {
@@ -24,7 +24,7 @@ fn most_of(limit: Limit) -> u32
     }
 }
 
-/// The limit in a field, which may be left out.
+/// Reads a limit, which may be left out. A number out of its range is a fault.
 fn read_limit(limit: Limit, table: &Value) -> Result<Option<u32>, SettingsFault>
     ensures fault { result_err result ≡ limit_fault_in limit (view table.now) }
     ensures limit { IfOk result (λ found. found ≡ limit_in limit (view table.now)) }
@@ -40,7 +40,7 @@ fn read_limit(limit: Limit, table: &Value) -> Result<Option<u32>, SettingsFault>
     Err(SettingsFault::LimitRange { limit, found })
 }
 
-/// The limits on all connections.
+/// Reads the limits on all connections.
 pub fn read_limits(table: &Value) -> Result<ConnectionLimits, SettingsFault>
     ensures fault { result_err result ≡ limits_fault_in (view table.now) }
     ensures limits { IfOk result (λ limits. limits ≡ limits_in (view table.now)) }
@@ -55,7 +55,7 @@ pub fn read_limits(table: &Value) -> Result<ConnectionLimits, SettingsFault>
     })
 }
 
-/// The limits in a user's table.
+/// Reads the limits in a user's table.
 fn read_user_limits(user: u32, table: &Value) -> Result<UserLimits, SettingsFault>
     ensures fault { result_err result ≡ user_limits_fault user (view table.now) }
     ensures limits { IfOk result (λ limits. limits ≡ user_limits_in (view table.now)) }
@@ -68,7 +68,7 @@ fn read_user_limits(user: u32, table: &Value) -> Result<UserLimits, SettingsFaul
     })
 }
 
-/// One more user's limits, behind the others.
+/// Appends a user's limits. If memory is refused, the list is unchanged.
 fn push_limits(rows: &mut Vec<UserLimits>, limits: UserLimits) -> Result<(), NoMemory>
     ensures pushed { OnOk result (rows.new.items ≡ rows.old.items ++ limits ∷ []) }
     ensures unchanged_on_err { OnErr result (rows.new.items ≡ rows.old.items) }
@@ -76,7 +76,7 @@ fn push_limits(rows: &mut Vec<UserLimits>, limits: UserLimits) -> Result<(), NoM
     Ok(rows.push(limits)?)
 }
 
-/// The limits in the users' tables.
+/// Reads the limits in all users' tables.
 pub fn read_each_limits(alloc: Global, tables: &[Value]) -> Result<LimitsByUser, SettingsFault>
     requires { length tables.now < 2 ^ 32 }
     ensures limits { IfOk result (λ all. all ≡ map user_limits_in (map view tables.now)) }

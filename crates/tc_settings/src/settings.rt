@@ -1,4 +1,4 @@
-//! The settings of a server, read from a TOML text.
+//! Reads the settings of a server from a TOML text.
 ghost use Rattle.std.specs.Prelude.{◌≡◌, ◌<◌, ◌^◌, [], length, map, is_some, option_copied, IfOk, IsErrOf, IfErr, OnOk};
 ghost use Rattle.std.specs.Result.{result_err};
 ghost use Rattle.std.specs.List.{list_all};
@@ -23,17 +23,17 @@ use toml::Value;
 /// The settings of a server.
 #[derive(Drop)]
 pub struct Settings {
-    /// Where the server listens.
+    /// The address on which the server listens for clients.
     pub listen: Address,
-    /// How many threads serve connections, 1 to 64.
+    /// The number of workers, the threads that serve connections: 1 to 64.
     pub workers: usize,
-    /// How many entries a journal's page has, 16 to 65,536, which it has where the text says nothing.
+    /// The entries of a journal's page, 16 to 65,536. It is 65,536 if the text does not say.
     pub journal: usize,
     /// The limits on all connections.
     pub limits: ConnectionLimits,
-    /// Where the metrics are told, if they are.
+    /// The address at which the server offers its metrics, if it does.
     pub metrics: Option<Address>,
-    /// At least one user.
+    /// The users, at least one.
     pub users: Users,
     /// The limits on each user's connections.
     pub user_limits: LimitsByUser,
@@ -64,7 +64,7 @@ fn read_journal(table: &Value) -> Result<usize, SettingsFault>
     Err(SettingsFault::JournalRange { found })
 }
 
-/// Where the metrics are told.
+/// Reads the address of the metrics, if there is a `[metrics]` table.
 fn read_metrics(table: &Value) -> Result<Option<&str>, SettingsFault>
     ensures fault { result_err result ≡ metrics_fault_in (view table.now) }
     ensures text { IfOk result (λ text. option_copied text
@@ -76,7 +76,7 @@ fn read_metrics(table: &Value) -> Result<Option<&str>, SettingsFault>
     }
 }
 
-/// A copy of where the metrics are told.
+/// Copies the address of the metrics, if there is one.
 fn copy_metrics(alloc: Global, metrics: Option<&str>) -> Result<Option<Address>, NoMemory>
     ensures { IfOk result (λ copy. copy ≡ option_copied metrics.entry) }
 {
@@ -92,7 +92,7 @@ fn are_tables(values: &[Value]) -> bool
     values.iter().all(|value| value.is_table())
 }
 
-/// Whether there are users, each a table, and few enough to be numbered.
+/// Checks that there are users, that each is a table, and that 32 bits can number them.
 fn check_tables(tables: &[Value]) -> Result<(), SettingsFault>
     ensures fault { result_err result ≡ tables_fault (map view tables.now) }
     ensures few { OnOk result (length tables.now < 2 ^ 32) }
@@ -112,7 +112,7 @@ fn check_tables(tables: &[Value]) -> Result<(), SettingsFault>
     Ok(())
 }
 
-/// The users' tables.
+/// Returns the users' tables.
 fn read_tables(table: &Value) -> Result<&[Value], SettingsFault>
     ensures fault { result_err result ≡ tables_fault_in (view table.now) }
     ensures tables { IfOk result (λ tables. map view tables.now ≡ tables_in (view table.now)) }
@@ -133,7 +133,7 @@ fn read_tables(table: &Value) -> Result<&[Value], SettingsFault>
     }
 }
 
-/// The settings that a table holds.
+/// Reads the settings in a table.
 fn read_settings(alloc: Global, table: &Value) -> Result<Settings, SettingsFault>
     ensures settings { IfOk result (λ settings. settings ≡ settings_in (view table.now)) }
     ensures faultless { OnOk result (settings_fault (view table.now) ≡ None) }
@@ -159,8 +159,8 @@ fn read_settings(alloc: Global, table: &Value) -> Result<Settings, SettingsFault
 }
 
 impl Settings {
-    /// The settings that a TOML text holds, or the first fault in the order of the fields. Memory
-    /// is wanted for the table and the rows; where it is refused the fault says so.
+    /// Reads the settings in a TOML text, or returns the first fault in the order of the fields.
+    /// The table and the rows take memory; if it is refused, the fault is `NoMemory`.
     pub fn from_toml(alloc: Global, text: &str) -> Result<Settings, SettingsFault>
         ensures answer { IsAnswer (parse_document text.now) result }
         ensures sound { IfOk result AreSoundNumbers }

@@ -1,4 +1,4 @@
-//! The users' tables of a settings text.
+//! Reads the users' tables of a settings text.
 ghost use Rattle.std.specs.Prelude.{◌≡◌, ◌<◌, ◌+◌, ◌^◌, [], ◌∷◌, ◌++◌, length, map, option_copied, IfOk, IfErr, OnOk, OnErr};
 ghost use Rattle.std.specs.Result.{result_err};
 ghost use Rattle.toml.specs.View.{view};
@@ -82,7 +82,7 @@ fn copy_second(alloc: Global, second: Option<&str>) -> Result<Option<Text>, NoMe
     }
 }
 
-/// The row of a user's table that comes after these rows.
+/// Reads the table of the user who follows these rows.
 fn read_user(alloc: Global, before: &[UserSpec], table: &Value) -> Result<UserSpec, SettingsFault>
     requires { length before.now + 1 < 2 ^ 32 }
     ensures row { IfOk result (λ row. row ≡ row_in (view table.now)) }
@@ -105,7 +105,7 @@ fn read_user(alloc: Global, before: &[UserSpec], table: &Value) -> Result<UserSp
     })
 }
 
-/// The rows of the users' tables.
+/// Reads the rows of all users' tables.
 pub fn read_rows(alloc: Global, tables: &[Value]) -> Result<Vec<UserSpec>, SettingsFault>
     requires { length tables.now < 2 ^ 32 }
     ensures rows { IfOk result (λ rows. rows.items ≡ map row_in (map view tables.now)) }

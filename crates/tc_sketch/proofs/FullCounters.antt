@@ -1,8 +1,7 @@
 -- Hashes whose four counters no record raises.
-use Rattle.std.proofs.Common.{◌≡◌, ◌≢◌, ℕ, ◌+◌, ◌<◌, ◌≤◌, List, length, get_or, set, refl, sym, subst, inl, inr, arith}
-use Rattle.std.proofs.Common.{get_or-set_same, get_or-set_other}
-use Rattle.std.proofs.lemmas.Bool.{cases_eq, cases_lt}
-use Rattle.std.proofs.lemmas.List.{get_or_past, length-set}
+use Rattle.std.proofs.Common.{◌≡◌, ◌≢◌, ℕ, ◌+◌, ◌<◌, ◌≤◌, List, get_or, refl, sym, subst, inl, inr, arith}
+use Rattle.std.proofs.Common.{get_or-set_other}
+use Rattle.std.proofs.lemmas.Bool.{cases_lt}
 use Rattle.tc_sketch.specs.Sketch.{Sketch, place0, place1, place2, place3, raised, aged, recorded, freq}
 use Rattle.tc_sketch.specs.Steps.{AreSaturated, counted_in, one_more}
 use Rattle.tc_sketch.proofs.Packed.{raised-below, raised-full}
@@ -74,23 +73,6 @@ recorded_by_steps s h = refl
 pub saturated_one_more : (hashes : List ℕ) (s : Sketch) → AreSaturated hashes s → AreSaturated hashes (one_more s)
 unfolding freq
 saturated_one_more hashes s saturated = saturated
-
--- one that is found to be saturated is noted
-pub saturated_noted : (hashes : List ℕ) (s : Sketch) (at h : ℕ) → AreSaturated hashes s → 15 ≤ freq s h
-    → AreSaturated (set hashes at h) s
-saturated_noted hashes s at h saturated frequent k some = elim (cases_eq k at) [
-  | inl e ↦ elim (cases_lt at (length hashes)) [
-    | inl l ↦ rw (e, get_or-set_same hashes at h 0 l) frequent
-    | inr l ↦ absurd (none k e l some)
-  ]
-  | inr n ↦ kept n some
-]
-  where
-    none : (k : ℕ) → k ≡ at → length hashes ≤ at → 0 < get_or (set hashes at h) k 0 → ⊥
-    none k e l some = omega (arith, some, get_or_past (set hashes at h) k 0 (omega (arith, e, l, length-set hashes at h)))
-
-    kept : k ≢ at → 0 < get_or (set hashes at h) k 0 → 15 ≤ freq s (get_or (set hashes at h) k 0)
-    kept n some = rw (get_or-set_other hashes at k h 0 n) (saturated k (rw (← get_or-set_other hashes at k h 0 n) some))
 
 -- nothing is noted
 pub saturated_none : (hashes : List ℕ) (s : Sketch) → ((k : ℕ) → get_or hashes k 0 ≡ 0) → AreSaturated hashes s

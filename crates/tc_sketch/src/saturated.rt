@@ -1,21 +1,22 @@
 //! Hashes whose counters are saturated.
 //!
-//! A record raises no counter that holds 15. So where all four of a hash do, a record of it changes its sketch by
-//! the count alone, until the counters are halved. Most records are of few keys, and theirs are such: who finds a
-//! hash here need not read four places of memory.
+//! A record doesn't raise a counter of 15. If all four counters of a hash are at 15, a record
+//! changes only the number of records, until the counters are halved. Most records concern a few
+//! keys, whose counters are saturated. A hash found here saves reading four places in memory.
 ghost use Rattle.std.specs.Prelude.{◌≡◌, ℕ, ◌<◌, ◌≤◌, ◌^◌, true, slice_index, slice_set, IfOk};
 
 use std::alloc::Global;
 use std::marker::Model;
 use tc_item::NoMemory;
 
-/// The hash that stands where none was noted. It is never found.
+/// The value of a free place. It is never found as a hash.
 const BLANK: u64 = 0;
 
-/// A table has room for one hash for each 2^4 counters of a row, so it takes as much memory as a row.
+/// The table has a place of 8 bytes for each 2^4 counters of a row, so it takes as much memory as a
+/// row.
 const FEWER: u32 = 4;
 
-/// Hashes that were noted, each in the place of its lowest bits, where it took that of another.
+/// Remembered hashes, each in the place of its lowest bits, where it replaces an earlier one.
 #[derive(Drop)]
 pub(crate) struct Saturated {
     hashes: Vec<u64>,
@@ -30,7 +31,7 @@ impl Model for Saturated {
 }
 
 impl Saturated {
-    /// Room for the hashes of a sketch of this width, none of which was noted.
+    /// Makes an empty table for a sketch of this width. Fails if memory is refused.
     pub(crate) fn new(alloc: Global, width: u32) -> Result<Saturated, NoMemory>
         requires at_least { 8 ≤ width }
         requires at_most { width ≤ 22 }
@@ -41,12 +42,12 @@ impl Saturated {
         })
     }
 
-    /// The place of a hash.
+    /// Returns the place of a hash.
     fn place(&self, hash: u64) -> usize {
         hash as usize & self.hashes.len().wrapping_sub(1)
     }
 
-    /// Whether a hash was noted and is not forgotten.
+    /// Returns whether a hash is remembered.
     pub(crate) fn has(&self, hash: u64) -> bool
         ensures { result ≡ true → (0 < hash) × ((k : ℕ) × (slice_index self.now k ≡ hash)) }
     {
@@ -54,7 +55,7 @@ impl Saturated {
         at < self.hashes.len() && self.hashes[at] == hash && hash != BLANK
     }
 
-    /// Notes a hash, and forgets the one in whose place it stands.
+    /// Remembers a hash, and forgets the one in its place.
     pub(crate) fn note(&mut self, hash: u64)
         ensures { (k : ℕ) × (self.new ≡ slice_set self.old k hash) }
     {
@@ -64,7 +65,7 @@ impl Saturated {
         }
     }
 
-    /// Forgets all.
+    /// Forgets all hashes.
     pub(crate) fn clear(&mut self)
         ensures { (k : ℕ) → slice_index self.new k ≡ 0 }
     {

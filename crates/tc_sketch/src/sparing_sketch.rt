@@ -1,6 +1,6 @@
-//! The sketch that reads little: it knows hashes whose counters no record raises.
+//! A sketch that saves reads: it remembers hashes whose counters no record raises.
 //!
-//! Each call is that of `Sketch`, by the same equation.
+//! Each call has the contract of the same call of `Sketch`.
 ghost use Rattle.std.specs.Prelude.{◌≡◌, ◌≤◌, IfOk};
 ghost use Rattle.tc_sketch.specs.Sketch.{empty_sketch, aged, recorded, freq};
 ghost use Rattle.tc_sketch.specs.Steps.{counted_in, one_more};
@@ -13,7 +13,7 @@ use std::alloc::Global;
 use std::marker::Model;
 use tc_item::NoMemory;
 
-/// How often each hash was recorded of late, seen as a sketch.
+/// How often each hash was recorded lately. Contracts see it as a sketch.
 #[derive(Drop)]
 pub struct SparingSketch {
     sketch: Sketch,
@@ -33,7 +33,7 @@ impl Model for SparingSketch {
 }
 
 impl SparingSketch {
-    /// A sketch of 2^`width` counters a row, which has seen nothing.
+    /// Makes a sketch of 2^`width` counters a row, all 0. Fails if memory is refused.
     pub fn new(alloc: Global, width: u32) -> Result<SparingSketch, NoMemory>
         requires at_least { 8 ≤ width }
         requires at_most { width ≤ 22 }
@@ -44,7 +44,7 @@ impl SparingSketch {
         Ok(SparingSketch { sketch, saturated })
     }
 
-    /// Raises the four counters of a hash, or notes that none is to be raised.
+    /// Raises the four counters of a hash, or remembers the hash if all four are at 15.
     fn raise(&mut self, hash: u64)
         ensures { self.new ≡ counted_in hash self.old }
     {
@@ -55,7 +55,7 @@ impl SparingSketch {
         self.sketch.raise(hash);
     }
 
-    /// Counts a record, and halves all counters where that is due.
+    /// Counts a record, and halves all counters and forgets all saturated hashes if that is due.
     #[inline(always)]
     fn count_one(&mut self)
         ensures { self.new ≡ aged (one_more self.old) }
@@ -77,8 +77,8 @@ impl SparingSketch {
         self.count_one();
     }
 
-    /// Reads what a record of this hash writes, so that several wait for memory together. What that comes
-    /// to says nothing.
+    /// Prefetches what a record of this hash writes, so that several wait for memory together. The
+    /// result has no meaning.
     pub fn read(&self, hash: u64) -> u64 {
         if self.saturated.has(hash) {
             return 0;
@@ -86,7 +86,8 @@ impl SparingSketch {
         self.sketch.read(hash)
     }
 
-    /// How often a key with this hash was seen of late: the least of its four counters, 0 to 15.
+    /// Returns how often a key with this hash was seen lately: the least of its four counters, 0 to
+    /// 15.
     pub fn freq(&self, hash: u64) -> u8
         ensures value { result ≡ freq self.now hash }
         ensures at_most { result ≤ 15 }
@@ -94,7 +95,7 @@ impl SparingSketch {
         self.sketch.freq(hash)
     }
 
-    /// The sketch alone, of its own.
+    /// Copies the sketch alone. Fails if memory is refused.
     pub fn copy(&self) -> Result<Sketch, NoMemory>
         ensures { IfOk result (λ s. s ≡ self.now) }
     {

@@ -1,10 +1,11 @@
 //! The entries of one user's cache in numbered slots.
 //!
-//! `steps` are steps on index, entries, lists and wheel; `Slots` joins these four. `renewing` has other tables in use:
-//! new ones where all entries go, and smaller ones once they are mostly empty (`rebuilding` puts their entries into
-//! these). `Tables` are those that are done with, and `Aside` has them wait to be let go of.
+//! - `Slots` joins an index, entries, lists and a wheel. `steps` has the steps on these four.
+//! - `renewing` replaces all tables: by new ones if all entries go, and by smaller ones once they
+//!   are mostly empty. `rebuilding` fills these.
+//! - `Tables` are unused ones. `Aside` keeps them until they are freed, piece by piece.
 //!
-//! Nothing is said of time and of memory taken, nor that a call succeeds.
+//! No clause speaks of time or memory used, or says that a call succeeds.
 #![tactic(auto)]
 
 mod aside;

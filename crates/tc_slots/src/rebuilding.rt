@@ -1,4 +1,4 @@
-//! The same entries in tables that have room for few more.
+//! The same entries in tables with little spare room.
 ghost use Rattle.std.specs.Prelude.{◌≡◌, ◌<◌, ◌^◌, IfOk, OnOk};
 ghost use Rattle.tc_model.specs.Areas.{total};
 ghost use Rattle.tc_plain.specs.AreaLists.{areas_of};
@@ -13,7 +13,7 @@ use tc_item::NoMemory;
 use tc_plain::{Areas, Entry};
 use tc_slru::Area;
 
-/// Puts entries at the front of a list, in their order: the last first.
+/// Puts entries at the front of a list, in their order: the last one first.
 fn put_back(slots: &mut Slots, area: Area, mut entries: Vec<Entry>) -> Result<(), NoMemory>
     requires { Fit slots.old.limits entries.items slots.old.areas }
     ensures areas { OnOk result (slots.new.areas
@@ -27,7 +27,7 @@ fn put_back(slots: &mut Slots, area: Area, mut entries: Vec<Entry>) -> Result<()
     Ok(())
 }
 
-/// Puts all entries into tables that hold none.
+/// Puts all entries into empty tables.
 fn put_all_back(slots: &mut Slots, areas: Areas) -> Result<(), NoMemory>
     requires none { slots.old.areas ≡ no_entries }
     requires sound { AreSound slots.old.limits (areas_of areas) }
@@ -46,7 +46,8 @@ fn put_all_back(slots: &mut Slots, areas: Areas) -> Result<(), NoMemory>
 }
 
 impl Slots {
-    /// The same entries in tables of their own, which have room for few more, under the same limits.
+    /// Copies the entries into tables with little spare room, under the same limits. Fails if
+    /// memory is refused.
     pub(crate) fn rebuilt(&self, alloc: Global) -> Result<Slots, NoMemory>
         requires sound { AreSound self.now.limits self.now.areas }
         requires sum { total weight self.now.areas < 2 ^ 64 }

@@ -1,7 +1,7 @@
-//! Other tables in the place of those in use, which are set aside.
+//! Exchange of the tables in use for others. The old ones are set aside.
 //!
-//! What owns tables is written over by `mem::replace`, whose result a call lets go of: to let go of it in place is dear
-//! to prove (docs/STYLE.md, "What the gate may cost").
+//! `mem::replace` overwrites what owns tables, and a call drops its result: an assignment that
+//! drops in place costs more to prove (docs/STYLE.md, "What the gate may cost").
 ghost use Rattle.std.specs.Prelude.{◌≡◌, ◌<◌, ◌^◌, true, OnOk, OnErr};
 ghost use Rattle.tc_model.specs.Areas.{total};
 ghost use Rattle.tc_plain.specs.Entries.{weight};
@@ -14,7 +14,7 @@ use std::mem;
 use tc_item::NoMemory;
 
 impl Slots {
-    /// Has other tables in use, and sets those that were aside.
+    /// Puts other tables in use, and sets the old ones aside.
     fn exchange(&mut self, others: Slots)
         ensures { self.new ≡ others }
     {
@@ -22,7 +22,8 @@ impl Slots {
         old.set_aside(self);
     }
 
-    /// Has new tables in use, with room for one entry and the same limits. A refusal changes nothing.
+    /// Puts new tables in use, with room for one entry and the same limits. A refusal changes
+    /// nothing.
     pub(crate) fn begin_anew(&mut self) -> Result<(), NoMemory>
         ensures limits { self.new.limits ≡ self.old.limits }
         ensures areas { OnOk result (self.new.areas ≡ no_entries) }
@@ -35,7 +36,7 @@ impl Slots {
         Ok(())
     }
 
-    /// Has smaller tables with the same entries in use. A refusal changes nothing.
+    /// Puts smaller tables with the same entries in use. A refusal changes nothing.
     pub fn renew(&mut self) -> Result<(), NoMemory>
         requires sound { AreSound self.old.limits self.old.areas }
         requires sum { total weight self.old.areas < 2 ^ 64 }

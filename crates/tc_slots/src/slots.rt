@@ -1,23 +1,24 @@
-//! The entries of one user's cache, by slot: the entries, an index by tags of keys, the lists and the wheel.
+//! The entries of one user's cache, by slot: the entries, an index by tags of keys, the lists and
+//! the wheel.
 //!
-//! Terms: a slot is a number. It is filled with an entry and emptied again. The index has slots under
-//! the tags of their keys, the lists hold slots with what they weigh, front to back, and the wheel
-//! holds slots with a due.
+//! A slot is a number. It is filled with an entry and emptied again. The index has slots under the
+//! tags of their keys. The lists have slots with their weights, front to back. The wheel has slots
+//! with a due.
 //!
 //! What is always true (`AreSlots` in `specs/Held.antt`):
 //! 1. `agree`: no key is held twice, and entries, lists and wheel agree (`Agree` in
-//!    `specs/Agreement.antt`), which is to say:
-//!    1. `indexed`: where a key is, an entry of that key is held.
-//!    2. `found`: and in no other slot.
-//!    3. `listed`: a slot that holds an entry stands once in the lists, and every other nowhere.
+//!    `specs/Agreement.antt`):
+//!    1. `indexed`: the slot of a key holds an entry of that key.
+//!    2. `found`: and no other slot does.
+//!    3. `listed`: a slot that holds an entry is in the lists once, and every other slot in none.
 //!    4. `weighed`: each place in the lists has the weight of its entry.
-//!    5. `timed`: the wheel holds the slots whose entries have a due that a moment can reach, until
+//!    5. `timed`: the wheel has the slots whose entries have a due that a moment can reach, with
 //!       that due.
-//! 2. `tagged`: each slot that holds an entry stands in the index once, under the tag of its key, and
-//!    every other nowhere.
-//! 3. `within`: each slot that holds an entry has a place in the wheel.
+//! 2. `tagged`: the index has each slot that holds an entry once, under the tag of its key, and no
+//!    other slot.
+//! 3. `within`: the wheel has room for each slot that holds an entry.
 //!
-//! So what the lists stand for under a key is what is found under its tag.
+//! So the index finds what the lists hold under a key.
 ghost use Rattle.std.specs.Prelude.{◌≡◌, ℕ, true, IfOk, length, ◌+◌, ◌<◌, ◌≤◌, ◌^◌, Some, None, IsSome, OnOk, slice_index_or};
 ghost use Rattle.tc_model.specs.Areas.{total, accessed};
 ghost use Rattle.std.specs.Option.{option_copied};
@@ -47,23 +48,24 @@ use tc_plain::{Entry, Limits};
 use tc_slru::{Area, Lists};
 use tc_wheel::Wheel;
 
-/// Tables with places for so many slots are large: some 900 KiB.
+/// Tables with places for this many slots are large: some 900 KiB.
 const LARGE: usize = 4096;
 
-/// Tables are mostly empty where less than one in so many of their places holds an entry.
+/// Tables are mostly empty if less than one place in this many holds an entry.
 const SPARSE_OF: usize = 4;
 
-/// The index has a shard for so many bytes of main, which hold some 7,000 small entries, and 16,000 at most.
+/// How many bytes of main each shard of the index serves. They hold some 7,000 small entries, and
+/// 16,000 at most.
 const MAIN_OF_SHARD: u64 = 1 << 20;
 
-/// How many shards the index has, where main may hold so many bytes.
+/// Returns how many shards to ask for an index over `main` bytes.
 fn shards_for(main: u64) -> usize
     requires { main < 2 ^ 32 }
 {
     (main / MAIN_OF_SHARD) as usize
 }
 
-/// The entries of one partition.
+/// The entries of one user's cache.
 #[derive(Drop)]
 pub struct Slots {
     index: Index,
@@ -71,7 +73,7 @@ pub struct Slots {
     entries: Slab<Entry>,
     lists: Lists,
     wheel: Wheel,
-    /// Tables that wait to be let go of.
+    /// Tables that wait to be freed.
     aside: Aside,
 }
 
@@ -88,8 +90,8 @@ impl Model for Slots {
 }
 
 impl Slots {
-    /// No entries, with room for none, under these limits. Takes memory for the index's shards, and for the
-    /// marks of the lists and of the wheel.
+    /// Makes empty tables without room for entries, under these limits. It takes memory for the
+    /// index's shards, and for the marks of the lists and of the wheel.
     pub fn new(alloc: Global, hasher: RandomState, limits: Limits) -> Result<Slots, NoMemory>
         requires small { limits.main < 2 ^ 32 }
         ensures limits { IfOk result (λ s. s.limits ≡ limits) }
@@ -108,7 +110,7 @@ impl Slots {
         })
     }
 
-    /// No entries, with room for none, under the same limits, hashed as these are.
+    /// Makes empty tables without room for entries, with the same limits and hasher.
     fn fresh(&self, alloc: Global) -> Result<Slots, NoMemory>
         ensures limits { IfOk result (λ s. s.limits ≡ self.now.limits) }
         ensures areas { IfOk result (λ s. s.areas ≡ no_entries) }
@@ -126,7 +128,7 @@ impl Slots {
         })
     }
 
-    /// The same, with room for so many.
+    /// Makes empty tables with room for `count` entries, with the same limits and hasher.
     pub(crate) fn fresh_for(&self, alloc: Global, count: usize) -> Result<Slots, NoMemory>
         requires some { 0 < count }
         ensures limits { IfOk result (λ s. s.limits ≡ self.now.limits) }
@@ -138,25 +140,26 @@ impl Slots {
         Ok(fresh)
     }
 
-    /// Whether the tables have places for many slots, and few of these hold an entry.
+    /// Returns whether the tables are large and mostly empty.
     pub fn are_sparse(&self) -> bool {
         let places = self.wheel.slots();
         places >= LARGE && self.count() < places / SPARSE_OF
     }
 
-    /// The allocator of the tables.
+    /// Returns the allocator of the tables.
     pub fn allocator(&self) -> Global {
         self.index.allocator()
     }
 
-    /// Room to set tables aside.
+    /// Makes room to set tables aside.
     pub(crate) fn make_room_aside(&mut self) -> Result<(), NoMemory>
         ensures { self.new ≡ self.old }
     {
         self.aside.make_room()
     }
 
-    /// Sets the tables aside in `held`, in which none are, behind those that were set aside here.
+    /// Sets these tables aside in `held`, after those that were set aside here. `held` has none
+    /// aside.
     pub(crate) fn set_aside(self, held: &mut Slots)
         ensures { held.new ≡ held.old }
     {
@@ -172,7 +175,7 @@ impl Slots {
         held.aside.add(Tables::of(index, entries, lists, wheel));
     }
 
-    /// Room for so many more entries. A refusal changes nothing.
+    /// Makes room for `count` more entries. A refusal leaves the entries unchanged.
     fn make_entry_room(&mut self, count: usize) -> Result<(), NoMemory>
         requires { 0 < count }
         ensures room { OnOk result (self.new.has_room ≡ true) }
@@ -189,7 +192,7 @@ impl Slots {
         )
     }
 
-    /// Room for one more entry. A refusal changes nothing.
+    /// Makes room for one more entry. A refusal leaves the entries unchanged.
     pub fn make_room(&mut self) -> Result<(), NoMemory>
         ensures room { OnOk result (self.new.has_room ≡ true) }
         ensures areas { self.new.areas ≡ self.old.areas }
@@ -199,14 +202,15 @@ impl Slots {
         self.make_entry_room(1)
     }
 
-    /// Lets at most so many pieces go of tables that were set aside: entries, and then tables and shards.
+    /// Frees at most `most` pieces of tables that were set aside: first entries, after them tables
+    /// and shards.
     pub fn let_go(&mut self, most: usize)
         ensures { self.new ≡ self.old }
     {
         self.aside.let_go(most);
     }
 
-    /// The slot of what a key holds.
+    /// Returns the slot of what a key holds, from the index.
     #[inline(never)]
     pub fn find(&self, key: &Key) -> Option<Slot>
         ensures { FindsSlot result key.now self.now }
@@ -215,7 +219,7 @@ impl Slots {
         self.index.find(tag, |slot| is_of(&self.entries, slot, key))
     }
 
-    /// Whether a slot holds an entry of this key.
+    /// Returns whether a slot holds an entry of this key.
     fn is_of(&self, slot: Slot, key: &Key) -> bool
         ensures { result ≡ true → IsFound key.now slot.0 self.now }
     {
@@ -223,7 +227,8 @@ impl Slots {
         is_of(&self.entries, slot, key)
     }
 
-    /// The slot of what a key holds; the index is asked only where that isn't this one.
+    /// Returns the slot of what a key holds. It searches the index only if `slot` doesn't hold the
+    /// key.
     #[inline(always)]
     fn find_from(&self, slot: Slot, key: &Key) -> Option<Slot>
         ensures { FindsSlot result key.now self.now }
@@ -234,8 +239,8 @@ impl Slots {
         self.find(key)
     }
 
-    /// The slot of what a key holds, which was found at this place or holds nothing; the index is
-    /// asked only where that isn't this place any more.
+    /// Returns the slot of what a key holds, which was found in this slot or holds nothing. It
+    /// searches the index only if the slot doesn't hold the key any more.
     pub fn find_again(&self, place: Option<Slot>, key: &Key) -> Option<Slot>
         requires { place ≡ None → held key.now self.now.areas ≡ None }
         ensures { FindsSlot result key.now self.now }
@@ -247,15 +252,16 @@ impl Slots {
         }
     }
 
-    /// What a slot holds.
+    /// Returns what a slot holds.
     pub fn entry(&self, slot: Slot) -> Option<&Entry>
         ensures { option_copied result ≡ slice_index_or self.now.slots slot.0 None }
     {
         self.entries.get(slot.0)
     }
 
-    /// Reads the entry of a slot, which lies on two lines of memory: whether there is one on the first, and its
-    /// cas number on the second. What that comes to says nothing; so in the three below.
+    /// Prefetches the entry of a slot, which spans two cache lines: whether there is one is
+    /// on the first, and its cas number on the second. The result has no meaning, here and in
+    /// the next three.
     pub fn read_entry(&self, slot: Slot) -> u64 {
         match self.entries.get(slot.0) {
             Some(entry) => entry.item.cas,
@@ -263,7 +269,8 @@ impl Slots {
         }
     }
 
-    /// Reads the front of the data of what a slot holds, beside which its holders are counted.
+    /// Prefetches the front of the data of what a slot holds, which is next to the count of its
+    /// holders.
     pub fn read_data(&self, slot: Slot) -> u64 {
         let Some(entry) = self.entries.get(slot.0) else {
             return 0;
@@ -274,12 +281,12 @@ impl Slots {
         }
     }
 
-    /// Reads a slot's node in the lists.
+    /// Prefetches a slot's node in the lists.
     pub fn read_node(&self, slot: Slot) -> u64 {
         u64::from(self.lists.holds(slot))
     }
 
-    /// Reads what an access of what a slot holds changes of the lists beside its node: the nodes next to it.
+    /// Prefetches the nodes next to a slot's in the lists, which an access changes.
     pub fn read_links(&self, slot: Slot) -> u64 {
         if self.lists.holds(slot) {
             self.lists.read(slot)
@@ -288,7 +295,7 @@ impl Slots {
         }
     }
 
-    /// The key of what a slot holds; no bytes where it holds nothing.
+    /// Returns the key of what a slot holds; no bytes if it is empty.
     pub fn key_at(&self, slot: Slot) -> &[u8]
         ensures { result.now ≡ (entry_or (slice_index_or self.now.slots slot.0 None)).key }
     {
@@ -298,7 +305,7 @@ impl Slots {
         }
     }
 
-    /// What a slot holds is what its key holds.
+    /// Shows that what a slot holds is what its key holds.
     pub fn owning(&self)
         ensures { (n : ℕ) (e : Entry) → slice_index_or self.now.slots n None ≡ Some e
             → held e.key self.now.areas ≡ Some e }
@@ -306,7 +313,7 @@ impl Slots {
         let _ = &self.index;
     }
 
-    /// How many entries there are.
+    /// Returns how many entries there are.
     pub fn count(&self) -> usize
         ensures { result ≡ length (entries_of self.now.areas) }
     {
@@ -314,7 +321,7 @@ impl Slots {
         self.entries.len()
     }
 
-    /// What all entries weigh together.
+    /// Returns what all entries weigh together, in bytes.
     pub fn weigh(&self) -> u64
         requires { total weight self.now.areas < 2 ^ 64 }
         ensures { result ≡ total weight self.now.areas }
@@ -323,7 +330,7 @@ impl Slots {
         weights.window + weights.probation + weights.protected
     }
 
-    /// The most that one entry may weigh: what main may.
+    /// Returns the most that one entry may weigh, which is main's limit in bytes.
     pub fn heaviest(&self) -> u64
         ensures { result ≡ self.now.limits.main }
     {
@@ -331,7 +338,7 @@ impl Slots {
         self.lists.heaviest()
     }
 
-    /// Puts an entry at the front of a list, whose key holds nothing, and says in which slot.
+    /// Puts an entry at the front of a list and returns its slot. Its key holds nothing before.
     pub fn fill(&mut self, area: Area, entry: Entry) -> Slot
         requires room { self.old.has_room ≡ true }
         requires free { held entry.key self.old.areas ≡ None }
@@ -348,7 +355,7 @@ impl Slots {
         slot
     }
 
-    /// Puts an entry in the place of what its key holds in this slot: an access.
+    /// Replaces what the entry's key holds in this slot. It counts as an access.
     pub fn replace(&mut self, slot: Slot, entry: Entry)
         requires found { IsFound entry.key slot.0 self.old }
         requires light { weight entry ≤ self.old.limits.main }
@@ -366,7 +373,7 @@ impl Slots {
         time(&mut self.wheel, slot, due);
     }
 
-    /// An access of what a key holds in this slot, which has this due from now on.
+    /// Accesses what a key holds in this slot, and gives it this due.
     pub fn touch(&mut self, key: &Key, slot: Slot, due: Due)
         requires found { IsFound key.now slot.0 self.old }
         requires light { (e : Entry) → held key.now self.old.areas ≡ Some e
@@ -386,7 +393,7 @@ impl Slots {
         time(&mut self.wheel, slot, reached(due));
     }
 
-    /// An access of what a key holds in this slot.
+    /// Accesses what a key holds in this slot.
     pub fn access(&mut self, key: &Key, slot: Slot)
         requires found { IsFound key.now slot.0 self.old }
         requires light { (e : Entry) → held key.now self.old.areas ≡ Some e
@@ -403,7 +410,7 @@ impl Slots {
         self.lists.access(slot, weight);
     }
 
-    /// An access of what a slot holds.
+    /// Accesses what a slot holds.
     pub fn access_at(&mut self, slot: Slot)
         requires held { IsSome (slice_index_or self.old.slots slot.0 None) }
         requires light { (e : Entry) → slice_index_or self.old.slots slot.0 None ≡ Some e

@@ -1,4 +1,4 @@
-//! Steps on index, entries, lists and wheel, each of which is told what it needs of the others.
+//! Steps on index, entries, lists and wheel. Each takes what it needs of the others as arguments.
 ghost use Rattle.std.specs.Prelude.{◌≡◌, ℕ, true, IfOk, OnOk, IsSome, length, option_to_list, ◌++◌, ◌∷◌, [], ◌+◌, ◌<◌, ◌≤◌, Some, None};
 ghost use Rattle.std.specs.Option.{option_copied};
 ghost use Rattle.tc_index.specs.Tags.{stands};
@@ -21,26 +21,26 @@ use tc_sketch::SparingSketch;
 use tc_slru::Lists;
 use tc_wheel::Wheel;
 
-/// How many entries a copy reads at once, ahead of copying them.
+/// How many entries a copy prefetches together.
 const AHEAD: usize = 16;
 
-/// Tables get places for so many slots at least.
+/// Tables get places for at least this many slots.
 const FEWEST: usize = 16;
 
 /// Tables with places for fewer slots double when they grow.
 const FEW: usize = 4096;
 
-/// All others grow by one place for so many that they have.
+/// All others grow by this part of their places: an eighth.
 const PART: usize = 8;
 
-/// The tag of a key: the upper half of its keyed hash.
+/// Returns the tag of a key: the upper half of its keyed hash.
 pub fn key_tag(hasher: &RandomState, key: &Key) -> Tag
     ensures { result.0 ≡ tag_of hasher.now key.now }
 {
     Tag((hasher.hash_one(key) >> 32) as u32)
 }
 
-/// Whether a slot holds an entry of this key.
+/// Returns whether a slot holds an entry of this key.
 #[inline(always)]
 pub fn is_of(entries: &Slab<Entry>, slot: Slot, key: &Key) -> bool
     ensures { result ≡ is_of key.now (slab_get entries.now slot.0) }
@@ -51,7 +51,7 @@ pub fn is_of(entries: &Slab<Entry>, slot: Slot, key: &Key) -> bool
     }
 }
 
-/// Puts an entry into a free slot, and the slot under the tag of its key.
+/// Puts an entry into a free slot, and the slot under the tag of its key. Returns the slot.
 pub fn take_in(
     index: &mut Index,
     hasher: &RandomState,
@@ -70,7 +70,7 @@ pub fn take_in(
     slot
 }
 
-/// Takes a slot's entry out, and the slot from under the tag of its key.
+/// Removes a slot's entry, and the slot from under the tag of its key.
 pub fn vacate(index: &mut Index, hasher: &RandomState, entries: &mut Slab<Entry>, slot: Slot)
     requires held { IsSome (slab_get entries.old slot.0) }
     requires stands { (e : Entry) → slab_get entries.old slot.0 ≡ Some e
@@ -86,7 +86,7 @@ pub fn vacate(index: &mut Index, hasher: &RandomState, entries: &mut Slab<Entry>
     }
 }
 
-/// The moment of a due that a moment can reach.
+/// Returns the moment of a due, if a moment can reach it.
 pub fn reached(due: Due) -> Option<Moment>
     ensures { result ≡ due_by due }
 {
@@ -102,14 +102,14 @@ pub fn reached(due: Due) -> Option<Moment>
     }
 }
 
-/// The moment of an entry's due, if a moment can reach it.
+/// Returns the moment of an entry's due, if a moment can reach it.
 pub fn reached_by(entry: &Entry) -> Option<Moment>
     ensures { result ≡ due_by entry.now.item.due }
 {
     reached(entry.item.due.get())
 }
 
-/// Holds a slot in the wheel until its due, if it has one.
+/// Puts a slot into the wheel until its due, if it has one.
 pub fn time(wheel: &mut Wheel, slot: Slot, due: Option<Moment>)
     requires reserved { slot.0 < length wheel.old.dues }
     requires free { due_at wheel.old.dues slot.0 ≡ None }
@@ -121,7 +121,7 @@ pub fn time(wheel: &mut Wheel, slot: Slot, due: Option<Moment>)
     }
 }
 
-/// How often the key of what a slot holds was seen of late.
+/// Returns how often the key of what a slot holds was seen lately, 0 to 15.
 pub fn frequency(entries: &Slab<Entry>, sketch: &SparingSketch, slot: Slot) -> u8
     ensures { result ≡ seen_by sketch.now (slab_get entries.now) slot.0 }
 {
@@ -132,7 +132,7 @@ pub fn frequency(entries: &Slab<Entry>, sketch: &SparingSketch, slot: Slot) -> u
     sketch.freq(hash)
 }
 
-/// The next slot that settle drops, out of the lists alone.
+/// Removes the next slot that settle drops from the lists alone, and returns it.
 pub fn drop_next(lists: &mut Lists, entries: &Slab<Entry>, sketch: &SparingSketch) -> Option<Slot>
     ensures kept { lists.new ≡ record lists.old { areas = lists.new.areas } }
     ensures next { DropsNext result (seen_by sketch.now
@@ -141,7 +141,7 @@ pub fn drop_next(lists: &mut Lists, entries: &Slab<Entry>, sketch: &SparingSketc
     lists.settle_step(|slot| frequency(entries, sketch, slot))
 }
 
-/// How many more places tables with so many get when they are full.
+/// Returns how many more places full tables with `places` get.
 fn more_places(places: usize) -> usize {
     if places < FEW {
         places.max(FEWEST)
@@ -150,7 +150,7 @@ fn more_places(places: usize) -> usize {
     }
 }
 
-/// Slots for so many more entries.
+/// Makes slots for `count` more entries.
 fn add_slots(entries: &mut Slab<Entry>, count: usize) -> Result<(), NoMemory>
     ensures slots { entries.new.slots ≡ entries.old.slots }
     ensures room { OnOk result (HasRoomFor entries.new count) }
@@ -161,7 +161,7 @@ fn add_slots(entries: &mut Slab<Entry>, count: usize) -> Result<(), NoMemory>
     Ok(())
 }
 
-/// Room for so many more entries.
+/// Makes room for `count` more entries in all four tables. Fails if memory is refused.
 pub fn grow(
     index: &mut Index,
     entries: &mut Slab<Entry>,
@@ -186,7 +186,7 @@ pub fn grow(
     Ok(())
 }
 
-/// Puts an entry into a slot in the place of the one that it holds.
+/// Replaces the entry of a slot.
 pub fn put(entries: &mut Slab<Entry>, slot: Slot, entry: Entry)
     requires { IsSome (slab_get entries.old slot.0) }
     ensures entries { (n : ℕ) → slab_get entries.new n
@@ -213,7 +213,7 @@ pub fn put_due(entries: &mut Slab<Entry>, slot: Slot, due: Due)
     }
 }
 
-/// What a slot's entry weighs.
+/// Returns what a slot's entry weighs, in bytes; 0 if it is empty.
 pub fn weight_at(entries: &Slab<Entry>, slot: Slot) -> u64
     ensures { (e : Entry) → slab_get entries.now slot.0 ≡ Some e → result ≡ weight e }
 {
@@ -223,7 +223,7 @@ pub fn weight_at(entries: &Slab<Entry>, slot: Slot) -> u64
     }
 }
 
-/// Adds a copy of what a slot holds, over the same data.
+/// Appends a copy of what a slot holds. It shares the data. Fails if memory is refused.
 pub fn add_copy(
     alloc: Global,
     entries: &Slab<Entry>,
@@ -239,9 +239,9 @@ pub fn add_copy(
     Ok(())
 }
 
-/// Reads what the next slots from a place on hold, and does nothing with it. To copy an entry is to
-/// wait for its memory, and then for its data's, whose holders are counted by an atomic that no
-/// later read overtakes.
+/// Prefetches the entries of the next slots from a place on. Copying an entry waits for its memory
+/// and after that for its data's: an atomic counts the data's holders, and no later read overtakes
+/// it.
 fn prefetch(entries: &Slab<Entry>, slots: &[Slot], from: usize) {
     let mut sum: u64 = 0;
     for place in from..from.saturating_add(AHEAD) {
@@ -252,7 +252,7 @@ fn prefetch(entries: &Slab<Entry>, slots: &[Slot], from: usize) {
     have_read(sum);
 }
 
-/// The entries of slots, in order, over the same data.
+/// Copies the entries of slots, in order. The copies share their data. Fails if memory is refused.
 pub fn copy_at(alloc: Global, entries: &Slab<Entry>, slots: &[Slot]) -> Result<Vec<Entry>, NoMemory>
     ensures { IfOk result (λ copied. copied.items ≡ entries_at (slab_get entries.now) slots.now) }
 {

@@ -1,4 +1,4 @@
-//! Tables that are done with.
+//! Unused tables, freed in pieces.
 use slab::{IntoIter, Slab};
 use std::alloc::Global;
 use std::vec;
@@ -7,16 +7,16 @@ use tc_plain::Entry;
 use tc_slru::Lists;
 use tc_wheel::Wheel;
 
-/// The most bytes that a place takes in one of the tables.
+/// The most bytes that one place takes in any of the tables.
 const PLACE: u64 = 72;
 
-/// The bytes that a shard of the index takes from its start.
+/// The bytes that a shard of the index takes from the start.
 const SHARD: u64 = 450;
 
-/// Small shards of the index go together, so many bytes of them.
+/// Small shards of the index are freed together, up to about this many bytes.
 const SMALL: u64 = 8_192;
 
-/// Tables that are in use no more, each of which may be some 60 MiB.
+/// Tables that are out of use, each of up to some 60 MiB.
 #[derive(Drop)]
 pub struct Tables {
     /// The entries that are left, by their slots.
@@ -25,16 +25,16 @@ pub struct Tables {
     wheel: Option<Wheel>,
     /// The shards of the index that are left.
     shards: vec::IntoIter<Shard, Global>,
-    /// How many bytes lists and wheel take at most, each of them.
+    /// The most bytes that the lists take, and the most that the wheel takes.
     weight: u64,
-    /// How many shards go in one piece.
+    /// How many shards make one piece.
     together: u64,
-    /// How many bytes these take, about.
+    /// About how many bytes these take.
     shards_weight: u64,
 }
 
 impl Tables {
-    /// These tables.
+    /// Takes over tables that are out of use.
     pub fn of(index: Index, entries: Slab<Entry>, lists: Lists, wheel: Wheel) -> Tables {
         let places = wheel.slots() as u64;
         let weight = places.saturating_mul(PLACE);
@@ -53,18 +53,18 @@ impl Tables {
         }
     }
 
-    /// Takes out the entry in the lowest slot.
+    /// Takes the entry of the lowest slot out.
     fn take(&mut self) -> Option<Entry> {
         let (_, entry) = self.entries.as_mut()?.next()?;
         Some(entry)
     }
 
-    /// Gives the memory of one table back, and says whether there was one.
+    /// Frees one table, and returns whether there was one.
     fn shed(&mut self) -> bool {
         self.entries.take().is_some() || self.lists.take().is_some() || self.wheel.take().is_some()
     }
 
-    /// Gives the memory of the next shard back, or of some small ones, and says what they weighed, if any was left.
+    /// Frees the next shard, or several small ones. Returns their weight in bytes, if any was left.
     fn shed_shards(&mut self) -> Option<u64> {
         drop(self.shards.next()?);
         for _ in 1..self.together {
@@ -73,8 +73,8 @@ impl Tables {
         Some(self.shards_weight)
     }
 
-    /// Lets one piece go, if any is left, and says what it weighed: an entry, or a table once no entry is left, and
-    /// the index by its shards.
+    /// Frees one piece, and returns its weight in bytes, if any is left. A piece is an entry, or
+    /// once none is left a table, and last some shards of the index.
     pub fn let_piece_go(&mut self) -> Option<u64> {
         match self.take() {
             Some(entry) => Some(entry.weight()),

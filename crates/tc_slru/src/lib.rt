@@ -1,19 +1,22 @@
-//! The lists of one partition's items, by slot: window, probation and protected under access and settle.
+//! The lists of one user's items, by slot: window, probation and protected under access and settle.
 //!
-//! `Lists` meets the areas of `tc_model/specs/Areas.antt`, of slots: `access` is `accessed`, and
-//! `settle_step`, called until it gives nothing, is `settle`. Callers see limits, reserved slots
-//! and three lists of slots with their weights, front to back (`specs/SlotLists.antt`). The contracts are
-//! the equations of that file. Only `new`, `reserve` and `slots_in` take memory. `clear` and `reserve` go
-//! over nodes and `slots_in` over a list; every other call is, settle's victims and protected's demotions
-//! apart, a fixed number of steps.
+//! `Lists` meets `specs/Areas.antt` of tc_model, over slots: `access` is `accessed`, and
+//! `settle_step`, called until it returns none, is `settle`. Contracts see limits, reserved slots
+//! and three lists of slots with their weights, front to back. The contracts are the equations of
+//! `specs/SlotLists.antt`.
 //!
-//! How many steps a settle can take: each demotion, entry and drop is a fixed number. A candidate
-//! is compared once with its k victims, in one walk from main's tail, which ends at the first that
-//! was seen as often: at most k comparisons. Where they reach into protected, protected's last go to
-//! probation's front before the candidate enters, so that it stands before them all; they then go as
-//! what main is too heavy by, and no walk is made again.
+//! Only `new`, `fresh`, `reserve` and `slots_in` take memory. `clear` and `reserve` take time in
+//! the number of nodes, and `slots_in` in the length of its list. All other calls take constant
+//! time, except for settle's victims and protected's demotions.
 //!
-//! Nothing is said of how often a closure is asked, nor of a closure that answers two ways for one slot.
+//! In a settle each demotion, entry and drop takes constant time. A candidate with k victims costs
+//! at most k comparisons, in one walk from main's tail that stops at the first item seen as often.
+//! If the victims reach into protected, protected's last items first go to probation's front, so
+//! that the candidate enters in front of them all. They are dropped as main's excess, without a
+//! second walk.
+//!
+//! No clause says how often a closure is called, or covers a closure that answers differently for
+//! one slot.
 #![tactic(auto)]
 
 mod area;

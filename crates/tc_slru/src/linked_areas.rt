@@ -1,16 +1,16 @@
 //! Three lists of slots in one ring of nodes.
 //!
-//! Terms: a node is a number. 0, 1 and 2 are the marks of window, probation and protected, and slot n
-//! is node n + 3. A list's front stands behind its mark, and its last before the next mark, so no list
-//! is ever empty in the ring and no call has a case for one.
+//! A node is a number. Nodes 0, 1 and 2 are the marks of window, probation and protected, and slot
+//! n is node n + 3. A list's front is behind its mark, and its last before the next mark. So no
+//! list is ever empty in the ring, and no call has a case for an empty one.
 //!
 //! What is always true (`AreNodes` in `specs/Kept.antt`):
-//! 1. `ring`: mark 0, the window's nodes, mark 1, probation's nodes, mark 2, protected's nodes and mark 0
-//!    again are linked in this order, both ways, and no node stands there twice.
-//! 2. `window`, `probation`, `protected`: a list's size says how many nodes stand in it and what they
-//!    weigh; each of them is a slot's, and this list is noted at it.
-//! 3. `free`: at the node of every other slot no list is noted.
-//! 4. `weights_long`, `areas_long`: each node has a place for its weight and its list.
+//! 1. `ring`: links lead, both ways, from mark 0 through the window's nodes, mark 1, probation's
+//!    nodes, mark 2 and protected's nodes back to mark 0. No node occurs twice.
+//! 2. `window`, `probation`, `protected`: a list's size has the number of its nodes and their
+//!    weight. Each is the node of a slot whose note names this list.
+//! 3. `free`: the note of every other slot names no list.
+//! 4. `weights_long`, `areas_long`: each node has a weight and a list or none.
 ghost use Rattle.std.specs.Prelude.{◌≡◌, ℕ, reverse, ◌+◌, ◌-◌, ◌<◌, ◌≤◌, ◌^◌, true, false, length, max, slice_index, is_ok, IfOk};
 ghost use Rattle.std.specs.Prelude.{map, OnErr, sum_by, if◌then◌else◌};
 ghost use Rattle.tc_model.specs.Areas.{total};
@@ -27,14 +27,14 @@ use std::marker::Model;
 use tc_item::{NoMemory, Slot};
 use tc_ring::Ring;
 
-/// A slot of a list, and what it weighs.
+/// A slot of a list, and its weight in bytes.
 #[derive(Clone, Copy)]
 pub struct Listed {
     pub slot: Slot,
     pub weight: u32,
 }
 
-/// The node before a list.
+/// Returns the mark before a list.
 pub(crate) fn mark_of(area: Area) -> usize
     ensures { result ≡ mark_of area }
 {
@@ -45,7 +45,7 @@ pub(crate) fn mark_of(area: Area) -> usize
     }
 }
 
-/// The node behind a list.
+/// Returns the mark behind a list.
 fn end_of(area: Area) -> usize
     ensures { result ≡ end_of area }
 {
@@ -56,7 +56,7 @@ fn end_of(area: Area) -> usize
     }
 }
 
-/// Counts one that moved from a list to another, maybe its own, and may weigh something else since.
+/// Counts a slot that moved from one list to another or the same, and may have changed its weight.
 fn count_moved(sizes: &mut Sizes, from: Area, was: u32, to: Area, weight: u32)
     requires count { 0 < (size_in from sizes.old).count }
     requires weight { was ≤ (size_in from sizes.old).weight }
@@ -71,7 +71,7 @@ fn count_moved(sizes: &mut Sizes, from: Area, was: u32, to: Area, weight: u32)
     sizes.enter(to, weight as u64);
 }
 
-/// Window, probation and protected. What each holds and weighs is kept, not added up.
+/// Window, probation and protected, with the size of each.
 #[derive(Drop)]
 pub struct LinkedAreas {
     nodes: Nodes,
@@ -91,7 +91,7 @@ impl Model for LinkedAreas {
 }
 
 impl LinkedAreas {
-    /// Empty lists, with room for no slot.
+    /// Makes empty lists without room for slots.
     pub fn new(alloc: Global) -> Result<LinkedAreas, NoMemory>
         ensures { IfOk result (λ l. l ≡ record { slots = 0; areas = no_areas }) }
     {
@@ -102,7 +102,7 @@ impl LinkedAreas {
         })
     }
 
-    /// Room for all slots below this. A refusal changes nothing.
+    /// Makes room for all slots below this number. A refusal changes nothing.
     pub fn reserve(&mut self, slots: usize) -> Result<(), NoMemory>
         ensures reserved { self.new
             ≡ (if is_ok result then with_room slots self.old else self.old) }
@@ -111,7 +111,7 @@ impl LinkedAreas {
         self.nodes.reserve(slots, SlotNote::NONE)
     }
 
-    /// Takes all slots out of their lists. The room stays.
+    /// Removes all slots. The room stays.
     pub fn clear(&mut self)
         ensures { self.new ≡ record self.old { areas = no_areas } }
     {
@@ -119,14 +119,14 @@ impl LinkedAreas {
         self.sizes = Sizes::NONE;
     }
 
-    /// How many slots have room.
+    /// Returns how many slots have room.
     pub fn slots(&self) -> usize
         ensures { result ≡ self.now.slots }
     {
         self.nodes.slots()
     }
 
-    /// Reads what a move of a held slot writes. What that comes to says nothing.
+    /// Prefetches what a move of a held slot writes. The result has no meaning.
     pub fn read(&self, slot: Slot) -> u64
         requires { holds slot.0 self.now.areas ≡ true }
     {
@@ -134,7 +134,7 @@ impl LinkedAreas {
         self.nodes.read(at)
     }
 
-    /// Whether the slot stands in a list.
+    /// Returns whether the slot is in a list.
     pub fn holds(&self, slot: Slot) -> bool
         ensures { result ≡ holds slot.0 self.now.areas }
     {
@@ -145,7 +145,7 @@ impl LinkedAreas {
         self.nodes.node(at).note.area.is_some()
     }
 
-    /// How many each list holds and what they weigh.
+    /// Returns how many slots each list holds, and their weight.
     pub fn sizes(&self) -> Sizes
         ensures window { IsSize result.window self.now.areas.window }
         ensures probation { IsSize result.probation self.now.areas.probation }
@@ -171,7 +171,7 @@ impl LinkedAreas {
         self.sizes.enter(area, weight as u64);
     }
 
-    /// Takes a slot out of its list, which it gives.
+    /// Removes a slot from its list, and returns the list.
     pub fn take(&mut self, slot: Slot) -> Area
         requires { holds slot.0 self.old.areas ≡ true }
         ensures taken { self.new ≡ taken_out slot.0 self.old }
@@ -191,7 +191,7 @@ impl LinkedAreas {
         area
     }
 
-    /// The list that a held slot stands in.
+    /// Returns the list that a held slot is in.
     pub fn area_of(&self, slot: Slot) -> Area
         requires { holds slot.0 self.now.areas ≡ true }
         ensures { result ≡ area_of slot.0 self.now.areas }
@@ -200,7 +200,7 @@ impl LinkedAreas {
         self.nodes.node(at).note.area.unwrap()
     }
 
-    /// What a held slot weighs.
+    /// Returns what a held slot weighs, in bytes.
     pub fn weight_of(&self, slot: Slot) -> u32
         requires { holds slot.0 self.now.areas ≡ true }
         ensures { result + total weigh (without_slot slot.0 self.now.areas)
@@ -210,7 +210,7 @@ impl LinkedAreas {
         self.nodes.node(at).note.weight
     }
 
-    /// Moves a slot to the front of a list, maybe its own.
+    /// Moves a slot to the front of a list, which may be its own.
     #[inline(always)]
     pub fn move_to(&mut self, area: Area, held: Listed)
         requires held { holds held.slot.0 self.old.areas ≡ true }
@@ -231,7 +231,7 @@ impl LinkedAreas {
         count_moved(&mut self.sizes, from, node.note.weight, area, held.weight);
     }
 
-    /// The last of a list.
+    /// Returns the last slot of a list.
     pub fn last(&self, area: Area) -> Listed
         requires { 0 < length (list_in area self.now.areas) }
         ensures { IsLast (placed result.slot.0 result.weight) area self.now.areas }
@@ -244,8 +244,8 @@ impl LinkedAreas {
         }
     }
 
-    /// What is left of a need once the last of a list are counted, as few as there must be; `None`
-    /// where one of them was not seen less often than `level`.
+    /// Returns how much of `need` is left after the fewest last slots of a list that cover it; none
+    /// if one of them was seen `level` times or more.
     pub fn shortfall<F>(&self, area: Area, freq: &F, level: u8, mut need: u64) -> Option<u64>
     where
         F: Fn(Slot) -> u8,
@@ -268,7 +268,7 @@ impl LinkedAreas {
         Some(need)
     }
 
-    /// The slots of a list, front to back.
+    /// Returns the slots of a list, front to back. Fails if memory is refused.
     pub fn slots_in(&self, alloc: Global, area: Area) -> Result<Vec<Slot>, NoMemory>
         ensures { IfOk result (λ slots. slots.items
             ≡ map slot_of (list_in area self.now.areas)) }

@@ -13,7 +13,7 @@ use std::alloc::Global;
 use std::marker::Model;
 use tc_item::{NoMemory, Slot};
 
-/// What each area weighs.
+/// What each area weighs, in bytes.
 #[derive(Clone, Copy, PartialEq, Eq)]
 pub struct Weights {
     pub window: u64,
@@ -21,7 +21,7 @@ pub struct Weights {
     pub protected: u64,
 }
 
-/// The window, probation and protected of one partition, as lists of slots.
+/// The window, probation and protected of one user, as lists of slots.
 #[derive(Drop)]
 pub struct Lists {
     limits: AreaLimits,
@@ -41,8 +41,8 @@ impl Model for Lists {
 }
 
 impl Lists {
-    /// Empty lists with room for no slot: the window may weigh `window`, probation and protected
-    /// together `main`, and protected alone `protected`. Takes memory for its marks.
+    /// Makes empty lists without room for slots. The window may weigh `window` bytes, probation and
+    /// protected together `main`, and protected alone `protected`. It takes memory for three marks.
     pub fn new(alloc: Global, window: u64, main: u64, protected: u64) -> Result<Lists, NoMemory>
         requires { main < 2 ^ 32 }
         ensures { IfOk result (λ l. l ≡ fresh window main protected) }
@@ -58,7 +58,8 @@ impl Lists {
         })
     }
 
-    /// Empty lists under the same limits, with room for no slot. Takes memory for its marks.
+    /// Makes empty lists under the same limits, without room for slots. It takes memory for three
+    /// marks.
     pub fn fresh(&self, alloc: Global) -> Result<Lists, NoMemory>
         ensures { IfOk result (λ l. l ≡ fresh self.now.limits.window self.now.limits.main
             self.now.limits.protected) }
@@ -71,7 +72,7 @@ impl Lists {
         Lists::new(alloc, window, main, protected)
     }
 
-    /// Room for all slots below `slots`; never less than there was. A refusal changes nothing.
+    /// Makes room for all slots below `slots`; it never shrinks. A refusal changes nothing.
     pub fn reserve(&mut self, slots: usize) -> Result<(), NoMemory>
         ensures reserved { self.new
             ≡ (if is_ok result then reserved slots self.old else self.old) }
@@ -80,43 +81,43 @@ impl Lists {
         self.areas.reserve(slots)
     }
 
-    /// Takes all slots out of their lists. Limits and room stay.
+    /// Removes all slots. Limits and room stay.
     pub fn clear(&mut self)
         ensures { self.new ≡ cleared self.old }
     {
         self.areas.clear();
     }
 
-    /// How many slots have room: all below this number.
+    /// Returns how many slots have room: all below this number.
     pub fn slots(&self) -> usize
         ensures { result ≡ self.now.slots }
     {
         self.areas.slots()
     }
 
-    /// The most that one item may weigh: what main may.
+    /// Returns the most that one item may weigh, which is main's limit in bytes.
     pub fn heaviest(&self) -> u64
         ensures { result ≡ self.now.limits.main }
     {
         self.limits.main
     }
 
-    /// Reads what an access of a held slot writes, so that several wait for memory together. What that comes
-    /// to says nothing.
+    /// Prefetches what an access of a held slot writes, so that several wait for memory together.
+    /// The result has no meaning.
     pub fn read(&self, slot: Slot) -> u64
         requires { holds slot.0 self.now.areas ≡ true }
     {
         self.areas.read(slot)
     }
 
-    /// Whether the slot stands in one of the lists.
+    /// Returns whether the slot is in one of the lists.
     pub fn holds(&self, slot: Slot) -> bool
         ensures { result ≡ holds slot.0 self.now.areas }
     {
         self.areas.holds(slot)
     }
 
-    /// What each area weighs, kept and not added up.
+    /// Returns what each area weighs, in constant time.
     pub fn weights(&self) -> Weights
         ensures { result ≡ weights_of self.now.areas }
     {
@@ -128,7 +129,7 @@ impl Lists {
         }
     }
 
-    /// What a held slot weighs.
+    /// Returns what a held slot weighs, in bytes.
     pub fn weight_of(&self, slot: Slot) -> u64
         requires { holds slot.0 self.now.areas ≡ true }
         ensures { result + total weigh (without_slot slot.0 self.now.areas)
@@ -137,7 +138,7 @@ impl Lists {
         u64::from(self.areas.weight_of(slot))
     }
 
-    /// The slots of a list, front to back.
+    /// Returns the slots of a list, front to back. Fails if memory is refused.
     pub fn slots_in(&self, alloc: Global, area: Area) -> Result<Vec<Slot>, NoMemory>
         ensures { IfOk result (λ slots. slots.items
             ≡ map slot_of (list_in area self.now.areas)) }
@@ -145,7 +146,7 @@ impl Lists {
         self.areas.slots_in(alloc, area)
     }
 
-    /// Puts a slot that is not held at the front of a list.
+    /// Puts a slot that is in no list at the front of one.
     pub fn push(&mut self, area: Area, slot: Slot, weight: u64)
         requires reserved { slot.0 < self.old.slots }
         requires free { holds slot.0 self.old.areas ≡ false }
@@ -156,7 +157,7 @@ impl Lists {
         self.areas.put(area, slot, weight as u32);
     }
 
-    /// Takes a held slot out of its list.
+    /// Removes a held slot from its list.
     pub fn remove(&mut self, slot: Slot)
         requires { holds slot.0 self.old.areas ≡ true }
         ensures { self.new ≡ removed slot.0 self.old }
@@ -164,8 +165,8 @@ impl Lists {
         let _area = self.areas.take(slot);
     }
 
-    /// An access: the slot weighs `weight` from now on, and goes to the front of its list, from
-    /// probation to the front of protected, which is then held to its limit.
+    /// Accesses a held slot, which gets the weight `weight`. It goes to the front of its list, or
+    /// from probation to the front of protected, which is then held to its limit.
     #[inline(always)]
     pub fn access(&mut self, slot: Slot, weight: u64)
         requires held { holds slot.0 self.old.areas ≡ true }
@@ -179,8 +180,8 @@ impl Lists {
         hold_protected(&mut self.areas, self.limits.protected);
     }
 
-    /// The next slot that settle drops, dropped, or `None` where nothing is left to drop. `freq`
-    /// gives how often a slot was seen.
+    /// Drops the next slot that settle drops, and returns it; none once nothing is left to drop.
+    /// `freq` returns how often a slot was seen.
     pub fn settle_step<F: Fn(Slot) -> u8>(&mut self, freq: F) -> Option<Slot>
         requires { F.IsAlwaysCallable freq }
         ensures kept { self.new ≡ record self.old { areas = self.new.areas } }

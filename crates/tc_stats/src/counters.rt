@@ -7,32 +7,32 @@ use std::alloc::Global;
 use std::marker::Model;
 use tc_item::NoMemory;
 
-/// A user's counters, in the order of the rows of `stats` (doc/protocol.txt, "Statistics"). Each is
-/// a count that stops at 2^64-1, but for `curr_items`, `bytes`, `limit_maxbytes` and `item_size_max`,
-/// which the cache sets to what it holds and may hold.
+/// A user's counters, in the order of the rows of `stats` (doc/protocol.txt, "Statistics"). Counts
+/// stop at 2^64-1. The cache sets `curr_items`, `bytes`, `limit_maxbytes` and `item_size_max` to
+/// what it holds and may hold.
 #[derive(Clone, Copy, Debug, Default, PartialEq, Eq)]
 pub struct Counters {
-    /// Items held.
+    /// The number of items held.
     pub curr_items: u64,
     /// Storage commands that stored.
     pub total_items: u64,
-    /// What the items held weigh, in bytes.
+    /// The weight of all items held, in bytes.
     pub bytes: u64,
-    /// Keys asked by `get`, `gets`, `gat` and `gats`.
+    /// Keys that `get`, `gets`, `gat` and `gats` asked for.
     pub cmd_get: u64,
-    /// Storage commands, whatever they came to.
+    /// Storage commands, whatever their outcome.
     pub cmd_set: u64,
     /// `flush_all` commands.
     pub cmd_flush: u64,
-    /// Keys asked by `touch`, `gat` and `gats`.
+    /// Keys that `touch`, `gat` and `gats` asked for.
     pub cmd_touch: u64,
     /// Keys found by `get`, `gets`, `gat` and `gats`.
     pub get_hits: u64,
-    /// Keys not found by them.
+    /// Keys that these did not find.
     pub get_misses: u64,
     /// `delete` commands that found nothing.
     pub delete_misses: u64,
-    /// `delete` commands that took an item out.
+    /// `delete` commands that removed an item.
     pub delete_hits: u64,
     /// `incr` commands that found nothing.
     pub incr_misses: u64,
@@ -50,19 +50,19 @@ pub struct Counters {
     pub cas_badval: u64,
     /// Keys found by `touch`, `gat` and `gats`.
     pub touch_hits: u64,
-    /// Keys not found by them.
+    /// Keys that these did not find.
     pub touch_misses: u64,
-    /// Items that the policy dropped.
+    /// Items that the eviction policy dropped.
     pub evictions: u64,
     /// The partition's budget, in bytes.
     pub limit_maxbytes: u64,
-    /// The most data bytes that a storage command stores.
+    /// The most data of an item, in bytes.
     pub item_size_max: u64,
-    /// Storage commands that were too large for the cache.
+    /// Storage commands whose item was too large for the cache.
     pub store_too_large: u64,
 }
 
-/// Counters in a box of their own, since an outcome that carries them is rare.
+/// Boxed counters, so that the rare outcome that carries them makes no other outcome larger.
 #[derive(Drop)]
 pub struct Statistics {
     counters: Box<Counters>,
@@ -77,7 +77,7 @@ impl Model for Statistics {
 }
 
 impl Statistics {
-    /// These counters.
+    /// Puts counters in a box.
     pub fn new(alloc: Global, counters: Counters) -> Result<Statistics, NoMemory>
         ensures { IfOk result (λ statistics. statistics ≡ counters) }
     {
@@ -85,21 +85,21 @@ impl Statistics {
         Ok(Statistics { counters })
     }
 
-    /// The counters.
+    /// Returns the counters.
     pub fn counters(&self) -> &Counters
         ensures { result.now ≡ self.now }
     {
         &self.counters
     }
 
-    /// Puts other counters in their place.
+    /// Replaces the counters.
     pub fn set(&mut self, counters: Counters)
         ensures { self.new ≡ counters }
     {
         *self.counters = counters;
     }
 
-    /// The same counters in another box.
+    /// Copies the counters to another box.
     pub fn copy(&self, alloc: Global) -> Result<Statistics, NoMemory>
         ensures { IfOk result (λ statistics. statistics ≡ self.now) }
     {

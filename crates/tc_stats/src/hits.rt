@@ -1,4 +1,4 @@
-//! What a look-up found: hits, in the order asked.
+//! Hits: what a look-up found, in the order asked.
 ghost use Rattle.std.specs.Prelude.{◌≡◌, IfOk};
 
 use std::alloc::Global;
@@ -7,18 +7,18 @@ use tc_item::{Blob, Few, Key, NoMemory, TryCopy};
 /// An item as a look-up shows it.
 #[derive(PartialEq, Eq, Drop)]
 pub struct Hit {
-    /// The key asked.
+    /// The key that was asked for.
     pub key: Key,
-    /// The flags that the client stored beside the data.
+    /// The number that the client stored with the data.
     pub flags: u32,
-    /// The data.
+    /// The data, shared with the cache.
     pub blob: Blob,
     /// The item's cas number.
     pub cas: u64,
 }
 
 impl Hit {
-    /// The same hit, over the same data.
+    /// Returns an equal hit that shares the data.
     pub fn copy(&self, alloc: Global) -> Result<Hit, NoMemory>
         ensures { IfOk result (λ hit. hit ≡ self.now) }
     {
@@ -37,5 +37,5 @@ impl TryCopy for Hit {
     }
 }
 
-/// Hits in the order asked. Most look-ups ask one key, and the hit of one key takes no list.
+/// Hits in the order asked. Most look-ups ask for one key, and a single hit takes no list.
 pub type Hits = Few<Hit>;

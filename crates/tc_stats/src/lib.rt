@@ -1,7 +1,9 @@
-//! What a command comes to, and a user's counters.
+//! The outcome of a command, and a user's counters.
 //!
-//! An `Outcome` is plain data: `Hits` is seen as the list of its hits, `Statistics` as its counters.
-//! Each copy equals what it copies; a refused copy is want of memory and changes nothing.
+//! Contracts see an `Outcome` as plain data, `Hits` as the list of its hits, and `Statistics` as
+//! its counters. `Counters::note` raises what `specs/UserCounters.antt` defines, and
+//! `Counters::render` writes the rows of `specs/StatsRows.antt`. Each copy equals its original;
+//! copying fails only for lack of memory, and changes nothing.
 #![tactic(auto)]
 
 mod counters;

@@ -1,4 +1,4 @@
-//! How commands and what they come to raise a user's counters.
+//! How commands and their outcomes raise a user's counters.
 ghost use Rattle.std.specs.Prelude.{◌≡◌};
 ghost use Rattle.tc_stats.specs.UserCounters.{no_counts, more, noted_store, noted_cas, noted_by_kind, hit_count, noted_get};
 ghost use Rattle.tc_stats.specs.UserCounters.{noted_touch, noted_touched, noted_delete, noted_count, noted};
@@ -6,14 +6,14 @@ ghost use Rattle.tc_stats.specs.UserCounters.{noted_touch, noted_touched, noted_
 use crate::{Counters, Outcome};
 use tc_grammar::{Command, StoreKind, Way};
 
-/// Raises a count, which stops at 2^64-1.
+/// Adds to a count, which stops at 2^64-1.
 fn raise(count: &mut u64, by: u64)
     ensures { count.new ≡ more count.old by }
 {
     *count = count.saturating_add(by);
 }
 
-/// How many hits a look-up showed.
+/// Returns the number of hits of an outcome; 0 if it is no look-up's.
 fn hit_count(outcome: &Outcome) -> u64
     ensures { result ≡ hit_count outcome.now }
 {
@@ -24,14 +24,15 @@ fn hit_count(outcome: &Outcome) -> u64
 }
 
 impl Counters {
-    /// All counters at 0.
+    /// Returns all counters at 0.
     pub fn new() -> Counters
         ensures { result ≡ no_counts }
     {
         Counters::default()
     }
 
-    /// Counts a command that came to this outcome. What the cache sets, and its evictions, stay.
+    /// Counts a command that ended in this outcome. Evictions and the four counters that the cache
+    /// sets are unchanged.
     pub fn note(&mut self, command: &Command, outcome: &Outcome)
         ensures { self.new ≡ noted command.now outcome.now self.old }
     {
@@ -56,7 +57,7 @@ impl Counters {
         }
     }
 
-    /// Counts a storage command of one of the six names.
+    /// Counts a storage command of this kind.
     fn note_by_kind(&mut self, kind: StoreKind, outcome: &Outcome)
         ensures { self.new ≡ noted_by_kind kind outcome.now self.old }
     {
@@ -66,7 +67,7 @@ impl Counters {
         }
     }
 
-    /// Counts a storage command.
+    /// Counts what all storage commands count.
     fn note_store(&mut self, outcome: &Outcome)
         ensures { self.new ≡ noted_store outcome.now self.old }
     {
@@ -78,7 +79,7 @@ impl Counters {
         }
     }
 
-    /// Counts what is counted of `cas` alone.
+    /// Counts what `cas` alone counts.
     fn note_cas(&mut self, outcome: &Outcome)
         ensures { self.new ≡ noted_cas outcome.now self.old }
     {
@@ -90,7 +91,7 @@ impl Counters {
         }
     }
 
-    /// Counts the keys that a look-up asked, and those of them that it found.
+    /// Counts the keys that a look-up asked for and those that it found.
     fn note_get(&mut self, asked: u64, hits: u64)
         ensures { self.new ≡ noted_get asked hits self.old }
     {
@@ -99,7 +100,7 @@ impl Counters {
         raise(&mut self.get_misses, asked.saturating_sub(hits));
     }
 
-    /// Counts the keys that are to have a new due, and those of them that were found.
+    /// Counts the keys that should get a new due and those that were found.
     fn note_touch(&mut self, asked: u64, hits: u64)
         ensures { self.new ≡ noted_touch asked hits self.old }
     {

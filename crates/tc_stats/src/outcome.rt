@@ -1,45 +1,45 @@
-//! What a command comes to.
+//! The outcome of a command.
 ghost use Rattle.std.specs.Prelude.{◌≡◌, IfOk, IsTrue, ◌↔◌};
 
 use crate::{Hits, Statistics};
 use std::alloc::Global;
 use tc_item::NoMemory;
 
-/// What a command comes to in a user's cache (doc/protocol.txt).
+/// The outcome of a command in a user's cache (doc/protocol.txt).
 #[derive(PartialEq, Eq, Drop)]
 pub enum Outcome {
     /// The data was stored.
     Stored,
-    /// The condition of `add`, `replace`, `append` or `prepend` was not met.
+    /// `add`, `replace`, `append` or `prepend` did not store, since its condition was not met.
     NotStored,
     /// `cas` found another cas number.
     Exists,
-    /// No item is held under the key.
+    /// The cache holds no item under the key.
     NotFound,
-    /// The item was taken out.
+    /// The item was removed.
     Deleted,
     /// The item has its new due.
     Touched,
-    /// The number that the data is now.
+    /// The data is this number after the count.
     Number(u64),
     /// The hits of a look-up, in the order asked.
     Values(Hits),
-    /// Done, with nothing to show.
+    /// The command was done and has nothing to show.
     Done,
     /// The user's counters.
     Stats(Statistics),
-    /// The server's version is asked for.
+    /// The server's version was asked for.
     Version,
-    /// The item is too large for the cache.
+    /// The item would be too large for the cache.
     TooLarge,
-    /// The data of the item is no number.
+    /// The item's data is no number.
     NotNumeric,
-    /// The user's cas numbers are used up.
+    /// The last cas number of the user is taken.
     CasWorn,
 }
 
 impl Outcome {
-    /// The same outcome, over the same data.
+    /// Returns an equal outcome. Hits share their data, and counters get a box of their own.
     pub fn copy(&self, alloc: Global) -> Result<Outcome, NoMemory>
         ensures { IfOk result (λ outcome. outcome ≡ self.now) }
     {
@@ -61,7 +61,7 @@ impl Outcome {
         }
     }
 
-    /// Whether two outcomes are the same: `==`, with a contract that says so.
+    /// Whether two outcomes are equal: `==` with a contract that says so.
     pub fn is(&self, other: &Outcome) -> bool
         ensures same { IsTrue result ↔ (self.now ≡ other.now) }
     {

@@ -11,10 +11,10 @@ use tc_item::NoMemory;
 /// The server's version.
 pub const VERSION: &str = "1.0.0-partcached";
 
-/// The most bytes of all rows.
+/// The most bytes that all rows take.
 pub const MOST_BYTES: usize = 1_063;
 
-/// Puts bytes at the end, for which there is room.
+/// Appends bytes, for which there must be room.
 fn write(out: &mut Vec<u8>, text: &[u8])
     requires { vec_len out.old + length text.now ≤ vec_capacity out.old }
     ensures items { out.new.items ≡ out.old.items ++ text.now }
@@ -24,7 +24,7 @@ fn write(out: &mut Vec<u8>, text: &[u8])
     let _ = out.extend_from_slice(text);
 }
 
-/// Puts a row at the end, for which there is room.
+/// Appends a row, for which there must be room.
 #[tactic(auto, unfolding(crate::specs::StatsRows::row_of))]
 fn write_row(out: &mut Vec<u8>, name: &str, value: &str)
     requires { vec_len out.old + (length name.now + length value.now + 8) ≤ vec_capacity out.old }
@@ -39,7 +39,7 @@ fn write_row(out: &mut Vec<u8>, name: &str, value: &str)
     write(out, b"\r\n");
 }
 
-/// Puts a number's row at the end, for which there is room.
+/// Appends a number's row, for which there must be room: 43 bytes for a name of up to 15.
 fn write_number(out: &mut Vec<u8>, name: &str, number: u64)
     requires room { vec_len out.old + 43 ≤ vec_capacity out.old }
     requires short { length name.now ≤ 15 }
@@ -51,7 +51,7 @@ fn write_number(out: &mut Vec<u8>, name: &str, number: u64)
     write_row(out, name, buffer.format(number));
 }
 
-/// Puts the rows of numbers with short names at the end, for which there is room.
+/// Appends numbers' rows with names of up to 15 bytes. There must be room for 43 bytes a row.
 fn write_numbers(out: &mut Vec<u8>, rows: &[(&str, u64)])
     requires room { vec_len out.old + 43 * length rows.now ≤ vec_capacity out.old }
     requires short { IsTrue (list_all (λ r. nat_le (length r.0.now) 15) rows.now) }
@@ -65,7 +65,7 @@ fn write_numbers(out: &mut Vec<u8>, rows: &[(&str, u64)])
 }
 
 impl Counters {
-    /// The counters under their names, in the order of the rows.
+    /// Returns the counters with their names, in the order of the rows.
     fn rows(&self) -> [(&'static str, u64); 24]
         ensures rows { map (λ r. (r.0.now, r.1)) result ≡ named_numbers self.now }
         ensures short { IsTrue (list_all (λ r. nat_le (length r.0.now) 15) result) }
@@ -98,8 +98,8 @@ impl Counters {
         ]
     }
 
-    /// Appends the rows of `stats`, without the END that a reply has behind them. Where memory is
-    /// refused, `out` is as it was.
+    /// Appends the rows of `stats` without the END that a reply has behind them. If memory is
+    /// refused, `out` is unchanged; that happens only if it has less than `MOST_BYTES` of room.
     #[tactic(auto, unfolding(crate::specs::StatsRows::stats_rows))]
     pub fn render(&self, out: &mut Vec<u8>) -> Result<(), NoMemory>
         ensures rows { OnOk result (out.new.items ≡ out.old.items ++ stats_rows self.now) }

@@ -1,6 +1,6 @@
-//! How long names and tokens may be. `specs/Bounds.antt` has the numbers for contracts.
+//! The longest names and tokens. `specs/Bounds.antt` has the numbers for contracts.
 
-/// The most bytes of a name.
+/// The most bytes of a user's name.
 pub const LONGEST_NAME: usize = 64;
 
 /// The most bytes of a token.

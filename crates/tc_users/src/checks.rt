@@ -1,4 +1,4 @@
-//! The checks of a user's row, field by field.
+//! The checks of a user's row, field by field. `Err` has the row's first fault.
 ghost use Rattle.std.specs.Prelude.{◌≡◌, ◌<◌, ◌+◌, ◌^◌, ◌∷◌, [], not, length, position, option_map, IfSome, pos};
 ghost use Rattle.std.specs.Result.{result_err};
 ghost use Rattle.std.specs.Str.{bytes_eq};
@@ -22,7 +22,7 @@ fn is_token_byte(byte: u8) -> bool
     byte >= 33 && byte <= 126
 }
 
-/// The place of the first byte that no name has.
+/// Returns the index of the first byte that no name may have.
 fn find_bad_name_byte(name: &[u8]) -> Option<usize>
     ensures place { result ≡ position (λ b. not (is_name_byte b)) name.now }
     ensures within { IfSome result (λ place. place < length name.now) }
@@ -30,7 +30,7 @@ fn find_bad_name_byte(name: &[u8]) -> Option<usize>
     name.iter().position(|b| !is_name_byte(*b))
 }
 
-/// The place of the first byte that no token has.
+/// Returns the index of the first byte that no token may have.
 fn find_bad_token_byte(token: &[u8]) -> Option<usize>
     ensures place { result ≡ position (λ b. not (is_token_byte b)) token.now }
     ensures within { IfSome result (λ place. place < length token.now) }
@@ -38,7 +38,7 @@ fn find_bad_token_byte(token: &[u8]) -> Option<usize>
     token.iter().position(|b| !is_token_byte(*b))
 }
 
-/// Why bytes are no 1 to `most` good ones, where the first bad one is known.
+/// Returns why bytes are not 1 to `most` good ones. `bad` is the index of the first bad byte.
 fn find_text_fault(bytes: &[u8], most: usize, bad: Option<usize>) -> Option<TextFault>
     requires { IfSome bad (λ place. place < length bytes.now) }
     ensures { result ≡ text_fault most bad bytes.now }
@@ -55,7 +55,7 @@ fn find_text_fault(bytes: &[u8], most: usize, bad: Option<usize>) -> Option<Text
     Some(TextFault::BadByte { place, byte })
 }
 
-/// Whether a user's name is one.
+/// Checks a user's name: 1 to 64 bytes of ASCII letters, digits, `_`, `-` and `.`.
 pub fn check_name(user: u32, name: &[u8]) -> Result<(), SettingsFault>
     ensures { result_err result ≡ name_fault user name.now }
 {
@@ -65,7 +65,7 @@ pub fn check_name(user: u32, name: &[u8]) -> Result<(), SettingsFault>
     }
 }
 
-/// Whether a token in this field is one.
+/// Checks a token, which this field has: 1 to 128 bytes, each 33 to 126.
 pub fn check_token(field: Field, token: &[u8]) -> Result<(), SettingsFault>
     ensures { result_err result ≡ token_fault field token.now }
 {
@@ -75,7 +75,7 @@ pub fn check_token(field: Field, token: &[u8]) -> Result<(), SettingsFault>
     }
 }
 
-/// Whether a user's budget is in its range.
+/// Checks a user's budget: 65,536 to 2^30 bytes.
 pub fn check_budget(user: u32, found: i128) -> Result<(), SettingsFault>
     ensures { result_err result ≡ budget_fault user found }
 {
@@ -85,7 +85,7 @@ pub fn check_budget(user: u32, found: i128) -> Result<(), SettingsFault>
     Err(SettingsFault::BudgetRange { user, found })
 }
 
-/// Whether a second token is a token, and not the first.
+/// Checks that a second token is a token and differs from the first.
 pub fn check_other_token(user: u32, token: &[u8], second: &[u8]) -> Result<(), SettingsFault>
     ensures { result_err result ≡ second_fault user token.now (Some second.now) }
 {
@@ -96,7 +96,7 @@ pub fn check_other_token(user: u32, token: &[u8], second: &[u8]) -> Result<(), S
     Ok(())
 }
 
-/// Whether a user's second token, where there is one, is another token.
+/// Checks a user's second token, if there is one.
 fn check_second(user: u32, token: &[u8], second: &Option<Text>) -> Result<(), SettingsFault>
     ensures { result_err result ≡ second_fault user token.now second.now }
 {
@@ -106,7 +106,7 @@ fn check_second(user: u32, token: &[u8], second: &Option<Text>) -> Result<(), Se
     }
 }
 
-/// Whether a user's largest item is in its range.
+/// Checks the most data of a user's items: 1 to 1,048,576 bytes.
 pub fn check_largest(user: u32, found: i128) -> Result<(), SettingsFault>
     ensures { result_err result ≡ largest_fault user found }
 {
@@ -116,21 +116,21 @@ pub fn check_largest(user: u32, found: i128) -> Result<(), SettingsFault>
     Err(SettingsFault::LargestRange { user, found })
 }
 
-/// Whether this many bytes are a largest item.
+/// Checks the most data of a user's items, given as 64 bits.
 pub fn check_largest_item(user: u32, largest: u64) -> Result<(), SettingsFault>
     ensures { result_err result ≡ largest_fault user (pos largest) }
 {
     check_largest(user, i128::from(largest))
 }
 
-/// The place of the first row of this name.
+/// Returns the index of the first row with this name.
 fn find_name(rows: &[UserSpec], name: &[u8]) -> Option<usize>
     ensures { result ≡ position (λ other. bytes_eq other.name name.now) rows.now }
 {
     rows.iter().position(|row| row.name.as_bytes() == name)
 }
 
-/// Whether no user before has the name.
+/// Checks that no earlier user has the name.
 pub fn check_own_name(before: &[UserSpec], name: &[u8]) -> Result<(), SettingsFault>
     requires { length before.now + 1 < 2 ^ 32 }
     ensures { result_err result ≡ same_name_fault before.now name.now }
@@ -144,7 +144,7 @@ pub fn check_own_name(before: &[UserSpec], name: &[u8]) -> Result<(), SettingsFa
     }
 }
 
-/// Whether a user's row is good by itself.
+/// Checks a user's row, apart from other rows.
 fn check_row(user: u32, row: &UserSpec) -> Result<(), SettingsFault>
     ensures { result_err result ≡ row_fault user row.now }
 {
@@ -155,7 +155,7 @@ fn check_row(user: u32, row: &UserSpec) -> Result<(), SettingsFault>
     check_largest_item(user, row.largest)
 }
 
-/// Whether the row that comes after these is good.
+/// Checks the row that follows these.
 pub fn check_user(before: &[UserSpec], row: &UserSpec) -> Result<(), SettingsFault>
     requires { length before.now + 1 < 2 ^ 32 }
     ensures { result_err result ≡ user_fault before.now row.now }
@@ -164,7 +164,7 @@ pub fn check_user(before: &[UserSpec], row: &UserSpec) -> Result<(), SettingsFau
     check_own_name(before, row.name.as_bytes())
 }
 
-/// Whether all rows are good.
+/// Checks all rows. `Err` has the first fault of the first bad row.
 pub fn check_rows(rows: &[UserSpec]) -> Result<(), SettingsFault>
     requires { length rows.now < 2 ^ 32 }
     ensures { result_err result ≡ fault_after [] rows.now }

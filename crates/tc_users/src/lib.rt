@@ -1,10 +1,12 @@
-//! The users of a server, who a login's data is, and why settings are refused.
+//! The users of a server, whom a login's data belongs to, and why settings are refused.
 //!
-//! A user's row is plain data; a `Text` is seen as its bytes, a `UserNo` as its number, `Users` as
-//! the list of the rows, whose users are numbered from 1 in that order. `Users::build` takes rows
-//! that have no fault, else gives the first one (`specs/Faults.antt`); `Users::login` is the first
-//! row that the data opens (`specs/Login.antt`). A `SettingsFault` is what is wrong with rows, or with
-//! a settings text, which `tc_settings` reads. No clause says the words of faults.
+//! Contracts see a user's row as plain data, a `Text` as its bytes, and a `UserNo` as its number.
+//! They see `Users` as the list of rows, whose users are numbered from 1 in that order.
+//!
+//! `Users::build` takes rows that have no fault, and otherwise returns the first one
+//! (`specs/Faults.antt`). `Users::login` returns the user of the first row that the data opens
+//! (`specs/Login.antt`). A `SettingsFault` says what is wrong with rows, or with a settings text,
+//! which `tc_settings` reads. No clause has the words of faults.
 #![tactic(auto)]
 
 mod bounds;

@@ -1,12 +1,12 @@
-//! The fields that limit connections.
+//! The fields of the settings that limit connections.
 ghost use Rattle.std.specs.Prelude.{◌≡◌};
 ghost use Rattle.tc_users.specs.Fields.{limit_key, limit_number};
 
 use crate::Field;
 use std::fmt;
 
-/// A field that limits connections; a user's field with the user's number. It is a whole number, 1 at
-/// least.
+/// A field that limits connections: a whole number, at least 1. A user's field has the user's
+/// number.
 #[derive(Clone, Copy, Debug, PartialEq, Eq)]
 pub enum Limit {
     LoginSeconds,
@@ -24,7 +24,7 @@ impl fmt::Display for Limit {
 }
 
 impl Limit {
-    /// The field's name in the text.
+    /// Returns the field's name in the settings.
     pub fn key(&self) -> &'static str
         ensures { result.now ≡ limit_key self.now }
     {
@@ -37,7 +37,7 @@ impl Limit {
         }
     }
 
-    /// The number of the fault where it is out of its range.
+    /// Returns the number of the fault that the field is out of its range, 14 to 18.
     pub(crate) fn fault_number(&self) -> u8
         ensures { result ≡ limit_number self.now }
     {
@@ -50,7 +50,7 @@ impl Limit {
         }
     }
 
-    /// The number of the user whose field it is.
+    /// Returns the user whose field it is, if it is a user's.
     pub(crate) fn user(&self) -> Option<u32> {
         match self {
             Limit::LoginSeconds | Limit::StalledSeconds | Limit::UnboundConnections => None,
@@ -58,7 +58,7 @@ impl Limit {
         }
     }
 
-    /// What stands in the field, in an operator's words.
+    /// Says in an operator's words what the field may hold.
     pub(crate) fn wanted(&self) -> &'static str {
         match self {
             Limit::LoginSeconds | Limit::StalledSeconds | Limit::IdleSeconds(_) => {

@@ -9,14 +9,14 @@ use std::fmt;
 use tc_item::NoMemory;
 use thiserror::Error;
 
-/// A field of the settings; a user's field with the user's number.
+/// A field of the settings. A user's field has the user's number.
 #[derive(Clone, Copy, Debug, PartialEq, Eq)]
 pub enum Field {
     Listen,
     Workers,
     Journal,
     Metrics,
-    /// Where the metrics are told, in their table.
+    /// `listen` in the `[metrics]` table.
     MetricsListen,
     Users,
     Name(u32),
@@ -38,7 +38,7 @@ impl fmt::Display for Field {
 }
 
 impl Field {
-    /// The field's name in the text.
+    /// Returns the field's name in the settings.
     pub fn key(&self) -> &'static str
         ensures { result.now ≡ key_of self.now }
     {
@@ -58,7 +58,7 @@ impl Field {
         }
     }
 
-    /// The number of the user whose field it is.
+    /// Returns the user whose field it is, if it is a user's.
     fn user(&self) -> Option<u32> {
         match self {
             Field::Listen
@@ -76,7 +76,7 @@ impl Field {
         }
     }
 
-    /// What stands in the field, in an operator's words.
+    /// Says in an operator's words what the field may hold.
     fn wanted(&self) -> &'static str {
         match self {
             Field::Listen => "an address and a port in quotes, as \"127.0.0.1:11211\"",
@@ -96,7 +96,7 @@ impl Field {
     }
 }
 
-/// What stands where a field of another kind is wanted.
+/// What a field holds if it is missing or of the wrong type.
 #[derive(Clone, Copy, Debug, PartialEq, Eq)]
 pub enum Found {
     Nothing,
@@ -130,7 +130,7 @@ impl fmt::Display for Found {
 pub enum TextFault {
     Empty,
     TooLong { length: usize },
-    /// The place counts from 0.
+    /// `place` counts from 0.
     BadByte { place: usize, byte: u8 },
 }
 
@@ -192,7 +192,7 @@ impl From<NoMemory> for SettingsFault {
 }
 
 impl SettingsFault {
-    /// The fault's number.
+    /// Returns the fault's number, 1 to 18.
     pub fn number(&self) -> u8
         ensures { result ≡ fault_number self.now }
     {

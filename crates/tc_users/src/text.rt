@@ -1,4 +1,4 @@
-//! Bytes that a user is known by.
+//! Names and tokens.
 ghost use Rattle.std.specs.Prelude.{◌≡◌, IfOk};
 
 use std::alloc::Global;
@@ -20,21 +20,21 @@ impl Model for Text {
 }
 
 impl Text {
-    /// These bytes, which are not copied.
+    /// Takes over the bytes without copying them.
     pub fn new(bytes: Vec<u8>) -> Text
         ensures { result ≡ bytes.items }
     {
         Text { bytes }
     }
 
-    /// A copy of these bytes.
+    /// Copies the bytes.
     pub fn copy(alloc: Global, bytes: &[u8]) -> Result<Text, NoMemory>
         ensures { IfOk result (λ text. text ≡ bytes.now) }
     {
         Ok(Text::new(Vec::from_slice(alloc, bytes)?))
     }
 
-    /// The bytes.
+    /// Returns the bytes.
     pub fn as_bytes(&self) -> &[u8]
         ensures { result.now ≡ self.now }
     {

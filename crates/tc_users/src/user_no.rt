@@ -3,7 +3,7 @@ ghost use Rattle.std.specs.Prelude.{◌≡◌, ◌≤◌, ◌<◌, ◌+◌, ◌^
 
 use std::marker::Model;
 
-/// The number of a user, from 1 in the order of the table.
+/// The number of a user: the row's position in the table, from 1.
 #[derive(Clone, Copy, Debug, PartialEq, Eq)]
 pub struct UserNo {
     number: u32,
@@ -20,14 +20,14 @@ impl Model for UserNo {
 }
 
 impl UserNo {
-    /// The user of this number; 0 is no user's.
+    /// Returns the user of this number. No user has the number 0.
     pub fn new(number: u32) -> UserNo
         ensures { result ≡ number }
     {
         UserNo { number }
     }
 
-    /// The number.
+    /// Returns the number.
     pub fn number(self) -> u32
         ensures { result ≡ self }
     {

@@ -22,15 +22,15 @@ pub struct UserSpec {
     pub name: Text,
     /// 1 to 128 bytes, each 33 to 126.
     pub token: Text,
-    /// A second token, where the user has one.
+    /// A second token, if the user has one.
     pub second: Option<Text>,
     /// The partition's budget in bytes, 65,536 to 2^30.
     pub budget: u64,
-    /// The most data bytes that a storage command stores, 1 to 1,048,576.
+    /// The most data of an item that a storage command may store, in bytes: 1 to 1,048,576.
     pub largest: u64,
 }
 
-/// One more row, behind the others.
+/// Appends a row. If memory is refused, the rows are unchanged.
 pub fn push_row(rows: &mut Vec<UserSpec>, row: UserSpec) -> Result<(), NoMemory>
     ensures pushed { OnOk result (rows.new.items ≡ rows.old.items ++ row ∷ []) }
     ensures unchanged_on_err { OnErr result (rows.new.items ≡ rows.old.items) }
@@ -38,7 +38,7 @@ pub fn push_row(rows: &mut Vec<UserSpec>, row: UserSpec) -> Result<(), NoMemory>
     Ok(rows.push(row)?)
 }
 
-/// The users of a server, numbered from 1.
+/// The table of a server's users, numbered from 1. No row has a fault.
 #[derive(Drop)]
 pub struct Users {
     rows: Vec<UserSpec>,
@@ -70,7 +70,7 @@ fn is_login(name: &[u8], token: &[u8], text: &[u8]) -> bool
     &text[..n] == name && &text[n + 1..] == token
 }
 
-/// Whether the data is the name, one space and the second token, where there is one.
+/// Whether the data is this name, one space and the second token, if there is one.
 fn is_second_login(name: &[u8], second: &Option<Text>, text: &[u8]) -> bool
     ensures { result ≡ opens_second name.now second.now text.now }
 {
@@ -81,7 +81,7 @@ fn is_second_login(name: &[u8], second: &Option<Text>, text: &[u8]) -> bool
 }
 
 impl UserSpec {
-    /// Whether a login's data is this user's.
+    /// Whether this is the data of a login of this user: the name, one space and either token.
     pub fn opens(&self, text: &[u8]) -> bool
         ensures { result ≡ opens self.now text.now }
     {
@@ -90,7 +90,7 @@ impl UserSpec {
     }
 }
 
-/// Where the first row stands that the data opens.
+/// Returns the index of the first row that the data opens.
 fn find_row(rows: &[UserSpec], text: &[u8]) -> Option<usize>
     ensures place { result ≡ first_place (λ row. opens row text.now) rows.now }
     ensures within { IfSome result (λ i. i < length rows.now) }
@@ -104,7 +104,7 @@ fn find_row(rows: &[UserSpec], text: &[u8]) -> Option<usize>
 }
 
 impl Users {
-    /// A table with no users.
+    /// Returns a table of no users.
     pub fn new(alloc: Global) -> Users
         ensures { result ≡ [] }
     {
@@ -113,7 +113,7 @@ impl Users {
         }
     }
 
-    /// The users of these rows, or the first fault of the rows; no rows are good too.
+    /// Returns the users of these rows, or the first fault of the rows. An empty list has none.
     pub fn build(rows: Vec<UserSpec>) -> Result<Users, SettingsFault>
         ensures users { IfOk result (λ users. users ≡ rows.items) }
         ensures fault { result_err result ≡ first_fault rows.items }
@@ -125,7 +125,7 @@ impl Users {
         Ok(Users { rows })
     }
 
-    /// The users of rows that are known to be good.
+    /// Returns the users of rows that the caller knows to have no fault.
     pub fn from_good_rows(rows: Vec<UserSpec>) -> Users
         requires { first_fault rows.items ≡ None }
         ensures { result ≡ rows.items }
@@ -133,8 +133,8 @@ impl Users {
         Users { rows }
     }
 
-    /// Puts a user's row behind the others. It answers the first fault that the table with the row
-    /// has, or want of memory, and is then as it was.
+    /// Appends a user's row. `Err` has the first fault of the table with that row, or `NoMemory`,
+    /// and leaves the table unchanged.
     pub fn push(&mut self, row: UserSpec) -> Result<(), SettingsFault>
         ensures pushed { OnOk result (self.new ≡ self.old ++ row ∷ []) }
         ensures faultless { OnOk result (first_fault (self.old ++ row ∷ []) ≡ None) }
@@ -150,8 +150,8 @@ impl Users {
         Ok(())
     }
 
-    /// Gives a user this second token, in place of one that the user may have. It answers why it is
-    /// no second token, and changes nothing then.
+    /// Sets a user's second token, and replaces an earlier one. `Err` says why it is no second
+    /// token, and changes nothing.
     pub fn set_second(&mut self, user: UserNo, second: Text) -> Result<(), SettingsFault>
         requires known { (0 < user) × (user ≤ length self.now) }
         ensures set { OnOk result (self.new ≡ with_second self.old user second) }
@@ -164,8 +164,8 @@ impl Users {
         Ok(())
     }
 
-    /// Lets a user's storage commands store at most this many bytes of data. It answers why they may
-    /// not, and changes nothing then.
+    /// Sets the most data, in bytes, that an item of the user may have. `Err` says that it is out
+    /// of its range; then nothing changes.
     pub fn set_largest(&mut self, user: UserNo, largest: u64) -> Result<(), SettingsFault>
         requires known { (0 < user) × (user ≤ length self.now) }
         ensures set { OnOk result (self.new ≡ with_largest self.old user largest) }
@@ -178,7 +178,7 @@ impl Users {
         Ok(())
     }
 
-    /// How many users there are.
+    /// Returns the number of users.
     pub fn len(&self) -> usize
         ensures count { result ≡ length self.now }
         ensures most { length self.now < 2 ^ 32 }
@@ -186,7 +186,7 @@ impl Users {
         self.rows.len()
     }
 
-    /// The rows, in the order of the users' numbers.
+    /// Returns the rows, in the order of the users' numbers.
     pub fn rows(&self) -> &[UserSpec]
         ensures rows { result.now ≡ self.now }
         ensures sound { All IsSoundRow self.now }
@@ -194,8 +194,8 @@ impl Users {
         self.rows.as_slice()
     }
 
-    /// The user whose name, one space and either token are the data, and nothing else; `None` only
-    /// where it is no user's.
+    /// Returns the user to whom a login's data belongs: it is exactly the user's name, one space
+    /// and either token. `None` if it is no user's.
     pub fn login(&self, text: &[u8]) -> Option<UserNo>
         ensures user { result ≡ option_map suc (first_place (λ row. opens row text.now) self.now) }
         ensures known { IfSome result (λ user. (0 < user) × (user ≤ length self.now)) }
@@ -204,7 +204,7 @@ impl Users {
         Some(UserNo::new(place as u32 + 1))
     }
 
-    /// The row of a user; `None` where there is no such user.
+    /// Returns the row of a user; `None` if no user has that number.
     pub fn spec(&self, user: UserNo) -> Option<&UserSpec>
         ensures row { option_copied result ≡ user_at self.now user }
         ensures sound { IfSome (option_copied result) IsSoundRow }

@@ -1,11 +1,12 @@
 //! The expiry wheel: held slots by the second in which they are due.
 //!
-//! Callers see a `Wheel` as a moment and, for each slot that has room, its due or nothing
-//! (`specs/Dues.antt`); the contracts are the equations of that file. All but `new` and `reserve`
-//! take no memory. `add` and `remove` are a fixed number of steps. `advance` walks the buckets of
-//! the seconds that passed, the oldest first, each once and 4,096 at most, until one held what is
-//! due; the next call goes on from there. Nothing is said of which due slot comes first, nor of how
-//! the slots lie.
+//! Contracts see a `Wheel` as a moment and, for each slot that has room, its due or none. The
+//! contracts are the equations of `specs/Dues.antt`. Only `new` and `reserve` take memory.
+//!
+//! `add` and `remove` take constant time. `advance` walks the buckets of the seconds that passed,
+//! the oldest first, each once and at most 4,096. It stops once a bucket held something due, and
+//! the next call continues there. No clause says which due slot comes first, or how the slots are
+//! stored.
 #![tactic(auto)]
 
 mod nodes;

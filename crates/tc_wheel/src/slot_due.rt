@@ -1,4 +1,4 @@
-//! When a slot is due, if it is held, in eight bytes.
+//! When a held slot is due, in eight bytes.
 ghost use Rattle.std.specs.Prelude.{◌≡◌, Some, None};
 
 use std::marker::Model;
@@ -7,7 +7,7 @@ use tc_item::Moment;
 /// When a slot is due, if it is held.
 #[derive(Clone, Copy)]
 pub struct SlotDue {
-    /// The second behind that of the due; 0 where the slot is not held.
+    /// The second after that of the due; 0 if the slot is not held.
     end: u64,
 }
 
@@ -29,10 +29,10 @@ impl Model for SlotDue {
 }
 
 impl SlotDue {
-    /// The due of a slot that is not held.
+    /// The value for a slot that is not held.
     pub const NONE: SlotDue = SlotDue { end: 0 };
 
-    /// The due of a slot that is due at a moment.
+    /// The value for a slot that is due at a moment.
     pub fn at(due: Moment) -> SlotDue
         ensures { result ≡ Some due }
     {
@@ -41,7 +41,7 @@ impl SlotDue {
         }
     }
 
-    /// The moment at which the slot is due, if it is held.
+    /// Returns the moment at which the slot is due, if it is held.
     pub fn moment(self) -> Option<Moment>
         ensures { result ≡ self }
     {

@@ -1,4 +1,4 @@
-//! What is due moves from its bucket to the list of what is due.
+//! The moves of what is due from its bucket to the list of what is due.
 ghost use Rattle.std.specs.Prelude.{◌≡◌, ℕ, ◌+◌, ◌%◌, ◌<◌, ◌≤◌, length};
 ghost use Rattle.tc_wheel.specs.Dues.{due_at, is_due};
 ghost use Rattle.tc_wheel.specs.Kept.{list_of, IsSwept, IsListed, IsNext};
@@ -6,14 +6,15 @@ ghost use Rattle.tc_wheel.specs.Kept.{list_of, IsSwept, IsListed, IsNext};
 use crate::nodes::{BUCKETS, DUE, MARKS, Nodes};
 use tc_item::Moment;
 
-/// The bucket of the slots that are due at a second.
+/// Returns the bucket of the slots that are due at a second.
 fn bucket_of(second: u64) -> usize
     ensures { result ≡ second % 4096 }
 {
     (second % BUCKETS as u64) as usize
 }
 
-/// The list of what is due then, by the number of its mark.
+/// Returns the mark of the list for a due: that of what is due if the moment has reached it,
+/// otherwise its bucket's.
 pub fn list_of(due: Moment, moment: Moment) -> usize
     ensures { result ≡ list_of 4096 moment due }
 {
@@ -24,7 +25,7 @@ pub fn list_of(due: Moment, moment: Moment) -> usize
     }
 }
 
-/// Whether what is held at a node is due at a moment.
+/// Returns whether the slot of a node is due at a moment.
 fn is_due(nodes: &Nodes, at: usize, moment: Moment) -> bool
     requires { at < length nodes.now.next }
     ensures { result ≡ is_due moment (due_at nodes.now.notes at) }
@@ -35,7 +36,8 @@ fn is_due(nodes: &Nodes, at: usize, moment: Moment) -> bool
     }
 }
 
-/// Walks the bucket of the second so many before a moment, and moves what is due at that moment.
+/// Walks the bucket of the second that is `back` seconds before a moment, and moves what is due at
+/// that moment.
 fn walk_bucket(nodes: &mut Nodes, moment: Moment, back: u64)
     requires passed { back ≤ moment }
     requires swept { IsSwept 4096 moment (back + 1) nodes.old }
@@ -56,7 +58,7 @@ fn walk_bucket(nodes: &mut Nodes, moment: Moment, back: u64)
     }
 }
 
-/// A node of the list of what is due that is due at a moment.
+/// Returns a node of the list of what is due whose slot is due at a moment.
 fn next_due(nodes: &Nodes, moment: Moment) -> Option<usize>
     requires { (now : ℕ) × (left : ℕ) × IsSwept 4096 now left nodes.now }
     ensures { IsListed result moment nodes.now }
@@ -74,10 +76,12 @@ fn next_due(nodes: &Nodes, moment: Moment) -> Option<usize>
     None
 }
 
-/// A node that is due at a moment, not later than `now`, or `None` where none is. The buckets of
-/// the seconds up to `now` that are left to walk are walked until there is one. Between two of them
-/// the list of what is due is looked at: where the moment is `now`, its first is due, and else all
-/// of it is gone through.
+/// Returns a node whose slot is due at `moment`, or none if no slot is due by then. `moment` is at
+/// most `now`.
+///
+/// It walks the buckets of the `left` seconds up to `now` until it finds one, and before each it
+/// searches the list of what is due. If `moment` is `now`, the first of the list is due. Otherwise
+/// it goes through the whole list.
 pub fn find_due(nodes: &mut Nodes, now: Moment, left: &mut u64, moment: Moment) -> Option<usize>
     requires order { moment ≤ now }
     requires passed { left.old ≤ now }

@@ -1,4 +1,4 @@
-//! The accounts of a worker's users: how turns are dealt out among them, and their half blocks.
+//! The accounts of a worker's users: their turns and their half blocks.
 use std::alloc::Global;
 use std::sync::Wait;
 use tc_fairness::{Dealing, HalfBlocks, PIECES, Reads};
@@ -16,7 +16,7 @@ pub(crate) struct Accounts {
 }
 
 impl Accounts {
-    /// Of a worker with no connection.
+    /// Makes the accounts of a worker with no connection.
     pub(crate) fn new(alloc: Global) -> Accounts {
         Accounts {
             dealing: Dealing::new(alloc),
@@ -24,30 +24,30 @@ impl Accounts {
         }
     }
 
-    /// Begins a turn in which `sole` alone has something to do, or several users of so many.
+    /// Begins a turn among `users` users. Only `sole` has something to do, if it is given.
     pub(crate) fn begin(&mut self, users: usize, sole: Option<usize>) {
         self.dealing.begin(users, sole);
         self.half_blocks.open(users);
     }
 
-    /// The turn that began last.
+    /// Returns the number of the turn that began last.
     pub(crate) fn turn(&self) -> u64 {
         self.dealing.turn()
     }
 
-    /// A key's connection came.
+    /// Enters the connection of a key.
     pub(crate) fn enter(&mut self, key: usize, holding: Holding) {
         self.dealing.enter(holding.backlog());
         self.half_blocks.enter(holding.part(key));
     }
 
-    /// A key's connection goes. What waits for it is its user's no more.
+    /// Removes the connection of a key, and what waits for it.
     pub(crate) fn leave(&mut self, key: usize, holding: Holding) {
         self.dealing.leave(holding.backlog());
         self.half_blocks.leave(holding.part(key));
     }
 
-    /// Notes so much work on a key's connection, and what it left of that.
+    /// Charges work on the connection of a key, and notes what is kept for it before and after.
     pub(crate) fn note(
         &mut self,
         key: usize,
@@ -72,7 +72,7 @@ impl Accounts {
         self.dealing.serves(user)
     }
 
-    /// Whether a user is served in this turn.
+    /// Whether this turn serves a user.
     pub(crate) fn serves<R: Wait, C: Cache, N: Naming, G: Gate>(
         &mut self,
         service: &Service<'_, R, C, N, G>,
@@ -83,9 +83,9 @@ impl Accounts {
             && (!self.dealing.is_behind(user, now) || self.catch_up(service, user, now))
     }
 
-    /// Has a user's cache maintained where nothing says that none of its deferred work is left at this
-    /// moment: all items that are due in one second are much work, which the first command that meets that
-    /// second would do at once, while others wait. Whether the user may be served.
+    /// Maintains a user's cache, which may have deferred work left at this moment. Many items due
+    /// in one second are much work, and the first command in that second would do it at once while
+    /// others wait. Returns whether the user may be served.
     #[cold]
     #[inline(never)]
     fn catch_up<R: Wait, C: Cache, N: Naming, G: Gate>(
@@ -104,12 +104,12 @@ impl Accounts {
         progress == Progress::Done
     }
 
-    /// With how many bytes that wait to be sent a connection is not full yet.
+    /// Returns with how many bytes that wait to be sent a connection is not full yet.
     pub(crate) fn most_out(&self, holding: Holding) -> usize {
         self.dealing.most_out(holding.backlog())
     }
 
-    /// Whether a key's connection is read at this moment.
+    /// Returns whether the connection of a key may read at this moment.
     pub(crate) fn reads(&mut self, key: usize, holding: Holding, now: Moment) -> Reads {
         self.half_blocks.reads(holding.part(key), now)
     }

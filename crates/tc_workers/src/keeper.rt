@@ -9,10 +9,10 @@ use tc_locked::{Clock, Hall, Naming};
 use tc_plain::Cache;
 use tc_users::UserNo;
 
-/// How much deferred work a turn does at most.
+/// The most pieces of deferred work in a turn.
 const LIMIT: u32 = 64;
 
-/// Goes round over the users. Contracts see who had the last turn, 0 before the first.
+/// Goes round the users. Contracts see the number of the last turn's user, 0 before the first turn.
 #[derive(Drop)]
 pub struct Keeper {
     done: u32,
@@ -27,14 +27,14 @@ impl Model for Keeper {
 }
 
 impl Keeper {
-    /// A keeper before the first user.
+    /// Makes a keeper before the first user.
     pub fn new() -> Keeper
         ensures { result ≡ 0 }
     {
         Keeper { done: 0 }
     }
 
-    /// One maintenance of the next user at the clock's moment; nothing where there is no user.
+    /// Maintains the next user's cache at the clock's moment; does nothing if there is no user.
     pub fn turn<R: Wait, C: Cache, N: Naming>(&mut self, rt: &R, hall: &Hall<C, N>, clock: &Clock)
         ensures next { 0 < hall.now → self.new ≡ user_after hall.now self.old }
         ensures nobody { hall.now ≡ 0 → self.new ≡ self.old }
@@ -53,10 +53,10 @@ impl Keeper {
 
 /// What the keeper's thread does beside the keeper's turns.
 pub trait Source<C: Cache, N: Naming>: Drop {
-    /// The moment that it is, once the keeper may go on. It sleeps, so that the keeper doesn't spin.
+    /// Sleeps, so that the keeper doesn't spin, and returns the moment.
     fn moment(&mut self) -> Moment;
 
-    /// What else is done before the keeper's turn, as a look at the hall by a seat of its own. It does
-    /// not wait.
+    /// Does what else is due before the keeper's turn, such as a call of the hall by a seat of its
+    /// own. It may wait for a user's lock; the keeper's turns wait meanwhile.
     fn attend<R: Wait>(&mut self, rt: &R, hall: &Hall<C, N>, clock: &Clock);
 }

@@ -1,11 +1,11 @@
-//! What a worker's turns, and all that happens between them, leave true of its connections.
+//! Laws of a worker's connections over turns and what happens between them.
 ghost use Rattle.tc_workers.specs.Staying.{TurnKeepsOpen, OpeningKeepsOpen, TakingKeepsOpen};
 ghost use Rattle.tc_workers.specs.Staying.{PassingKeepsOpen, DroppingKeepsOpen};
 ghost use Rattle.tc_workers.specs.Answering.{CrewAnswers};
 
-/// While all turns are by one table of users, each connection goes on and was served by that table
-/// alone, so that it is a talk since it was opened (`Talk::is_talk`). One that is taken over has to be so
-/// when it comes.
+/// States that each connection of a worker goes on and was served by one table alone, while all
+/// turns are by that table. So it is a talk since it was opened (`Talk::is_talk`). A connection
+/// that is taken over must be one too when it arrives.
 pub fn staying_open()
     ensures turn { TurnKeepsOpen }
     ensures opening { OpeningKeepsOpen }
@@ -14,11 +14,15 @@ pub fn staying_open()
     ensures dropping { DroppingKeepsOpen }
 {}
 
-/// A crew's connections are told what their users' books say. In a crew to which no connection had come,
-/// whatever befell its workers, turn by turn by one table of users: once the hall is closed, the calls
-/// that a connection made since it was opened stand in its user's book, each once and in the order in
-/// which it made them, whichever workers served it. A connection that comes to a worker from another one
-/// has to come as it left that.
+/// States that a crew's connections get the replies that are in their users' books.
+///
+/// The crew starts with no connection, and all turns are by one table of users. Once the hall is
+/// closed, the calls that a connection made since it was opened are in its user's book. Each is
+/// there once, in the order in which the connection made them, whichever workers served it.
+///
+/// The law covers a connection that a worker has after the last event, and one that left a worker,
+/// as it was then. It says nothing of the last calls of a dropped connection. A connection that
+/// comes from another worker must come as it left that one.
 pub fn answering()
     ensures { CrewAnswers }
 {}

@@ -1,15 +1,15 @@
 //! The list of connections that a turn goes over.
 
-/// Whether a listed connection was left out of turns.
+/// Since when a listed connection is left out of turns.
 #[derive(Clone, Copy, PartialEq, Eq, PartialOrd, Ord)]
 pub(crate) enum Waits {
-    /// Of each since this one.
+    /// Since this turn.
     Since(u64),
     No,
 }
 
-/// A connection that is to be served: its number, under which key it stands at its worker, whether it is
-/// admitted to the turn, and whether it was left out.
+/// A listed connection: its number, its key at the worker, whether it is admitted to the turn, and
+/// since when it is left out.
 #[derive(Clone, Copy)]
 pub(crate) struct Listed {
     conn: u32,
@@ -19,7 +19,7 @@ pub(crate) struct Listed {
 }
 
 impl Listed {
-    /// One that was not left out.
+    /// Makes an entry that was not left out.
     pub(crate) fn new(conn: u32, key: usize) -> Listed {
         Listed {
             conn,
@@ -29,12 +29,13 @@ impl Listed {
         }
     }
 
-    /// Its place in a turn: behind those that were left out, and they by how long.
+    /// Returns its place in a turn: entries that were left out come first, the longest wait before
+    /// the others, and then by number.
     pub(crate) fn rank(&self) -> (Waits, u32) {
         (self.waits, self.conn)
     }
 
-    /// Notes whether it is admitted to this turn: where it isn't, it is left out.
+    /// Notes whether it is admitted to this turn. If not, it is left out.
     pub(crate) fn admit(&mut self, is_admitted: bool, turn: u64) {
         self.is_admitted = is_admitted;
         if !is_admitted {
@@ -47,7 +48,7 @@ impl Listed {
         self.is_admitted
     }
 
-    /// Notes that it is served in this turn, or left out.
+    /// Notes whether this turn serves it or leaves it out.
     pub(crate) fn note(&mut self, is_served: bool, turn: u64) {
         self.waits = match self.waits {
             _ if is_served => Waits::No,
@@ -62,7 +63,7 @@ impl Listed {
     }
 }
 
-/// A connection that another worker is to serve: under which key it stands here, and that worker.
+/// A connection that another worker must serve: its key here, and that worker.
 #[derive(Clone, Copy)]
 pub(crate) struct Leaving {
     pub(crate) key: usize,

@@ -1,4 +1,4 @@
-//! What a worker's thread gives back.
+//! What a worker's thread returns.
 ghost use Rattle.std.specs.Prelude.{◌≡◌};
 
 use crate::worker::Worker;
@@ -7,7 +7,7 @@ use std::thread::Promise;
 use tc_links::Wire;
 use tc_locked::{Naming, Seat};
 
-/// The promise that a thread gives back the seat of this worker, which it began with: one of that number.
+/// The promise that a thread returns the seat of its worker: one of the same number.
 #[derive(Drop)]
 pub(crate) struct SeatOf<W: Wire + Drop, N: Naming> {
     pub(crate) worker: Snapshot<Worker<W, N>>,

@@ -1,4 +1,4 @@
-//! Commands that are drawn from a fixed seed.
+//! Commands drawn from a fixed seed.
 
 use crate::fixtures::command;
 use std::alloc::Global;
@@ -7,10 +7,10 @@ use tc_counter::write_into;
 use tc_grammar::Command;
 use tc_item::NoMemory;
 
-/// Keys are `k0` to `k511`; half of the commands are on the first sixteen.
+/// The number of keys, `k0` to `k511`. Over half of the draws are of the first sixteen.
 pub(crate) const KEYS: u64 = 512;
 
-/// What stands before a command's key, and behind it.
+/// The text before a command's key, and the text after it.
 pub(crate) type Form = (&'static str, &'static str);
 
 static FORMS: [Form; 32] = [
@@ -48,7 +48,7 @@ static FORMS: [Form; 32] = [
     ("gets ", ""),
 ];
 
-/// Numbers that look random (Knuth's MMIX generator).
+/// A pseudo-random sequence from a fixed seed, by Knuth's MMIX generator.
 #[derive(Drop)]
 pub(crate) struct Draws {
     state: u64,
@@ -59,7 +59,7 @@ impl Draws {
         Draws { state: 1 }
     }
 
-    /// A number below `end`.
+    /// Draws a number below `end`, which must be at most 2^33.
     pub(crate) fn below(&mut self, end: u64) -> u64 {
         self.state = self
             .state
@@ -68,13 +68,13 @@ impl Draws {
         (self.state >> 33).wrapping_mul(end) >> 31
     }
 
-    /// One of what there is.
+    /// Draws one element, or none if there is none.
     fn one_of<'a, T>(&mut self, all: &'a [T]) -> Option<&'a T> {
         let place = self.below(all.len() as u64);
         all.get(place as usize)
     }
 
-    /// The number of a key.
+    /// Draws the number of a key: half of the time one of the first sixteen, otherwise any.
     fn key(&mut self) -> u64 {
         if self.below(2) == 0 {
             self.below(16)
@@ -84,7 +84,7 @@ impl Draws {
     }
 }
 
-/// Appends a key.
+/// Appends the key with this number.
 pub(crate) fn push_key(text: &mut Vec<u8>, key: u64) -> Result<(), NoMemory> {
     text.push(b'k')?;
     write_into(key, text)
@@ -98,7 +98,7 @@ pub(crate) fn push_line(text: &mut Vec<u8>, form: &Form, key: u64) -> Result<(),
     Ok(())
 }
 
-/// A line without a key, which is drawn seldom.
+/// Draws a line without a key, in about 41 of 5,000 cases.
 fn bare_line(draws: &mut Draws) -> Option<&'static str> {
     match draws.below(5_000) {
         0 => Some("flush_all 9"),
@@ -108,7 +108,7 @@ fn bare_line(draws: &mut Draws) -> Option<&'static str> {
     }
 }
 
-/// The line of a command.
+/// Draws the line of a command.
 fn line(alloc: Global, draws: &mut Draws) -> Result<Vec<u8>, NoMemory> {
     if let Some(line) = bare_line(draws) {
         return Ok(Vec::from_slice(alloc, line.as_bytes())?);
@@ -119,7 +119,7 @@ fn line(alloc: Global, draws: &mut Draws) -> Result<Vec<u8>, NoMemory> {
     Ok(text)
 }
 
-/// The next command. Its data begins with a digit.
+/// Draws the next command. Its data begins with a digit.
 pub(crate) fn drawn(
     rt: &impl Abort,
     alloc: Global,

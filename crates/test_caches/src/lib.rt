@@ -1,4 +1,5 @@
-//! Tests of users' caches: lines of the protocol and what they come to.
+//! Tests of one user's cache: lines of the protocol and their outcomes, on the plain cache and on
+//! the fast one.
 #![tactic(auto)]
 
 #[cfg(test)]

@@ -1,10 +1,10 @@
-//! Commands and what they come to, by hand from the protocol's text and the rules of eviction.
+//! Rows of commands and their outcomes, by hand from doc/protocol.txt and the rules of eviction.
 
 use tc_stats::Counters;
 
-/// A command and what it comes to: the second at which it is done, its line, its block, where `x`
-/// stands for each byte that is left out at the end, and a word for its outcome. Behind `NUMBER`
-/// stands the number, behind `HIT` the flags, the data and the cas number of each hit.
+/// A command and its outcome: the second of the command, its line, its block, and the outcome in
+/// words. If the block is shorter than the line's length, `x` fills the rest. `NUMBER` is followed
+/// by the number, and `HIT` by the flags, the data and the cas number of each hit.
 pub(crate) type Row = (u64, &'static str, &'static str, &'static str);
 
 pub(crate) const STORES: [Row; 18] = [
@@ -94,7 +94,7 @@ pub(crate) const FLUSHES: [Row; 19] = [
     (126, "get k", "", "MISS"),
 ];
 
-/// Of a cache whose storage commands store at most three bytes of data.
+/// For a cache whose storage commands store at most three bytes of data.
 pub(crate) const SMALL: [Row; 9] = [
     (0, "set k 0 0 4", "abcd", "TOO_LARGE"),
     (0, "set k 0 0 3", "abc", "STORED"),
@@ -107,7 +107,7 @@ pub(crate) const SMALL: [Row; 9] = [
     (0, "verbosity 1", "", "OK"),
 ];
 
-/// Of a cache that has one cas number left.
+/// For a cache that has one cas number left.
 pub(crate) const LAST_NUMBER: [Row; 9] = [
     (0, "set n 0 0 1", "1", "STORED"),
     (0, "get n", "", "HIT 0 1 18446744073709551615"),
@@ -138,7 +138,7 @@ pub(crate) const EVICTIONS: [Row; 14] = [
     (0, "delete d", "", "NOT_FOUND"),
 ];
 
-/// The key c is asked for once before it comes.
+/// The key c is looked up once before it is stored.
 pub(crate) const MISSES: [Row; 6] = [
     (0, "set a 0 0 30000", "", "STORED"),
     (0, "set b 0 0 30000", "", "STORED"),
@@ -148,7 +148,8 @@ pub(crate) const MISSES: [Row; 6] = [
     (0, "delete c", "", "DELETED"),
 ];
 
-/// A key's new item is gone as it comes. It would not have fitted beside the other's.
+/// The new item under a is already due when it is stored. Its 60,000 bytes and b do not fit
+/// together.
 pub(crate) const GONE_AT_ONCE: [Row; 5] = [
     (5, "set a 0 0 30000", "", "STORED"),
     (5, "set b 0 0 20000", "", "STORED"),
@@ -157,7 +158,7 @@ pub(crate) const GONE_AT_ONCE: [Row; 5] = [
     (5, "delete b", "", "DELETED"),
 ];
 
-/// Main may weigh 64,881: data of 64,816 bytes, a key of one byte and 64.
+/// The limit of main is 64,881 bytes: 64,816 of data, a key of one byte, and 64.
 pub(crate) const HEAVIEST: [Row; 4] = [
     (0, "set k 0 0 64817", "", "TOO_LARGE"),
     (0, "delete k", "", "NOT_FOUND"),
@@ -165,7 +166,8 @@ pub(crate) const HEAVIEST: [Row; 4] = [
     (0, "delete k", "", "DELETED"),
 ];
 
-/// What `stats` shows behind the commands of `COUNTED`, a second before the flush comes.
+/// What `stats` shows after the commands of `COUNTED`, one second before the pending flush takes
+/// effect.
 pub(crate) const BEFORE_THE_FLUSH: Counters = Counters {
     curr_items: 1,
     total_items: 1,
@@ -193,14 +195,14 @@ pub(crate) const BEFORE_THE_FLUSH: Counters = Counters {
     store_too_large: 0,
 };
 
-/// The flush takes the only item.
+/// What `stats` shows once the flush has taken the only item.
 pub(crate) const AFTER_THE_FLUSH: Counters = Counters {
     curr_items: 0,
     bytes: 0,
     ..BEFORE_THE_FLUSH
 };
 
-/// Hits and misses of each kind, and a cas number that is not the item's.
+/// Hits and misses of several commands, a cas number that is not the item's, and a delayed flush.
 pub(crate) const COUNTED: [Row; 8] = [
     (7, "set k 0 0 3", "abc", "STORED"),
     (7, "add k 0 0 3", "abc", "NOT_STORED"),
@@ -212,23 +214,23 @@ pub(crate) const COUNTED: [Row; 8] = [
     (7, "flush_all 9", "", "OK"),
 ];
 
-/// An item that is due at the second 105.
+/// An item that is due at second 105.
 pub(crate) const DUE: [Row; 2] = [
     (100, "set k 0 5 1", "a", "STORED"),
     (100, "get k", "", "HIT 0 a 1"),
 ];
 
-/// What a cache that came to the second 105 says of it, at whatever second it is asked.
+/// A cache that was advanced to second 105 has lost the item, even for a call at an earlier second.
 pub(crate) const GONE: [Row; 1] = [(100, "get k", "", "MISS")];
 
-/// What a cache is filled with before it is frozen.
+/// Fills a cache before it is frozen.
 pub(crate) const BEFORE: [Row; 3] = [
     (0, "set a 0 0 30000", "", "STORED"),
     (0, "set b 0 0 30000", "", "STORED"),
     (0, "touch b 0", "", "TOUCHED"),
 ];
 
-/// What comes of the cache and of its frozen copy: c was seen no more often than a.
+/// Outcomes of the cache and of its frozen copy: c was seen no more often than a, so it is evicted.
 pub(crate) const AFTER: [Row; 4] = [
     (0, "set c 0 0 30000", "", "STORED"),
     (0, "delete c", "", "NOT_FOUND"),

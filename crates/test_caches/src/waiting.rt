@@ -1,4 +1,4 @@
-//! Look-ups that wait in the fast cache: how many do, after what is done.
+//! Look-ups that wait in the fast cache: their number after each deed.
 
 use crate::fixtures::{at, command, done};
 use std::alloc::Global;
@@ -11,18 +11,18 @@ use tc_kinds::Kind;
 use tc_partition::Fast;
 use tc_plain::Cache;
 
-/// What is done to a cache that holds the key k, and not the key z.
+/// A deed on a cache that holds the key k and lacks the key z.
 #[derive(Clone, Copy)]
 enum Deed {
-    /// A line, so often.
+    /// Does a line's command this many times.
     Does(&'static str, u32),
-    /// A maintenance with this limit.
+    /// Maintains the cache with this limit.
     Maintains(u32),
-    /// Both keys are read ahead.
+    /// Reads both keys ahead.
     ReadsAhead,
 }
 
-/// A deed, and how many look-ups wait behind it.
+/// A deed, and how many look-ups wait after it.
 type Turn = (Deed, usize);
 
 static TURNS: [Turn; 33] = [
@@ -63,7 +63,7 @@ static TURNS: [Turn; 33] = [
 
 /// A cache in which look-ups wait.
 trait Waiting: Kind {
-    /// How many wait.
+    /// Returns how many look-ups wait.
     fn waiting(&self) -> usize;
 }
 
@@ -73,7 +73,7 @@ impl Waiting for Fast {
     }
 }
 
-/// Does a command so often.
+/// Does a command this many times.
 fn do_often<C: Cache>(
     alloc: Global,
     cache: &mut C,
@@ -86,7 +86,7 @@ fn do_often<C: Cache>(
     Ok(())
 }
 
-/// Does a line's command so often.
+/// Does a line's command this many times.
 fn repeat<C: Cache>(
     rt: &impl Abort,
     alloc: Global,
@@ -98,6 +98,7 @@ fn repeat<C: Cache>(
     do_often(alloc, cache, &command, times)
 }
 
+/// Does a deed at second 1,000.
 fn perform<C: Cache>(
     rt: &impl Abort,
     alloc: Global,
@@ -114,7 +115,7 @@ fn perform<C: Cache>(
     Ok(())
 }
 
-/// Does the deeds, and looks how many look-ups wait behind each.
+/// Does the deeds, and expects this many waiting look-ups after each.
 fn expect_turns<C: Waiting>(
     rt: &impl Abort,
     alloc: Global,
@@ -128,7 +129,7 @@ fn expect_turns<C: Waiting>(
     Ok(())
 }
 
-/// Does the deeds on an empty cache of the kind.
+/// Does the deeds on an empty cache of the kind, and expects the waiting look-ups.
 fn expect_waiting<C: Waiting>(
     rt: &impl Abort,
     alloc: Global,
@@ -139,6 +140,7 @@ fn expect_waiting<C: Waiting>(
     expect_turns(rt, alloc, &mut cache, turns)
 }
 
+/// Guards the speed of `get`, which defers its work, and the drain before any other command.
 #[test]
 fn look_ups_wait_until_something_else_is_done(rt: HostRuntime) -> Result<(), Fail> {
     let hasher = RandomState::new(&rt)?;

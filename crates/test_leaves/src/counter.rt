@@ -1,10 +1,11 @@
-//! Number text, by hand from the protocol's text.
+//! Counter text of `incr` and `decr`. Expected values are by hand from doc/protocol.txt.
 
 use std::alloc::Global;
 use std::test::Fail;
 use tc_counter::{decr, incr, read, write_into};
 use tc_item::NoMemory;
 
+/// Texts that spell a number, and that number. Leading zeros and trailing spaces are allowed.
 const SPELLED: [(&str, u64); 9] = [
     ("0", 0),
     ("00", 0),
@@ -17,6 +18,7 @@ const SPELLED: [(&str, u64); 9] = [
     ("18446744073709551615   ", 18446744073709551615),
 ];
 
+/// Texts that spell no number: empty, over 20 digits, above 2^64 - 1, or with another byte.
 const SPELLING_NOTHING: [&str; 19] = [
     "",
     " ",
@@ -39,6 +41,7 @@ const SPELLING_NOTHING: [&str; 19] = [
     "/:",
 ];
 
+/// Guards `incr` and `decr` on data that a client padded, or that is as large as a counter can be.
 #[test]
 fn counter_text_is_read_as_its_number(rt: HostRuntime) {
     for (text, number) in &SPELLED {
@@ -46,6 +49,7 @@ fn counter_text_is_read_as_its_number(rt: HostRuntime) {
     }
 }
 
+/// Guards data that is no counter: `incr` must refuse it, not overwrite it.
 #[test]
 fn other_data_is_no_number(rt: HostRuntime) {
     for text in &SPELLING_NOTHING {
@@ -53,13 +57,14 @@ fn other_data_is_no_number(rt: HostRuntime) {
     }
 }
 
-/// Whether a number that is appended to `n=` makes this text.
+/// Returns whether `number`, appended to `n=`, yields `wanted`.
 fn is_written(alloc: Global, number: u64, wanted: &str) -> Result<bool, NoMemory> {
     let mut out = Vec::from_slice(alloc, b"n=")?;
     write_into(number, &mut out)?;
     Ok(out.as_slice() == wanted.as_bytes())
 }
 
+/// Guards the replies of `incr` and `decr`, which show the number alone.
 #[test]
 fn a_number_is_appended_without_padding(rt: HostRuntime) -> Result<(), Fail> {
     assert!(rt; is_written(rt.alloc(), 0, "n=0")?);
@@ -68,6 +73,7 @@ fn a_number_is_appended_without_padding(rt: HostRuntime) -> Result<(), Fail> {
     Ok(())
 }
 
+/// Guards clients that rely on the protocol's wrap-around instead of a saturated counter.
 #[test]
 fn incr_wraps_at_two_to_the_64(rt: HostRuntime) {
     assert!(rt;
@@ -77,6 +83,7 @@ fn incr_wraps_at_two_to_the_64(rt: HostRuntime) {
     );
 }
 
+/// Guards clients that rely on the protocol's floor: no `decr` wraps to a huge number.
 #[test]
 fn decr_stops_at_zero(rt: HostRuntime) {
     assert!(rt; decr(12, 7) == 5 && decr(7, 7) == 0 && decr(3, 7) == 0);

@@ -1,4 +1,4 @@
-//! Slots under tags by hand, and growth.
+//! Worked moves on the index of slots by tag, its growth, and a fresh index.
 
 use std::alloc::Global;
 use std::process::Abort;
@@ -8,18 +8,18 @@ use tc_item::NoMemory;
 
 /// A call of an index.
 enum Move {
-    /// A slot comes under a tag.
+    /// Puts a slot under a tag, after reserving room for it.
     Insert(usize, u32),
-    /// A slot leaves its tag.
+    /// Takes a slot from under its tag.
     Remove(usize, u32),
-    /// Room for so many slots.
+    /// Reserves room for all slots below this number.
     Reserve(usize),
     Clear,
-    /// Where the slot of this number is found under a tag, if it is.
+    /// Looks under a tag for the slot of this number, and expects this result.
     Find(u32, usize, Option<usize>),
 }
 
-/// Puts a slot under a tag.
+/// Reserves room for a slot and puts it under a tag.
 fn insert(index: &mut Index, slot: Slot, tag: Tag) -> Result<(), NoMemory> {
     index.reserve(slot.0.saturating_add(1))?;
     if slot.0 < usize::MAX {
@@ -28,7 +28,7 @@ fn insert(index: &mut Index, slot: Slot, tag: Tag) -> Result<(), NoMemory> {
     Ok(())
 }
 
-/// Takes a slot from under a tag, and says whether it stood there.
+/// Takes a slot from under a tag. Returns whether the slot was there.
 fn remove(index: &mut Index, slot: Slot, tag: Tag) -> bool {
     match index.find(tag, |other| other.0 == slot.0) {
         Some(found) => {
@@ -39,7 +39,8 @@ fn remove(index: &mut Index, slot: Slot, tag: Tag) -> bool {
     }
 }
 
-/// Makes one move. Whether it comes to what is wanted.
+/// Makes one move. Returns whether its result is the expected one; a move that expects nothing
+/// always passes.
 fn make(index: &mut Index, step: &Move) -> Result<bool, NoMemory> {
     match step {
         Move::Insert(slot, tag) => insert(index, Slot(*slot), Tag(*tag))?,
@@ -55,7 +56,7 @@ fn make(index: &mut Index, step: &Move) -> Result<bool, NoMemory> {
     Ok(true)
 }
 
-/// Makes moves on an index in so many shards.
+/// Makes moves on an empty index with this number of shards, rounded up to a power of two.
 fn run(rt: &impl Abort, alloc: Global, shards: usize, moves: &[Move]) -> Result<(), NoMemory> {
     let mut index = Index::new(alloc, shards)?;
     let made = make_all(rt, &mut index, moves);
@@ -63,7 +64,7 @@ fn run(rt: &impl Abort, alloc: Global, shards: usize, moves: &[Move]) -> Result<
     made
 }
 
-/// The same on this index.
+/// Makes moves on `index`, and expects each to pass.
 fn make_all(rt: &impl Abort, index: &mut Index, moves: &[Move]) -> Result<(), NoMemory> {
     for (place, step) in moves.iter().enumerate() {
         assert!(rt; make(index, step)?, "move {place}");
@@ -71,6 +72,7 @@ fn make_all(rt: &impl Abort, index: &mut Index, moves: &[Move]) -> Result<(), No
     Ok(())
 }
 
+/// Guards every `get` and `delete`: a key must be found even if another key shares its tag.
 #[test]
 fn slots_of_a_tag_are_found_and_removed_by_hand(rt: HostRuntime) -> Result<(), Fail> {
     Ok(run(
@@ -101,6 +103,7 @@ fn slots_of_a_tag_are_found_and_removed_by_hand(rt: HostRuntime) -> Result<(), F
     )?)
 }
 
+/// Guards items against loss while the index grows, and `flush_all` against items that outlive it.
 #[test]
 fn an_index_grows_and_is_cleared(rt: HostRuntime) -> Result<(), Fail> {
     Ok(run(
@@ -134,6 +137,7 @@ fn an_index_grows_and_is_cleared(rt: HostRuntime) -> Result<(), Fail> {
     )?)
 }
 
+/// Guards `flush_all`: the fresh index must show no old entry, and must keep the shard count.
 #[test]
 fn a_fresh_index_holds_nothing_in_as_many_shards(rt: HostRuntime) -> Result<(), Fail> {
     let mut index = Index::new(rt.alloc(), 3)?;

@@ -1,6 +1,6 @@
-//! What no clause says of keys, lists of keys, blobs and moments: outside examples, exact texts,
-//! and each call with memory to spare. A test that a refused allocation reaches ends in an error
-//! or sees everything as it was, and never asserts in vain.
+//! Tests of what no clause says of keys, lists of keys, blobs and moments: outside examples, exact
+//! texts, and each call with memory to spare. If an allocation is refused, a test ends in an error
+//! or expects that nothing changed.
 
 use std::alloc::{AllocError, Global};
 use std::collections::HashMap;
@@ -10,7 +10,7 @@ use tc_item::{
     Blob, Due, Item, KeptDue, Key, KeyFault, Keys, Moment, NoMemory, alive, is_key, key_run, weight,
 };
 
-/// The moment of so many seconds, or the last one.
+/// Returns the moment of this second, or the last moment if there is none.
 fn at(second: u64) -> Moment {
     Moment::try_new(second).unwrap_or(Moment::LAST)
 }
@@ -19,7 +19,8 @@ fn key_of(alloc: Global, text: &str) -> Result<Key, KeyFault> {
     Key::new(alloc, text.as_bytes())
 }
 
-/// Whether bytes are a key, and this one, or have this fault.
+/// Returns whether `bytes` are a key that keeps them, if `wanted` is `None`, or have the fault
+/// `wanted`.
 fn is_judged(alloc: Global, bytes: &[u8], wanted: Option<KeyFault>) -> bool {
     match Key::new(alloc, bytes) {
         Ok(key) => wanted.is_none() && is_key(bytes) && key.as_bytes() == bytes,
@@ -27,7 +28,7 @@ fn is_judged(alloc: Global, bytes: &[u8], wanted: Option<KeyFault>) -> bool {
     }
 }
 
-/// Whether one byte so many times over is a key, or has this fault.
+/// Returns the same for one byte, repeated this many times.
 fn is_judged_over(
     alloc: Global,
     byte: u8,
@@ -38,6 +39,7 @@ fn is_judged_over(
     Ok(is_judged(alloc, &bytes, wanted))
 }
 
+/// Guards the protocol's limit: a client's key of 250 bytes works, and a longer one is refused.
 #[test]
 fn a_key_has_1_to_250_bytes(rt: HostRuntime) -> Result<(), Fail> {
     assert!(rt; is_judged(rt.alloc(), b"", Some(KeyFault::Empty)));
@@ -51,6 +53,7 @@ fn a_key_has_1_to_250_bytes(rt: HostRuntime) -> Result<(), Fail> {
     Ok(())
 }
 
+/// Guards keys in UTF-8 and other encodings, and refuses the bytes that would break a line.
 #[test]
 fn a_key_has_any_bytes_but_0_to_32_and_127(rt: HostRuntime) {
     for bad in &[0, 9, 10, 13, 31, 32, 127] {
@@ -68,6 +71,7 @@ fn a_key_has_any_bytes_but_0_to_32_and_127(rt: HostRuntime) {
     }
 }
 
+/// Guards the order of faults: a key with both faults reports its length.
 #[test]
 fn a_long_key_is_too_long_before_it_has_a_bad_byte(rt: HostRuntime) -> Result<(), Fail> {
     assert!(rt; is_judged_over(rt.alloc(), b' ', 251, Some(KeyFault::TooLong))?);
@@ -75,8 +79,8 @@ fn a_long_key_is_too_long_before_it_has_a_bad_byte(rt: HostRuntime) -> Result<()
     Ok(())
 }
 
-/// Bytes, and how many stand before the first that may not stand in a key: sixteen are looked at
-/// together.
+/// Bytes, and the number of bytes before the first that a key may not have. The code compares
+/// sixteen bytes together, so the lengths lie around multiples of sixteen.
 const RUNS: [(&[u8], usize); 10] = [
     (b"", 0),
     (b" ", 0),
@@ -90,6 +94,7 @@ const RUNS: [(&[u8], usize); 10] = [
     (b"\x21\x7e\x80\xff\x20", 4),
 ];
 
+/// Guards parsing: a bad byte must end the key wherever it lies in a block of sixteen.
 #[test]
 fn a_run_of_key_bytes_ends_before_the_first_other(rt: HostRuntime) {
     for (bytes, wanted) in &RUNS {
@@ -97,7 +102,7 @@ fn a_run_of_key_bytes_ends_before_the_first_other(rt: HostRuntime) {
     }
 }
 
-/// A moment, an exptime and the due that it then means.
+/// A moment in seconds, an exptime, and the due that the exptime means at that moment.
 const EXPTIMES: [(u64, i64, Due); 8] = [
     (1_000, i64::MIN, Due::At(1_000)),
     (1_000, -1, Due::At(1_000)),
@@ -109,6 +114,8 @@ const EXPTIMES: [(u64, i64, Due); 8] = [
     (1_099_511_627_775, 2_592_000, Due::At(1_099_514_219_775)),
 ];
 
+/// Guards lifetimes: up to 30 days an exptime is relative, above it is absolute, below 0 it is
+/// over.
 #[test]
 fn an_exptime_is_read_as_the_protocol_says(rt: HostRuntime) {
     for (second, exptime, wanted) in &EXPTIMES {
@@ -116,7 +123,7 @@ fn an_exptime_is_read_as_the_protocol_says(rt: HostRuntime) {
     }
 }
 
-/// Whether an item of this due is alive at a second.
+/// Returns whether an item with this due is alive at this second.
 fn lives(alloc: Global, due: Due, second: u64) -> Result<bool, NoMemory> {
     let blob = Blob::new(alloc, Vec::new(alloc))?;
     let item = Item {
@@ -128,6 +135,7 @@ fn lives(alloc: Global, due: Due, second: u64) -> Result<bool, NoMemory> {
     Ok(alive(&item, at(second)))
 }
 
+/// Guards look-ups: an expired item must not be served, and a living one must be.
 #[test]
 fn an_item_is_alive_until_the_second_of_its_due(rt: HostRuntime) -> Result<(), Fail> {
     assert!(rt; lives(rt.alloc(), Due::At(1_001), 0)?);
@@ -138,12 +146,13 @@ fn an_item_is_alive_until_the_second_of_its_due(rt: HostRuntime) -> Result<(), F
     Ok(())
 }
 
-/// What an item under a key of one byte weighs.
+/// Returns the weight in bytes of an item with a key of one byte and this many bytes of data.
 fn weight_of(alloc: Global, data: u32) -> Result<u64, KeyFault> {
     let key = key_of(alloc, "k")?;
     Ok(weight(&key, data))
 }
 
+/// Guards the documented weight, key and data and 64 bytes, by which operators size budgets.
 #[test]
 fn a_key_of_one_byte_and_one_byte_of_data_weigh_66(rt: HostRuntime) -> Result<(), Fail> {
     assert!(rt; weight_of(rt.alloc(), 1)? == 66);
@@ -152,6 +161,7 @@ fn a_key_of_one_byte_and_one_byte_of_data_weigh_66(rt: HostRuntime) -> Result<()
     Ok(())
 }
 
+/// Guards the range of the clock, and the order of moments.
 #[test]
 fn a_moment_is_below_2_to_the_40(rt: HostRuntime) {
     assert!(rt; Moment::try_new(1_099_511_627_775) == Some(Moment::LAST));
@@ -163,12 +173,13 @@ fn a_moment_is_below_2_to_the_40(rt: HostRuntime) {
 
 const NAMES: [&str; 10] = ["a", "b", "a", "d", "e", "f", "g", "h", "i", "j"];
 
-/// One more key behind the others.
+/// Appends a key of this name.
 fn push(alloc: Global, keys: &mut Keys, name: &str) -> Result<(), KeyFault> {
     let key = key_of(alloc, name)?;
     Ok(keys.push(alloc, key)?)
 }
 
+/// Returns a list of keys with these names.
 fn keys_of(alloc: Global, names: &[&str]) -> Result<Keys, KeyFault> {
     let mut keys = Keys::new();
     for name in names {
@@ -177,7 +188,7 @@ fn keys_of(alloc: Global, names: &[&str]) -> Result<Keys, KeyFault> {
     Ok(keys)
 }
 
-/// Whether keys are of these names, in order.
+/// Returns whether the keys have these names, in order.
 fn are_named(keys: &Keys, names: &[&str]) -> bool {
     let mut pairs = keys.as_slice().iter().zip(names);
     keys.len() == names.len()
@@ -185,20 +196,21 @@ fn are_named(keys: &Keys, names: &[&str]) -> bool {
         && pairs.all(|(key, name)| key.as_bytes() == name.as_bytes())
 }
 
-/// Whether keys and their copy are of these names, in order.
+/// Returns whether a copy of a list with these names equals the list and has the names, in order.
 fn are_kept(alloc: Global, names: &[&str]) -> Result<bool, KeyFault> {
     let keys = keys_of(alloc, names)?;
     let copied = keys.copy(alloc)?;
     Ok(copied == keys && are_named(&copied, names))
 }
 
-/// Whether one key alone is what it is as the first of a list.
+/// Returns whether `Keys::one` equals a list with that one key pushed.
 fn is_one(alloc: Global, name: &str) -> Result<bool, KeyFault> {
     let keys = keys_of(alloc, &[name])?;
     let one = Keys::one(key_of(alloc, name)?);
     Ok(one == keys)
 }
 
+/// Guards `get` with several keys: each is looked up, in the order asked, however many there are.
 #[test]
 fn keys_are_kept_in_order_and_copied(rt: HostRuntime) -> Result<(), Fail> {
     assert!(rt; are_kept(rt.alloc(), &[])?);
@@ -208,7 +220,7 @@ fn keys_are_kept_in_order_and_copied(rt: HostRuntime) -> Result<(), Fail> {
     Ok(())
 }
 
-/// Pushes a key, and says whether there is one more, or where memory was refused none more.
+/// Pushes a key. Returns whether the length rose by one, or stayed if memory was refused.
 fn grows(alloc: Global, keys: &mut Keys, name: &str) -> Result<bool, KeyFault> {
     let before = keys.len();
     let key = key_of(alloc, name)?;
@@ -216,6 +228,7 @@ fn grows(alloc: Global, keys: &mut Keys, name: &str) -> Result<bool, KeyFault> {
     Ok(keys.len() == before.saturating_add(more))
 }
 
+/// Guards a `get` that is read while memory is short: no key is doubled or lost.
 #[test]
 fn a_refused_push_leaves_the_keys_as_they_were(rt: HostRuntime) -> Result<(), Fail> {
     let mut keys = Keys::new();
@@ -226,7 +239,7 @@ fn a_refused_push_leaves_the_keys_as_they_were(rt: HostRuntime) -> Result<(), Fa
     Ok(())
 }
 
-/// Whether keys that have one more leave a copy made before as it was.
+/// Returns whether a copy stays as it was when the list gets one more key.
 fn leaves_a_copy(alloc: Global, names: &[&str]) -> Result<bool, KeyFault> {
     let mut keys = keys_of(alloc, names)?;
     let copied = keys.copy(alloc)?;
@@ -234,6 +247,7 @@ fn leaves_a_copy(alloc: Global, names: &[&str]) -> Result<bool, KeyFault> {
     Ok(are_named(&copied, names) && keys.len() == names.len().saturating_add(1))
 }
 
+/// Guards the audit's journal: the kept copy of a command must not change with the original.
 #[test]
 fn a_key_pushed_after_a_copy_is_not_in_the_copy(rt: HostRuntime) -> Result<(), Fail> {
     assert!(rt; leaves_a_copy(rt.alloc(), &[])?);
@@ -244,7 +258,7 @@ fn a_key_pushed_after_a_copy_is_not_in_the_copy(rt: HostRuntime) -> Result<(), F
 
 const LONG: &str = "a_key_of_more_than_thirty_two_bytes";
 
-/// A short and a long key, and a place under each.
+/// Returns a map with a short key at 1 and a long key at 2.
 fn places(alloc: Global) -> Result<HashMap<Key, u32>, Fail> {
     let mut places = HashMap::new(alloc);
     places.insert(key_of(alloc, "short")?, 1)?;
@@ -252,7 +266,7 @@ fn places(alloc: Global) -> Result<HashMap<Key, u32>, Fail> {
     Ok(places)
 }
 
-/// The place under a copy of a key.
+/// Returns the value under a copy of the key with this name.
 fn place_of(alloc: Global, name: &str) -> Result<Option<u32>, Fail> {
     let key = key_of(alloc, name)?;
     let copied = key.copy(alloc)?;
@@ -260,6 +274,7 @@ fn place_of(alloc: Global, name: &str) -> Result<Option<u32>, Fail> {
     Ok(places.get(&copied).copied())
 }
 
+/// Guards look-ups: equal bytes are one key, whether they lie in place or in shared memory.
 #[test]
 fn a_map_finds_a_key_by_an_equal_one(rt: HostRuntime) -> Result<(), Fail> {
     assert!(rt; place_of(rt.alloc(), "short")? == Some(1));
@@ -268,14 +283,15 @@ fn a_map_finds_a_key_by_an_equal_one(rt: HostRuntime) -> Result<(), Fail> {
     Ok(())
 }
 
-/// The hash of a copy of a key.
+/// Returns the hash of a copy of a key.
 fn hash_of(alloc: Global, text: &str) -> Result<u64, KeyFault> {
     let key = key_of(alloc, text)?;
     let copied = key.copy(alloc)?;
     Ok(copied.fnv_hash())
 }
 
-/// The first is FNV's own example; the others were reckoned by a program that is not this one.
+/// Guards popularity counts and hints: a key that keeps its hash and one that computes it must
+/// agree. The first value is FNV's own example; an independent program computed the others.
 #[test]
 fn a_key_has_the_hash_of_its_bytes_at_each_length(rt: HostRuntime) -> Result<(), Fail> {
     assert!(rt; hash_of(rt.alloc(), "foobar")? == 0x85944171f73967e8);
@@ -290,13 +306,13 @@ fn blob_of(alloc: Global, text: &str) -> Result<Blob, NoMemory> {
     Blob::new(alloc, Vec::from_slice(alloc, text.as_bytes())?)
 }
 
-/// A copy of a blob that is gone.
+/// Returns a copy of a blob that was dropped.
 fn copied(alloc: Global, text: &str) -> Result<Blob, NoMemory> {
     let blob = blob_of(alloc, text)?;
     blob.copy()
 }
 
-/// Whether a blob and its copy show this text.
+/// Returns whether a blob and a copy of one both show this text.
 fn is_shown(alloc: Global, text: &str) -> Result<bool, NoMemory> {
     let copied = copied(alloc, text)?;
     let blob = blob_of(alloc, text)?;
@@ -308,6 +324,7 @@ fn is_shown(alloc: Global, text: &str) -> Result<bool, NoMemory> {
     )
 }
 
+/// Guards stored data: a block that looks like a reply, or is empty, comes back byte for byte.
 #[test]
 fn a_blob_shows_the_bytes_that_it_was_made_of(rt: HostRuntime) -> Result<(), Fail> {
     assert!(rt; is_shown(rt.alloc(), "\r\nEND\r\n")?);
@@ -315,10 +332,10 @@ fn a_blob_shows_the_bytes_that_it_was_made_of(rt: HostRuntime) -> Result<(), Fai
     Ok(())
 }
 
-/// Lengths at both ends of each block's room.
+/// Data lengths in bytes around each size class of the blocks.
 const BLOCK_ENDS: [usize; 13] = [0, 8, 9, 40, 41, 72, 73, 104, 105, 168, 169, 232, 233];
 
-/// So many bytes, the last of which is another.
+/// Returns this many bytes `a`, the last one replaced by `z`.
 fn bytes_of(alloc: Global, length: usize) -> Result<Vec<u8>, AllocError> {
     let mut bytes = vec![in alloc; b'a'; length]?;
     if let Some(last) = bytes.last_mut() {
@@ -327,7 +344,7 @@ fn bytes_of(alloc: Global, length: usize) -> Result<Vec<u8>, AllocError> {
     Ok(bytes)
 }
 
-/// Whether a blob shows these bytes, and its copy once the blob is gone.
+/// Returns whether a blob shows these bytes, and its copy still does after the blob is dropped.
 fn shows(blob: Blob, bytes: &[u8]) -> Result<bool, NoMemory> {
     let shown = blob.as_slice() == bytes && blob.len() == bytes.len();
     let copy = blob.copy()?;
@@ -335,7 +352,8 @@ fn shows(blob: Blob, bytes: &[u8]) -> Result<bool, NoMemory> {
     Ok(shown && copy.as_slice() == bytes)
 }
 
-/// Whether a blob of so many bytes shows them, however it was made, and so does its copy.
+/// Returns whether a blob of this length shows its bytes, by either constructor, and so does its
+/// copy.
 fn is_shown_whole(alloc: Global, length: usize) -> Result<bool, NoMemory> {
     let bytes = bytes_of(alloc, length)?;
     Ok(
@@ -344,6 +362,7 @@ fn is_shown_whole(alloc: Global, length: usize) -> Result<bool, NoMemory> {
     )
 }
 
+/// Guards stored data at the edges of each size class, where a byte could be cut off.
 #[test]
 fn a_blob_shows_its_bytes_in_whatever_block_they_lie(rt: HostRuntime) -> Result<(), Fail> {
     for length in &BLOCK_ENDS {
@@ -352,25 +371,26 @@ fn a_blob_shows_its_bytes_in_whatever_block_they_lie(rt: HostRuntime) -> Result<
     Ok(())
 }
 
-/// Whether a fault reads so.
+/// Returns whether a fault prints as `wanted`.
 fn reads(alloc: Global, fault: KeyFault, wanted: &str) -> Result<bool, AllocError> {
     let text = format!(in alloc; "{fault}")?;
     Ok(text.as_str() == wanted)
 }
 
-/// Whether want of memory reads so.
+/// Returns whether `NoMemory` prints as `wanted`.
 fn refusal_reads(alloc: Global, wanted: &str) -> Result<bool, AllocError> {
     let text = format!(in alloc; "{NoMemory}")?;
     Ok(text.as_str() == wanted)
 }
 
-/// Whether the list of a key of these bytes, and that key, read so.
+/// Returns whether a list of one key, as a slice and as `Keys`, prints as `wanted`.
 fn key_reads(alloc: Global, bytes: &[u8], wanted: &str) -> Result<bool, Fail> {
     let keys = Keys::one(Key::new(alloc, bytes)?);
     let text = format!(in alloc; "{:?} {keys:?}", keys.as_slice())?;
     Ok(text.as_str() == wanted)
 }
 
+/// Guards the messages from which an operator learns what is wrong with a key.
 #[test]
 fn faults_and_keys_are_shown_as_text(rt: HostRuntime) -> Result<(), Fail> {
     let alloc = rt.alloc();

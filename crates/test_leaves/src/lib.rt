@@ -1,5 +1,5 @@
-//! Tests of what the caches stand on: keys and items, number text, the sketch, the linked lists,
-//! the index, the expiry wheel and the ring of look-ups that wait.
+//! Tests of the data structures below the caches: keys and items, counter text, the sketch, the
+//! linked lists, the index, the expiry wheel and the ring of waiting look-ups.
 #![tactic(auto)]
 
 #[cfg(test)]

@@ -1,4 +1,4 @@
-//! Runs by hand, and refusals of memory.
+//! Worked moves on window, probation and protected, and refusals of memory.
 
 ghost use Rattle.std.specs.Prelude.{◌+◌, ◌<◌, ◌^◌, IsTrue};
 ghost use Rattle.tc_model.specs.Areas.{total};
@@ -10,10 +10,10 @@ use std::test::Fail;
 use tc_item::NoMemory;
 use tc_slru::{Area, Lists, Slot};
 
-/// Far below 2^64.
+/// The limit on each area's weight and on an item's weight in these tests.
 const FEW: u64 = 1 << 40;
 
-/// Whether one more item keeps the sum of all weights far below 2^64.
+/// Returns whether the areas with one more item of this weight stay far below 2^64.
 fn has_room(lists: &Lists, weight: u64) -> bool
     ensures { IsTrue result → total weigh lists.now.areas + weight < 2 ^ 64 }
 {
@@ -21,7 +21,7 @@ fn has_room(lists: &Lists, weight: u64) -> bool
     held.window < FEW && held.probation < FEW && held.protected < FEW && weight < FEW
 }
 
-/// Puts a slot into the window, where the caller's conditions hold.
+/// Puts a slot into the window. Aborts unless the slot is free and the weight is allowed.
 fn push(rt: &impl Abort, lists: &mut Lists, slot: usize, weight: u64) {
     let is_free = slot < lists.slots() && !lists.holds(Slot(slot));
     assert!(rt;
@@ -31,7 +31,7 @@ fn push(rt: &impl Abort, lists: &mut Lists, slot: usize, weight: u64) {
     lists.push(Area::Window, Slot(slot), weight);
 }
 
-/// An access, where the caller's conditions hold.
+/// Accesses a slot, with its new weight. Aborts unless the slot is held and the weight is allowed.
 #[tactic(auto, using(tc_slru::proofs::Gone::without_slot_weighs_less))]
 fn access(rt: &impl Abort, lists: &mut Lists, slot: usize, weight: u64) {
     let is_held = lists.holds(Slot(slot));
@@ -42,44 +42,44 @@ fn access(rt: &impl Abort, lists: &mut Lists, slot: usize, weight: u64) {
     lists.access(Slot(slot), weight);
 }
 
-/// Takes a slot out, where it is held.
+/// Takes a slot out. Aborts unless it is held.
 fn remove(rt: &impl Abort, lists: &mut Lists, slot: usize) {
     assert!(rt; lists.holds(Slot(slot)), "slot {slot} is held");
     lists.remove(Slot(slot));
 }
 
-/// The next slot that is dropped, by how often each was seen.
+/// Makes one settle step, by how often each slot was seen. Returns the number of the slot it drops.
 fn dropped(lists: &mut Lists, seen: &[u8]) -> Option<usize> {
     let next = lists.settle_step(|slot| seen.get(slot.0).copied().unwrap_or(0));
     next.map(|slot| slot.0)
 }
 
-/// Whether the areas weigh so.
+/// Returns whether window, probation and protected have these weights.
 fn weighs(lists: &Lists, window: u64, probation: u64, protected: u64) -> bool {
     let weights = lists.weights();
     weights.window == window && weights.probation == probation && weights.protected == protected
 }
 
-/// A call of lists, or what is to be seen of them.
+/// A call of the lists, or an expectation.
 enum Move {
-    /// A slot of this weight is put into the window.
+    /// Puts a slot of this weight into the window.
     Push(usize, u64),
-    /// An access, with the slot's new weight.
+    /// Accesses a slot, with its new weight.
     Access(usize, u64),
     Remove(usize),
-    /// All slots are taken out.
+    /// Takes all slots out.
     Clear,
-    /// From here on the slot was seen so often.
+    /// Sets how often the slot was seen.
     Seen(usize, u8),
-    /// What the next settle step drops.
+    /// Makes a settle step, and expects it to drop this slot or none.
     Settle(Option<usize>),
-    /// What window, probation and protected weigh.
+    /// Expects these weights of window, probation and protected.
     Weigh(u64, u64, u64),
-    /// Whether a slot is held.
+    /// Expects the slot to be held, or not.
     Holds(usize, bool),
 }
 
-/// Notes how often a slot was seen.
+/// Sets how often a slot was seen.
 fn note(seen: &mut [u8], slot: usize, times: u8) {
     if let Some(count) = seen.get_mut(slot) {
         *count = times;
@@ -109,7 +109,7 @@ fn make(rt: &impl Abort, lists: &mut Lists, seen: &mut [u8], step: &Move, place:
     }
 }
 
-/// Makes moves on lists where each of five slots was seen once.
+/// Makes moves on lists. Each of five slots starts as seen once.
 fn make_all(rt: &impl Abort, lists: &mut Lists, moves: &[Move]) {
     let mut seen = [1; 5];
     for (place, step) in moves.iter().enumerate() {
@@ -117,7 +117,7 @@ fn make_all(rt: &impl Abort, lists: &mut Lists, moves: &[Move]) {
     }
 }
 
-/// Makes moves on empty lists with these limits.
+/// Makes moves on empty lists with these limits on the areas' weights.
 fn play(
     rt: &impl Abort,
     alloc: Global,
@@ -130,21 +130,21 @@ fn play(
     Ok(play_on(rt, lists, moves)?)
 }
 
-/// Makes moves on these lists, which are let go of then.
+/// Makes moves on these lists, and drops them.
 fn play_on(rt: &impl Abort, mut lists: Lists, moves: &[Move]) -> Result<(), NoMemory> {
     let played = make_in_room(rt, &mut lists, moves);
     drop(lists);
     played
 }
 
-/// Makes moves on lists with room for five slots.
+/// Reserves room for five slots, and makes moves.
 fn make_in_room(rt: &impl Abort, lists: &mut Lists, moves: &[Move]) -> Result<(), NoMemory> {
     lists.reserve(5)?;
     make_all(rt, lists, moves);
     Ok(())
 }
 
-/// a, b, c and d are the slots 0 to 3.
+/// Slots 0 to 3 are called a, b, c and d.
 const FIVE_EVICTIONS: [Move; 30] = [
     Move::Push(0, 30065),
     Move::Settle(None),
@@ -183,12 +183,13 @@ const FIVE_EVICTIONS: [Move; 30] = [
     Move::Holds(3, false),
 ];
 
+/// Guards the choice of the victim: a popular item must win over one that is seen less often.
 #[test]
 fn five_evictions_as_worked_by_hand(rt: HostRuntime) -> Result<(), Fail> {
     play(&rt, rt.alloc(), 655, 64881, 51904, &FIVE_EVICTIONS)
 }
 
-/// The last of main goes first: 0, 2 and then 1, which was accessed.
+/// The last of main leaves first: 0, 2, and 1, which was accessed.
 const ALL_OF_MAIN: [Move; 14] = [
     Move::Push(0, 20),
     Move::Settle(None),
@@ -206,6 +207,7 @@ const ALL_OF_MAIN: [Move; 14] = [
     Move::Weigh(0, 100, 0),
 ];
 
+/// Guards large items: one that fits in main alone must be admitted over less popular ones.
 #[test]
 fn a_candidate_as_heavy_as_main_drops_all_of_it(rt: HostRuntime) -> Result<(), Fail> {
     play(&rt, rt.alloc(), 10, 100, 80, &ALL_OF_MAIN)
@@ -229,12 +231,13 @@ const VICTIMS_IN_PROBATION: [Move; 15] = [
     Move::Weigh(0, 65, 25),
 ];
 
+/// Guards items that were hit again: they stay as long as probation can make the room.
 #[test]
 fn victims_in_probation_leave_protected_alone(rt: HostRuntime) -> Result<(), Fail> {
     play(&rt, rt.alloc(), 10, 100, 80, &VICTIMS_IN_PROBATION)
 }
 
-/// Slots 0 to 2 were accessed, in this order, so 3, 0 and 1 are the last of main.
+/// Slots 0 to 2 are accessed in this order, so 3, 0 and 1 are the last of main.
 const VICTIMS_IN_PROTECTED: [Move; 24] = [
     Move::Push(0, 25),
     Move::Settle(None),
@@ -248,13 +251,13 @@ const VICTIMS_IN_PROTECTED: [Move; 24] = [
     Move::Access(1, 25),
     Move::Access(2, 25),
     Move::Weigh(0, 25, 75),
-    // slot 1 was seen as often as 4, which is dropped
+    // slot 1 was seen as often as slot 4, so slot 4 is dropped
     Move::Seen(4, 2),
     Move::Seen(1, 2),
     Move::Push(4, 60),
     Move::Settle(Some(4)),
     Move::Weigh(0, 25, 75),
-    // and now less often: three victims that weigh 75 make room for 60
+    // slot 1 was seen less often: three victims that weigh 75 make room for 60
     Move::Seen(4, 3),
     Move::Push(4, 60),
     Move::Settle(Some(3)),
@@ -264,6 +267,7 @@ const VICTIMS_IN_PROTECTED: [Move; 24] = [
     Move::Weigh(0, 60, 25),
 ];
 
+/// Guards items in protected: a candidate takes their room only if every victim is less popular.
 #[test]
 fn victims_in_protected_go_after_those_in_probation(rt: HostRuntime) -> Result<(), Fail> {
     play(&rt, rt.alloc(), 10, 100, 80, &VICTIMS_IN_PROTECTED)
@@ -285,12 +289,13 @@ const SEEN_AS_OFTEN: [Move; 12] = [
     Move::Weigh(0, 90, 0),
 ];
 
+/// Guards popular items: a heavy candidate must beat each of its victims, or none leaves.
 #[test]
 fn one_victim_seen_as_often_keeps_the_candidate_out(rt: HostRuntime) -> Result<(), Fail> {
     play(&rt, rt.alloc(), 10, 100, 80, &SEEN_AS_OFTEN)
 }
 
-/// Slot 1 was demoted before slot 2.
+/// Slot 1 is demoted before slot 2.
 const HEAVIER_THAN_PROTECTED: [Move; 16] = [
     Move::Push(0, 30),
     Move::Settle(None),
@@ -310,6 +315,8 @@ const HEAVIER_THAN_PROTECTED: [Move; 16] = [
     Move::Settle(None),
 ];
 
+/// Guards a large item that is hit: it must not be the next victim because protected cannot hold
+/// it.
 #[test]
 fn an_item_heavier_than_protected_goes_back_to_the_front_of_probation(
     rt: HostRuntime,
@@ -317,7 +324,7 @@ fn an_item_heavier_than_protected_goes_back_to_the_front_of_probation(
     play(&rt, rt.alloc(), 10, 120, 40, &HEAVIER_THAN_PROTECTED)
 }
 
-/// Slot 1 is the window's last at the end, and main has room for it.
+/// At the end slot 1 is the window's last, and main has room for it.
 const WITHIN_THE_WINDOW: [Move; 7] = [
     Move::Push(0, 10),
     Move::Push(1, 10),
@@ -328,6 +335,7 @@ const WITHIN_THE_WINDOW: [Move; 7] = [
     Move::Weigh(45, 10, 0),
 ];
 
+/// Guards the budget: an item that grows while it is new must count with its new weight.
 #[test]
 fn an_access_in_the_window_stays_there_and_takes_its_new_weight(
     rt: HostRuntime,
@@ -335,7 +343,7 @@ fn an_access_in_the_window_stays_there_and_takes_its_new_weight(
     play(&rt, rt.alloc(), 50, 100, 80, &WITHIN_THE_WINDOW)
 }
 
-/// Slot 5 has no room.
+/// Slot 5 is beyond the lists' room.
 const REMOVAL: [Move; 12] = [
     Move::Push(0, 20),
     Move::Push(1, 5),
@@ -351,12 +359,14 @@ const REMOVAL: [Move; 12] = [
     Move::Weigh(35, 0, 0),
 ];
 
+/// Guards the budget: deleted items must give their weight back, and their slots must serve again.
 #[test]
 fn a_removed_slot_is_free_and_weighs_nothing(rt: HostRuntime) -> Result<(), Fail> {
     play(&rt, rt.alloc(), 10, 100, 80, &REMOVAL)
 }
 
-/// A slot in the window and one in probation, with which a page begins; then slot 0 anew.
+/// Slot 0 moves to probation and slot 1 stays in the window. Slot 0 is pushed again after the
+/// clear.
 const CLEARED: [Move; 9] = [
     Move::Push(0, 20),
     Move::Push(1, 5),
@@ -369,12 +379,13 @@ const CLEARED: [Move; 9] = [
     Move::Weigh(30, 0, 0),
 ];
 
+/// Guards the budget after `flush_all`: flushed items must neither weigh nor block their slots.
 #[test]
 fn cleared_lists_hold_nothing_and_take_slots_again(rt: HostRuntime) -> Result<(), Fail> {
     play(&rt, rt.alloc(), 10, 100, 80, &CLEARED)
 }
 
-/// Asks for more room than there is memory, and for less than there is.
+/// Reserves more room than there is memory, and less room than there is. Neither changes anything.
 fn expect_room(rt: &impl Abort, lists: &mut Lists) -> Result<(), NoMemory> {
     lists.reserve(2)?;
     push(rt, lists, 0, 20);
@@ -388,6 +399,8 @@ fn expect_room(rt: &impl Abort, lists: &mut Lists) -> Result<(), NoMemory> {
     Ok(())
 }
 
+/// Guards a user's items when the machine is out of memory: a refused `set` leaves the lists
+/// intact.
 #[test]
 fn a_refused_reserve_changes_nothing(rt: HostRuntime) -> Result<(), Fail> {
     let mut lists = Lists::new(rt.alloc(), 10, 100, 80)?;

@@ -1,4 +1,4 @@
-//! Which address a place tells, and of which users an operator is told.
+//! Addresses that places report, and how the operator's lines are shared out by user.
 use std::alloc::Global;
 use std::net::{IpAddr, SocketAddr};
 use std::process::Abort;
@@ -7,7 +7,7 @@ use tc_connections::{Cause, Connections, Notice};
 use tc_limits::{ConnectionLimits, LimitsByUser, UserLimits};
 use tc_users::UserNo;
 
-/// Two users may have one connection each.
+/// Returns connections for two users, each of whom may have one.
 fn open(alloc: Global) -> Result<Connections, Fail> {
     let one = UserLimits {
         connections: Some(1),
@@ -22,7 +22,7 @@ fn open(alloc: Global) -> Result<Connections, Fail> {
     Ok(Connections::new(alloc, limits, users)?)
 }
 
-/// Connections of these users log in, and stay.
+/// Adds a connection for each of these users, and logs it in.
 fn log_in(rt: &impl Abort, connections: &Connections, users: &[u32]) -> Result<(), Fail> {
     let peer = "10.0.0.7:9".parse::<SocketAddr>()?;
     for user in users {
@@ -34,13 +34,14 @@ fn log_in(rt: &impl Abort, connections: &Connections, users: &[u32]) -> Result<(
     Ok(())
 }
 
-/// So many notices of a user's have no line of their own.
+/// Returns the notice that this many of a user's notices have no line of their own.
 fn left_out(user: u32, cause: Cause, count: u64) -> Notice {
     let user = Some(UserNo::new(user));
     Notice::LeftOut { user, cause, count }
 }
 
-/// All further connections of a second stand in one line of their user.
+/// Guards the operator's log against a user who opens too many connections: one line a second has
+/// their number.
 #[test]
 fn connections_too_many_are_told_by_their_number(rt: HostRuntime) -> Result<(), Fail> {
     let connections = open(rt.alloc())?;
@@ -60,14 +61,15 @@ fn connections_too_many_are_told_by_their_number(rt: HostRuntime) -> Result<(), 
     Ok(())
 }
 
-/// A login from a port is refused, of a user.
+/// Returns the notice of a user's refused login from this port.
 fn refused(user: u32, port: u16) -> Result<Notice, Fail> {
     let peer = SocketAddr::new("10.0.0.7".parse::<IpAddr>()?, port);
     let user = Some(UserNo::new(user));
     Ok(Notice::LoginRefused { peer, user })
 }
 
-/// Of a thousand refused logins of one user four have a line, round by round with those of another, which came last.
+/// Guards the log against one user's noise: of a thousand refused logins of one user four have a
+/// line, by turns with those of another user, which came last.
 #[test]
 fn lines_are_shared_out_by_user(rt: HostRuntime) -> Result<(), Fail> {
     let connections = open(rt.alloc())?;
@@ -94,6 +96,8 @@ fn lines_are_shared_out_by_user(rt: HostRuntime) -> Result<(), Fail> {
     Ok(())
 }
 
+/// Guards whoever searches the log for a client: an IPv4 address must look the same on every
+/// listener.
 #[test]
 fn a_place_tells_an_address_of_ipv4_as_such(rt: HostRuntime) -> Result<(), Fail> {
     let connections = open(rt.alloc())?;

@@ -1,4 +1,4 @@
-//! Tests of connections: what is told of them, and sockets over streams in memory.
+//! Tests of connections: what the operator learns of them, and sockets over streams in memory.
 #![tactic(auto)]
 
 #[cfg(test)]

@@ -1,4 +1,4 @@
-//! A socket over a stream in memory is served. Texts are by hand from the protocol's text.
+//! Sockets over a stream in memory. Texts are by hand from doc/protocol.txt.
 ghost use Rattle.std.specs.Prelude.{◌≡◌, map};
 ghost use Rattle.tc_fresh.specs.Beginning.{fresh_cache};
 
@@ -20,31 +20,36 @@ use tc_plain::{Cache, Journal, Plain};
 use tc_users::{Text, UserSpec, Users};
 use tc_workers::Worker;
 
-/// So many turns are enough.
+/// Enough turns for each connection.
 const TURNS: u32 = 400;
 
+/// Logs alice in, without a reply.
 const LOGIN: &[u8] = b"set a 0 0 9 noreply\r\nalice one\r\n";
 
+/// Stores two bytes under `k` without a reply, and looks `k` up.
 const SMALL: &[u8] = b"set k 7 0 2 noreply\r\nhi\r\nget k\r\n";
 
 const SMALL_REPLY: &[u8] = b"VALUE k 7 2\r\nhi\r\nEND\r\n";
 
+/// Stores large data under `k` without a reply; the data follows.
 const LARGE: &[u8] = b"set k 7 0 16384 noreply\r\n";
 
-/// So many bytes are sent from where they lie.
+/// The bytes of the large data: enough that the session sends them from the item's own memory.
 const SIZE: usize = 16_384;
 
+/// Ends the large data's block, and looks `k` up two times in one request.
 const ASKS: &[u8] = b"\r\nget k k\r\n";
 
-/// The slices of the reply are these, the data, a line's end and these, the data, and the end.
+/// The slices of the reply are `VALUE`, the data, a line end with `VALUE`, the data, and a line end
+/// with `END`.
 const VALUE: &[u8] = b"VALUE k 7 16384\r\n";
 
 const END: &[u8] = b"END\r\n";
 
-/// Where the slices of the reply end.
+/// The place in the reply, in bytes, at which each of its five slices ends.
 const BOUNDS: [usize; 5] = [17, 16_401, 16_420, 32_804, 32_811];
 
-/// Texts one after another.
+/// Returns the texts, joined.
 fn joined(alloc: Global, texts: &[&[u8]]) -> Result<Vec<u8>, Fail> {
     let mut all = Vec::new(alloc);
     for text in texts {
@@ -53,6 +58,7 @@ fn joined(alloc: Global, texts: &[&[u8]]) -> Result<Vec<u8>, Fail> {
     Ok(all)
 }
 
+/// Returns a small `set` and a `get`, and their reply.
 fn small_request(alloc: Global) -> Result<Said, Fail> {
     Ok(Said {
         sends: joined(alloc, &[LOGIN, SMALL])?,
@@ -60,8 +66,8 @@ fn small_request(alloc: Global) -> Result<Said, Fail> {
     })
 }
 
-/// It stores large data, no two bytes of which that stand near one another are the same, and asks for
-/// it twice in one request.
+/// Returns a large `set` and a `get` of its key twice, and their reply. The data repeats only after
+/// 251 bytes, so that a shift shows.
 fn large_request(alloc: Global) -> Result<Said, Fail> {
     let mut data = Vec::with_capacity(alloc, SIZE)?;
     for i in 0..SIZE {
@@ -73,8 +79,8 @@ fn large_request(alloc: Global) -> Result<Said, Fail> {
     })
 }
 
-/// A connection from its first byte to its end. How many bytes it heard, all of them the front of what it
-/// was to hear.
+/// Serves a connection from its first byte to its end. Returns how many bytes it was sent, or
+/// `u64::MAX` if they are not the front of what it expects.
 fn hear<C: Cache, N: Naming, R: Wait + Abort>(
     rt: &R,
     alloc: Global,
@@ -94,7 +100,7 @@ fn hear<C: Cache, N: Naming, R: Wait + Abort>(
     Ok(told.load(SeqCst))
 }
 
-/// Turns until the connection is gone, before each of which it may be read and written again.
+/// Takes turns until the connection is gone. Before each, the socket becomes readable and writable.
 fn take_turns<C: Cache, N: Naming, R: Wait>(
     rt: &R,
     hall: &Hall<C, N>,
@@ -112,7 +118,8 @@ fn take_turns<C: Cache, N: Naming, R: Wait>(
     }
 }
 
-/// Reads of a few bytes, and each trouble of calls.
+/// Serves connections that read 1 to 8 bytes at a time, with each kind of trouble, and expects the
+/// whole reply.
 fn expect_reads<C: Cache, N: Naming, R: Wait + Abort>(
     rt: &R,
     alloc: Global,
@@ -143,7 +150,8 @@ fn expect_reads<C: Cache, N: Naming, R: Wait + Abort>(
     Ok(())
 }
 
-/// A first write of so many bytes, and later ones of some.
+/// Serves a connection whose first write takes `first` bytes and later ones 10,000, and expects the
+/// whole reply.
 fn expect_write<C: Cache, N: Naming, R: Wait + Abort>(
     rt: &R,
     alloc: Global,
@@ -164,7 +172,7 @@ fn expect_write<C: Cache, N: Naming, R: Wait + Abort>(
     Ok(())
 }
 
-/// First writes of each few bytes, and of about as many as slices have.
+/// Tries first writes of 1 to 20 bytes, and of lengths that end near the end of each slice.
 fn expect_writes<C: Cache, N: Naming, R: Wait + Abort>(
     rt: &R,
     alloc: Global,
@@ -185,7 +193,7 @@ fn expect_writes<C: Cache, N: Naming, R: Wait + Abort>(
     Ok(())
 }
 
-/// Streams that fail, after which nothing more is sent.
+/// Serves streams that fail, and expects that nothing is sent after the failure.
 fn expect_failures<C: Cache, N: Naming, R: Wait + Abort>(
     rt: &R,
     alloc: Global,
@@ -210,7 +218,7 @@ fn expect_failures<C: Cache, N: Naming, R: Wait + Abort>(
     Ok(())
 }
 
-/// Connections of one worker, one after the other.
+/// Serves all connections with one worker, one after the other.
 fn serve_all<C: Cache, N: Naming, R: Wait + Abort>(
     rt: &R,
     alloc: Global,
@@ -229,7 +237,8 @@ fn serve_all<C: Cache, N: Naming, R: Wait + Abort>(
     expect_failures(rt, alloc, hall, users, &mut worker)
 }
 
-/// The same in the hall N of fresh caches.
+/// Opens the hall `N` over fresh caches with one seat and pages of 16 entries, and serves all
+/// connections in it.
 fn serve_in<C: Cache, N: Naming, R: Wait + Abort>(
     rt: &R,
     alloc: Global,
@@ -249,6 +258,7 @@ fn serve_in<C: Cache, N: Naming, R: Wait + Abort>(
     serve_all(rt, alloc, &hall, users, seats)
 }
 
+/// Returns a table of alice alone.
 fn one_user(alloc: Global) -> Result<Users, Fail> {
     let mut users = Users::new(alloc);
     users.push(UserSpec {
@@ -261,7 +271,7 @@ fn one_user(alloc: Global) -> Result<Users, Fail> {
     Ok(users)
 }
 
-/// The same for one user, with a journal or none.
+/// Serves all connections for one user, with or without a journal.
 fn serve_one<R: Wait + Abort>(
     rt: &R,
     alloc: Global,
@@ -274,6 +284,8 @@ fn serve_one<R: Wait + Abort>(
     serve_in::<Plain, Brand, R>(rt, alloc, opened, &users, caches, keeps)
 }
 
+/// Guards replies when the system takes or gives few bytes, interrupts a call or has nothing yet:
+/// no byte may be lost, doubled or moved.
 #[test]
 fn a_socket_over_a_stream_in_memory_is_served(rt: HostRuntime) -> Result<(), Fail> {
     let hasher = RandomState::new(&rt)?;

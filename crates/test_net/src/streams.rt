@@ -9,31 +9,31 @@ use std::sync::atomic::AtomicU64;
 use std::sync::atomic::Ordering::SeqCst;
 use tc_net::Stream;
 
-/// What calls of a stream answer before one gives or takes bytes.
+/// The errors with which a stream answers calls before one gives or takes bytes.
 #[derive(Clone, Copy, Debug, PartialEq, Eq)]
 pub enum Trouble {
     Never,
     Interrupted,
     WouldBlock,
-    /// First that it was interrupted, then that it would block.
+    /// One call is interrupted, and the next would block.
     Both,
 }
 
-/// How a stream goes.
+/// How a stream behaves.
 #[derive(Clone, Copy)]
 pub struct Habits {
     /// The most bytes of a read.
     pub piece: usize,
-    /// The most bytes of the first write, and of each later one.
+    /// The most bytes of the first write; `later` has those of each later one.
     pub first: usize,
     pub later: usize,
     pub trouble: Trouble,
-    /// Behind so many times three calls it fails.
+    /// After three times this many reads every read fails; `writes` is the same for writes.
     pub reads: u32,
     pub writes: u32,
 }
 
-/// One that gives and takes all at once, and doesn't fail.
+/// A stream that gives and takes all at once, and never fails.
 pub const EASY: Habits = Habits {
     piece: usize::MAX,
     first: usize::MAX,
@@ -43,12 +43,13 @@ pub const EASY: Habits = Habits {
     writes: u32::MAX,
 };
 
-/// The calls of one way of a stream, of which every third gives or takes bytes where it has trouble.
+/// The calls of one direction of a stream. If it has trouble, at least every third call gives or
+/// takes bytes.
 #[derive(Clone, Copy)]
 struct Calls {
     trouble: Trouble,
     count: u32,
-    /// Those behind so many times three fail.
+    /// Calls after three times this many fail.
     most: u32,
 }
 
@@ -61,7 +62,7 @@ impl Calls {
         }
     }
 
-    /// Why the next call gives and takes nothing.
+    /// Counts a call. Returns the error with which it fails, if it does.
     fn fault(&mut self) -> Option<ErrorKind> {
         let count = self.count;
         self.count = count.saturating_add(1);
@@ -76,11 +77,11 @@ impl Calls {
     }
 }
 
-/// The bytes that a stream took, of which a call takes a few.
+/// The bytes that a stream took. A call takes a few at a time.
 #[derive(Drop)]
 struct Heard {
     bytes: Vec<u8>,
-    /// So many bytes more are taken in this call.
+    /// How many more bytes the current call takes.
     room: usize,
 }
 
@@ -101,14 +102,14 @@ impl Write for Heard {
     }
 }
 
-/// What a client says, and what it is to hear.
+/// What a client sends, and what it expects.
 #[derive(Drop)]
 pub struct Said {
     pub sends: Vec<u8>,
     pub expects: Vec<u8>,
 }
 
-/// The bytes that it gives, and how many it gave; and the bytes that it took.
+/// A client's stream: the bytes that it gives, how many it gave, and the bytes that it took.
 #[derive(Drop)]
 pub struct Reel {
     sends: Vec<u8>,
@@ -117,14 +118,14 @@ pub struct Reel {
     habits: Habits,
     reads: Calls,
     writes: Calls,
-    /// How many bytes it took, where they are the front of those that it is to be sent.
+    /// How many bytes it took, or `u64::MAX` if they are not the front of `expects`.
     told: Arc<AtomicU64, Global>,
     expects: Vec<u8>,
     ghost within: { at ≤ vec_len sends },
 }
 
 impl Reel {
-    /// A client's stream, which goes so. It tells how many bytes it took.
+    /// Returns a client's stream with these habits. It stores in `told` how many bytes it took.
     pub fn new(
         alloc: Global,
         said: &Said,
@@ -146,7 +147,8 @@ impl Reel {
         })
     }
 
-    /// Tells how many bytes it took, if they are the front of what it is to be sent.
+    /// Stores in `told` how many bytes the stream took, or `u64::MAX` if they are not the front of
+    /// `expects`.
     fn tell(&self) {
         let heard = self.heard.bytes.as_slice();
         let told = match self.expects.get(..heard.len()) {
@@ -156,7 +158,7 @@ impl Reel {
         self.told.store(told, SeqCst);
     }
 
-    /// How many bytes the next call takes.
+    /// Returns how many bytes the next call takes at most.
     fn room(&self) -> usize {
         if self.heard.bytes.is_empty() {
             self.habits.first

@@ -1,5 +1,5 @@
-//! What no clause says of streams: each call with memory to spare, and requests by hand of streams
-//! cut at every byte. A call that meets a refused allocation is made again.
+//! Tests of what no clause says of streams: each call with memory to spare, and the requests, by
+//! hand, of streams cut at every byte. A call that is refused memory is made again.
 
 use crate::fixtures::{expect_number, expect_text};
 use std::alloc::{AllocError, Global};
@@ -9,10 +9,10 @@ use tc_feed::{Feed, Request, cutting};
 use tc_grammar::{Command, Head};
 use tc_item::{Blob, NoMemory};
 
-/// The limit of blocks in these tests.
+/// The most bytes that a block may have in these tests.
 const LIMIT: u32 = 16;
 
-/// What is shown where no whole request is there.
+/// The text for no whole request.
 const NOTHING: &str = "nothing";
 
 const GET_A: &str = r#"Ask(Get { form: Bare, keys: ["a"] })"#;
@@ -29,7 +29,8 @@ const TOO_LARGE: &str = "Refused { fault: TooLarge, quiet: false }";
 
 const UNKNOWN: &str = "Refused { fault: UnknownCommand, quiet: false }";
 
-/// Blocks that hold line ends or are too long by one, faults that skip, and commands between them.
+/// A stream of commands, blocks that contain line ends, blocks that are a byte too long, and faults
+/// that skip bytes.
 const STREAM: &str = "get a\r\n\
     set k 0 0 7\r\n\r\nEND\r\n\r\n\
     set k 0 0 2\r\nabc\r\n\
@@ -42,7 +43,7 @@ const STREAM: &str = "get a\r\n\
     set k 0 0 0\r\n\r\n\
     version\r\n";
 
-/// Its requests, and a storage command as its name, its key and its block.
+/// The requests of `STREAM`. A storage command is shown by its name, its key and its block.
 const REQUESTS: [&str; 12] = [
     GET_A,
     r#"Set "k" "\r\nEND\r\n""#,
@@ -62,7 +63,7 @@ const COMMAND: &str = "Command { quiet: false }";
 
 const QUIET_COMMAND: &str = "Command { quiet: true }";
 
-/// What is passed over of the stream.
+/// The outline of each request of `STREAM`, as it is passed over.
 const PASSED: [&str; 12] = [
     COMMAND,
     COMMAND,
@@ -78,7 +79,7 @@ const PASSED: [&str; 12] = [
     COMMAND,
 ];
 
-/// What is passed over of single lines.
+/// Single requests, and the outline of each as it is passed over.
 const LINES: [(&str, &str); 18] = [
     ("get a b c\r\n", COMMAND),
     ("get a noreply\r\n", COMMAND),
@@ -100,7 +101,7 @@ const LINES: [(&str, &str); 18] = [
     ("set a 0 0 2\r\nx\r\n", NOTHING),
 ];
 
-/// Takes a piece, once more where memory was refused.
+/// Pushes a piece, and once more if memory was refused.
 fn push(feed: &mut Feed, piece: &[u8]) -> Result<(), NoMemory> {
     match feed.push(piece) {
         Ok(()) => Ok(()),
@@ -108,7 +109,7 @@ fn push(feed: &mut Feed, piece: &[u8]) -> Result<(), NoMemory> {
     }
 }
 
-/// The next request, looked for once more where memory was refused.
+/// Returns the next request, if a whole one is there. Looks once more if memory was refused.
 fn next(alloc: Global, feed: &mut Feed, limit: u32) -> Result<Option<Request>, NoMemory> {
     match feed.next(alloc, limit) {
         Ok(request) => Ok(request),
@@ -116,13 +117,13 @@ fn next(alloc: Global, feed: &mut Feed, limit: u32) -> Result<Option<Request>, N
     }
 }
 
-/// A storage command as its name, its key and its block.
+/// Returns the text of a storage command: its name, its key and its block.
 fn store_text(alloc: Global, head: &Head, blob: &Blob) -> Result<String, AllocError> {
     let block = str::from_utf8(blob.as_slice()).unwrap_or("no text");
     format!(in alloc; "{:?} {:?} {block:?}", head.kind, head.key)
 }
 
-/// A request as text.
+/// Returns the text of a request.
 fn text_of(alloc: Global, request: &Request) -> Result<String, AllocError> {
     match request {
         Request::Ask(Command::Store(head, blob)) => store_text(alloc, head, blob),
@@ -130,7 +131,7 @@ fn text_of(alloc: Global, request: &Request) -> Result<String, AllocError> {
     }
 }
 
-/// The same, where there is one.
+/// Returns the text of a request, or `NOTHING` if there is none.
 fn text_of_next(alloc: Global, request: &Option<Request>) -> Result<String, AllocError> {
     match request {
         Some(request) => text_of(alloc, request),
@@ -138,7 +139,7 @@ fn text_of_next(alloc: Global, request: &Option<Request>) -> Result<String, Allo
     }
 }
 
-/// The next request as text.
+/// Takes the next request, and returns its text.
 fn shown(alloc: Global, feed: &mut Feed, limit: u32) -> Result<String, AllocError> {
     match next(alloc, feed, limit) {
         Ok(request) => text_of_next(alloc, &request),
@@ -146,7 +147,7 @@ fn shown(alloc: Global, feed: &mut Feed, limit: u32) -> Result<String, AllocErro
     }
 }
 
-/// The request of this number of the stream.
+/// Returns the text of the stream's request with this number.
 fn request_at(number: usize) -> &'static str {
     match REQUESTS.get(number) {
         Some(request) => *request,
@@ -154,7 +155,7 @@ fn request_at(number: usize) -> &'static str {
     }
 }
 
-/// Whether there is a next request, which is the one of this number.
+/// Returns whether there is a next request, which must be the stream's request with this number.
 fn expect_request(
     rt: &(impl AllocGlobal + Abort),
     feed: &mut Feed,
@@ -168,7 +169,8 @@ fn expect_request(
     Ok(true)
 }
 
-/// Takes a piece and all requests that are there then, from this number on; the number of the next.
+/// Pushes a piece, and expects the requests that are whole after it, from this number on. Returns
+/// the number of the request after them.
 fn expect_piece(
     rt: &(impl AllocGlobal + Abort),
     feed: &mut Feed,
@@ -186,13 +188,13 @@ fn expect_piece(
     Ok(number)
 }
 
-/// Whether all requests were found and nothing is unread.
+/// Expects that all requests were found and nothing is unread.
 fn expect_end(rt: &impl Abort, feed: &Feed, number: usize) {
     expect_number(rt, number as u64, REQUESTS.len() as u64, "found");
     expect_number(rt, feed.unread_len() as u64, 0, "kept");
 }
 
-/// Whether the stream holds the same requests where it comes in these two pieces.
+/// Expects the stream's requests if it arrives in these two pieces.
 fn expect_cut(rt: &(impl AllocGlobal + Abort), first: &[u8], second: &[u8]) -> Result<(), Fail> {
     let mut feed = Feed::new(rt.alloc());
     let found = expect_piece(rt, &mut feed, first, 0)?;
@@ -201,6 +203,7 @@ fn expect_cut(rt: &(impl AllocGlobal + Abort), first: &[u8], second: &[u8]) -> R
     Ok(())
 }
 
+/// Guards requests against the network: wherever a packet ends, the commands are the same.
 #[test]
 fn a_stream_cut_in_two_anywhere_holds_the_same_requests(rt: HostRuntime) -> Result<(), Fail> {
     cutting();
@@ -211,6 +214,7 @@ fn a_stream_cut_in_two_anywhere_holds_the_same_requests(rt: HostRuntime) -> Resu
     Ok(())
 }
 
+/// Guards requests of the slowest client, and the bookkeeping of how many bytes are still missing.
 #[test]
 fn a_stream_that_comes_byte_by_byte_holds_the_same_requests(rt: HostRuntime) -> Result<(), Fail> {
     let mut feed = Feed::new(rt.alloc());
@@ -222,6 +226,7 @@ fn a_stream_that_comes_byte_by_byte_holds_the_same_requests(rt: HostRuntime) -> 
     Ok(())
 }
 
+/// Guards requests against reading ahead, which must change none, even in the middle of a block.
 #[test]
 fn requests_that_were_read_ahead_at_each_byte_are_the_same(rt: HostRuntime) -> Result<(), Fail> {
     let mut feed = Feed::new(rt.alloc());
@@ -234,7 +239,7 @@ fn requests_that_were_read_ahead_at_each_byte_are_the_same(rt: HostRuntime) -> R
     Ok(())
 }
 
-/// Whether this is what is passed over next.
+/// Passes the next request over, and expects its outline.
 fn expect_passed(
     rt: &(impl AllocGlobal + Abort),
     feed: &mut Feed,
@@ -249,6 +254,7 @@ fn expect_passed(
     Ok(())
 }
 
+/// Guards the stream when memory is refused: a declined `set` takes its block along.
 #[test]
 fn what_is_passed_over_is_gone_with_its_block(rt: HostRuntime) -> Result<(), Fail> {
     let mut feed = Feed::new(rt.alloc());
@@ -261,6 +267,8 @@ fn what_is_passed_over_is_gone_with_its_block(rt: HostRuntime) -> Result<(), Fai
     Ok(())
 }
 
+/// Guards quiet commands and faults when memory is refused: the outline must agree with the full
+/// parse.
 #[test]
 fn each_line_is_passed_over_as_it_would_be_read(rt: HostRuntime) -> Result<(), Fail> {
     for (line, passed) in LINES {
@@ -271,10 +279,12 @@ fn each_line_is_passed_over_as_it_would_be_read(rt: HostRuntime) -> Result<(), F
     Ok(())
 }
 
-/// A piece that comes, the limit, the next request then, and how many bytes are unread after it.
+/// A piece that is pushed, the limit of blocks, the next request after it, and how many bytes are
+/// unread then.
 type Look = (&'static str, u32, &'static str, u64);
 
-/// Takes a piece, and looks for a request behind it.
+/// Pushes a look's piece, takes the next request, and expects its text and the bytes unread after
+/// it.
 fn expect_look(rt: &(impl AllocGlobal + Abort), feed: &mut Feed, look: &Look) -> Result<(), Fail> {
     let (piece, limit, request, kept) = *look;
     push(feed, piece.as_bytes())?;
@@ -284,6 +294,7 @@ fn expect_look(rt: &(impl AllocGlobal + Abort), feed: &mut Feed, look: &Look) ->
     Ok(())
 }
 
+/// Takes each look on one feed.
 fn expect_looks(
     rt: &(impl AllocGlobal + Abort),
     feed: &mut Feed,
@@ -295,7 +306,8 @@ fn expect_looks(
     Ok(())
 }
 
-/// Streams up to the byte before the last one of their first request, and that byte.
+/// Streams cut before the last byte of their first request, and that byte. The last stream still
+/// lacks one byte after both pieces.
 const FIRST_REQUESTS: [[Look; 2]; 7] = [
     [("get a\r", LIMIT, NOTHING, 6), ("\n", LIMIT, GET_A, 0)],
     [("get a", LIMIT, NOTHING, 5), ("\n", LIMIT, GET_A, 0)],
@@ -321,6 +333,7 @@ const FIRST_REQUESTS: [[Look; 2]; 7] = [
     ],
 ];
 
+/// Takes the looks of each stream on a feed of its own.
 fn expect_each(rt: &(impl AllocGlobal + Abort), streams: &[[Look; 2]]) -> Result<(), Fail> {
     for looks in streams {
         expect_looks(rt, &mut Feed::new(rt.alloc()), looks)?;
@@ -328,12 +341,14 @@ fn expect_each(rt: &(impl AllocGlobal + Abort), streams: &[[Look; 2]]) -> Result
     Ok(())
 }
 
+/// Guards replies against delay: a request must be answered at its last byte, without waiting for
+/// another.
 #[test]
 fn a_request_is_whole_at_its_last_byte_and_no_earlier(rt: HostRuntime) -> Result<(), Fail> {
     expect_each(&rt, &FIRST_REQUESTS)
 }
 
-/// Takes so many pieces that are alike.
+/// Pushes one piece this many times.
 fn push_often(feed: &mut Feed, piece: &[u8], times: usize) -> Result<(), NoMemory> {
     for _ in 0..times {
         push(feed, piece)?;
@@ -341,7 +356,8 @@ fn push_often(feed: &mut Feed, piece: &[u8], times: usize) -> Result<(), NoMemor
     Ok(())
 }
 
-/// Looks at a feed that holds a line of 65,536 bytes without its line feed.
+/// Takes looks on a feed that holds a line of 65,536 bytes, its beginning and spaces, without a
+/// line feed.
 fn expect_after_longest_line(
     rt: &(impl AllocGlobal + Abort),
     begin: &str,
@@ -355,6 +371,7 @@ fn expect_after_longest_line(
 
 const LONGEST_LINE: [Look; 2] = [("", LIMIT, NOTHING, 65_536), ("\n", LIMIT, GET_A, 0)];
 
+/// Guards clients that ask for many keys in one long line.
 #[test]
 fn a_line_of_65536_bytes_is_read(rt: HostRuntime) -> Result<(), Fail> {
     expect_after_longest_line(&rt, "get a", &LONGEST_LINE)
@@ -367,6 +384,7 @@ const BEYOND_LONGEST_LINE: [Look; 2] = [
     ("", LIMIT, VERSION, 0),
 ];
 
+/// Guards memory against a line without an end, and lets the connection go on after its end.
 #[test]
 fn a_line_is_too_long_at_its_65537th_byte(rt: HostRuntime) -> Result<(), Fail> {
     expect_after_longest_line(&rt, "get a", &BEYOND_LONGEST_LINE)
@@ -377,6 +395,7 @@ const LONGEST_WAIT: [Look; 2] = [
     ("\n", LIMIT, r#"Set "k" "0123456789abcdef""#, 0),
 ];
 
+/// Guards the bound on unread bytes, by which operators size memory for each connection.
 #[test]
 fn the_most_that_waits_is_a_longest_line_and_all_but_a_byte_of_its_block(
     rt: HostRuntime,
@@ -384,11 +403,13 @@ fn the_most_that_waits_is_a_longest_line_and_all_but_a_byte_of_its_block(
     expect_after_longest_line(&rt, "set k 0 0 16", &LONGEST_WAIT)
 }
 
-/// A block and its line end of 1,048,578 bytes, of which the first 1,048,572 come between these.
+/// A line whose block is too large. The block and its line end have 1,048,578 bytes: 174,762 pieces
+/// of 6 bytes, and the first piece of `SKIPPED`.
 const SKIPPING: [Look; 1] = [("set k 0 0 1048576\r\n", LIMIT, TOO_LARGE, 0)];
 
 const SKIPPED: [Look; 2] = [("get a\n", LIMIT, NOTHING, 0), ("get b\n", LIMIT, GET_B, 0)];
 
+/// Guards memory: a refused block of any size must take none, and must not run as commands.
 #[test]
 fn bytes_that_are_skipped_are_not_kept(rt: HostRuntime) -> Result<(), Fail> {
     let mut feed = Feed::new(rt.alloc());
@@ -397,12 +418,14 @@ fn bytes_that_are_skipped_are_not_kept(rt: HostRuntime) -> Result<(), Fail> {
     expect_looks(&rt, &mut feed, &SKIPPED)
 }
 
-/// A line whose block has not come, at its length and below.
+/// A line whose block is not whole, first with a limit of its length, then with a lower limit.
 const LOWER_LIMIT: [[Look; 2]; 1] = [[
     ("set k 0 0 17\r\nab", 17, NOTHING, 16),
     ("", LIMIT, TOO_LARGE, 0),
 ]];
 
+/// Guards logins: the limit on blocks changes when a connection is bound, and the new one must
+/// apply.
 #[test]
 fn a_line_whose_block_has_not_come_is_judged_by_the_limit_handed_in(
     rt: HostRuntime,

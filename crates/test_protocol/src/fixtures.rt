@@ -1,4 +1,4 @@
-//! What the tests of several crates read, hold and compare.
+//! Helpers of several test modules: comparisons, commands, hits and users.
 
 use std::alloc::Global;
 use std::process::Abort;
@@ -9,22 +9,22 @@ use tc_item::{Blob, Key, NoMemory};
 use tc_stats::{Hit, Hits};
 use tc_users::{Text, UserSpec, Users};
 
-/// Whether a text is the one that is wanted here.
+/// Expects a text. A failure names `at`.
 pub fn expect_text(rt: &impl Abort, got: &str, want: &str, at: &str) {
     assert_eq!(rt; got, want, "{at}");
 }
 
-/// Whether bytes are those that are wanted here.
+/// Expects bytes. A failure names `at`.
 pub fn expect_bytes(rt: &impl Abort, got: &[u8], want: &[u8], at: &str) {
     assert_eq!(rt; got, want, "{at}");
 }
 
-/// Whether a number is the one that is wanted here.
+/// Expects a number. A failure names `at`.
 pub fn expect_number(rt: &impl Abort, got: u64, want: u64, at: &str) {
     assert_eq!(rt; got, want, "{at}");
 }
 
-/// The first request of a stream, where it is a command.
+/// Returns a request's command. Fails if it is no command or there is no request.
 fn ask(request: Option<Request>) -> Result<Command, Fail> {
     match request {
         Some(Request::Ask(command)) => Ok(command),
@@ -32,7 +32,8 @@ fn ask(request: Option<Request>) -> Result<Command, Fail> {
     }
 }
 
-/// The command that a stream begins with.
+/// Returns the command that a stream begins with, if a block may have 16 bytes. Fails if there is
+/// none.
 pub fn command(alloc: Global, stream: &str) -> Result<Command, Fail> {
     let mut feed = Feed::new(alloc);
     feed.push(stream.as_bytes())?;
@@ -42,7 +43,7 @@ pub fn command(alloc: Global, stream: &str) -> Result<Command, Fail> {
     }
 }
 
-/// A hit.
+/// Returns a hit.
 pub fn hit(alloc: Global, name: &str, data: &str, flags: u32, cas: u64) -> Result<Hit, Fail> {
     let key = Key::new(alloc, name.as_bytes())?;
     let blob = Blob::new(alloc, Vec::from_slice(alloc, data.as_bytes())?)?;
@@ -57,7 +58,7 @@ pub fn hit(alloc: Global, name: &str, data: &str, flags: u32, cas: u64) -> Resul
 /// A hit's key, data, flags and cas number.
 pub type Found = (&'static str, &'static str, u32, u64);
 
-/// Puts a hit behind the others.
+/// Appends a hit.
 pub fn push_hit(alloc: Global, hits: &mut Hits, found: &Found) -> Result<(), Fail> {
     let (name, data, flags, cas) = *found;
     let hit = hit(alloc, name, data, flags, cas)?;
@@ -65,7 +66,7 @@ pub fn push_hit(alloc: Global, hits: &mut Hits, found: &Found) -> Result<(), Fai
     Ok(())
 }
 
-/// These hits, in this order.
+/// Returns these hits, in this order.
 pub fn hits(alloc: Global, found: &[Found]) -> Result<Hits, Fail> {
     let mut hits = Hits::new();
     for hit in found {
@@ -74,7 +75,8 @@ pub fn hits(alloc: Global, found: &[Found]) -> Result<Hits, Fail> {
     Ok(hits)
 }
 
-/// A row of a user.
+/// Returns a user's row with the least budget, 65,536 bytes, and the usual largest item, 1,048,576
+/// bytes.
 pub fn row(alloc: Global, name: &[u8], token: &[u8]) -> Result<UserSpec, Fail> {
     let name = Text::copy(alloc, name)?;
     let token = Text::copy(alloc, token)?;
@@ -87,14 +89,14 @@ pub fn row(alloc: Global, name: &[u8], token: &[u8]) -> Result<UserSpec, Fail> {
     })
 }
 
-/// Bob's row, who has a second token.
+/// Returns the row of bob, who has a second token.
 fn bob(alloc: Global) -> Result<UserSpec, Fail> {
     let mut bob = row(alloc, b"bob", b"two")?;
     bob.second = Some(Text::copy(alloc, b"zwei")?);
     Ok(bob)
 }
 
-/// The rows of alice, who is 1, and of bob, who is 2.
+/// Returns the rows of alice, user 1, and of bob, user 2.
 fn rows(alloc: Global) -> Result<Vec<UserSpec>, Fail> {
     let mut rows = Vec::new(alloc);
     rows.push(row(alloc, b"alice", b"one")?)?;
@@ -102,7 +104,7 @@ fn rows(alloc: Global) -> Result<Vec<UserSpec>, Fail> {
     Ok(rows)
 }
 
-/// Their table.
+/// Returns the table of alice and bob.
 pub fn users(alloc: Global) -> Result<Users, Fail> {
     Ok(Users::build(rows(alloc)?)?)
 }

@@ -1,5 +1,5 @@
-//! What no clause says of lines: the table made by hand, exact texts, and each call with memory
-//! to spare. A line that meets a refused allocation is read again.
+//! Tests of what no clause says of lines: a table made by hand, exact texts, and each call with
+//! memory to spare. A line that is refused memory is read again.
 
 mod table;
 
@@ -14,7 +14,7 @@ use table::{
 use tc_grammar::{Command, Fault, Line, each_line_spells_one_thing, parse_line};
 use tc_item::NoMemory;
 
-/// What a line spells, read once more where memory was refused.
+/// Returns what a line spells. Reads it once more if memory was refused.
 fn said(alloc: Global, line: &str, block_limit: u32) -> Result<Line, NoMemory> {
     match parse_line(alloc, line.as_bytes(), block_limit) {
         Ok(line) => Ok(line),
@@ -22,11 +22,12 @@ fn said(alloc: Global, line: &str, block_limit: u32) -> Result<Line, NoMemory> {
     }
 }
 
+/// Returns what a line spells, as text.
 fn text_of(alloc: Global, line: &Line) -> Result<String, AllocError> {
     format!(in alloc; "{line:?}")
 }
 
-/// What a line spells, as text.
+/// Reads a line, and returns what it spells as text.
 fn shown(alloc: Global, line: &str, block_limit: u32) -> Result<String, AllocError> {
     match said(alloc, line, block_limit) {
         Ok(said) => text_of(alloc, &said),
@@ -34,7 +35,7 @@ fn shown(alloc: Global, line: &str, block_limit: u32) -> Result<String, AllocErr
     }
 }
 
-/// Whether a line is read as it should be.
+/// Expects a line to spell `want`.
 fn expect_line(
     rt: &(impl AllocGlobal + Abort),
     line: &str,
@@ -46,7 +47,7 @@ fn expect_line(
     Ok(())
 }
 
-/// Whether each line of a table is read as the table says.
+/// Expects each line of a table to spell what the table says.
 fn expect_lines(
     rt: &(impl AllocGlobal + Abort),
     block_limit: u32,
@@ -58,53 +59,62 @@ fn expect_lines(
     Ok(())
 }
 
+/// Guards clients against a misspelt command that does something, such as one in upper case.
 #[test]
 fn each_name_of_the_table_is_read(rt: HostRuntime) -> Result<(), Fail> {
     each_line_spells_one_thing();
     expect_lines(&rt, 256, &NAMES)
 }
 
+/// Guards look-ups: all keys of a line must be read, with spaces and bytes as the protocol allows.
 #[test]
 fn each_retrieval_line_of_the_table_is_read(rt: HostRuntime) -> Result<(), Fail> {
     expect_lines(&rt, 256, &RETRIEVAL)
 }
 
+/// Guards stored flags, lifetimes and lengths at the ends of their ranges.
 #[test]
 fn each_storage_line_of_the_table_is_read(rt: HostRuntime) -> Result<(), Fail> {
     expect_lines(&rt, 256, &STORAGE)
 }
 
+/// Guards the stream after a bad `set`: its block must be skipped, not run as commands.
 #[test]
 fn each_refused_storage_line_of_the_table_is_read(rt: HostRuntime) -> Result<(), Fail> {
     expect_lines(&rt, 256, &REFUSED_STORAGE)
 }
 
+/// Guards counters against a bad delta, and gives the client the protocol's own message for it.
 #[test]
 fn each_counter_line_of_the_table_is_read(rt: HostRuntime) -> Result<(), Fail> {
     expect_lines(&rt, 256, &COUNTERS)
 }
 
+/// Guards old clients that send `delete KEY 0`, and refuses deletes with another time.
 #[test]
 fn each_delete_and_touch_of_the_table_is_read(rt: HostRuntime) -> Result<(), Fail> {
     expect_lines(&rt, 256, &KEYED)
 }
 
+/// Guards a cache against a malformed `flush_all`, which must flush nothing.
 #[test]
 fn each_line_without_a_key_of_the_table_is_read(rt: HostRuntime) -> Result<(), Fail> {
     expect_lines(&rt, 256, &UNKEYED)
 }
 
+/// Guards the limit of a key: a longer one must be refused, not cut.
 #[test]
 fn a_key_of_251_bytes_is_of_no_form(rt: HostRuntime) -> Result<(), Fail> {
     expect_lines(&rt, 256, &LONG_KEY)
 }
 
+/// Guards the limit of items: a block of exactly the limit is read, and one byte more is refused.
 #[test]
 fn the_limit_of_a_block_is_the_one_handed_in(rt: HostRuntime) -> Result<(), Fail> {
     expect_lines(&rt, 1_048_576, &AT_A_MEBIBYTE)
 }
 
-/// Whether there is memory for a copy of a command, and the copy equals it.
+/// Returns whether a copy of a command equals it. Returns false if memory is refused.
 fn equals_its_copy(alloc: Global, command: &Command) -> bool {
     match command.copy(alloc) {
         Ok(copied) => copied == *command,
@@ -112,7 +122,7 @@ fn equals_its_copy(alloc: Global, command: &Command) -> bool {
     }
 }
 
-/// The same of the command that a stream begins with.
+/// Expects a copy of a stream's first command to equal it.
 fn expect_copy(rt: &(impl AllocGlobal + Abort), stream: &str) -> Result<(), Fail> {
     match command(rt.alloc(), stream) {
         Ok(command) => assert!(rt; equals_its_copy(rt.alloc(), &command), "{stream}"),
@@ -121,6 +131,7 @@ fn expect_copy(rt: &(impl AllocGlobal + Abort), stream: &str) -> Result<(), Fail
     Ok(())
 }
 
+/// Expects a copy of each stream's first command to equal it.
 fn expect_copies(rt: &(impl AllocGlobal + Abort), streams: &[&str]) -> Result<(), Fail> {
     for stream in streams {
         expect_copy(rt, stream)?;
@@ -128,12 +139,13 @@ fn expect_copies(rt: &(impl AllocGlobal + Abort), streams: &[&str]) -> Result<()
     Ok(())
 }
 
+/// Guards the audit's journal: a kept command must be the one that the client sent.
 #[test]
 fn a_copy_of_a_command_equals_it(rt: HostRuntime) -> Result<(), Fail> {
     expect_copies(&rt, &COPIED)
 }
 
-/// Whether faults have these numbers and texts.
+/// Expects these numbers and texts of faults.
 fn expect_faults(rt: &impl Abort, rows: &[(Fault, u64, &str)]) {
     for (fault, number, text) in rows {
         expect_number(rt, u64::from(fault.number()), *number, text);
@@ -141,6 +153,7 @@ fn expect_faults(rt: &impl Abort, rows: &[(Fault, u64, &str)]) {
     }
 }
 
+/// Guards clients that match error lines byte for byte.
 #[test]
 fn each_fault_has_its_number_and_its_text(rt: HostRuntime) {
     expect_faults(&rt, &FAULTS);

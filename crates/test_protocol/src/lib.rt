@@ -1,6 +1,6 @@
-//! The tests of the protocol: of tc_grammar, tc_stats, tc_feed, tc_users and tc_session, over their public
-//! calls alone. What no clause says and no socket shows is tested here: lines, streams and counts made by
-//! hand, and public calls with memory to spare.
+//! Tests of tc_grammar, tc_stats, tc_feed, tc_users and tc_session over their public calls alone.
+//! They cover what no clause says and no socket shows: lines, streams and counts made by hand, and
+//! public calls with memory to spare.
 #![tactic(auto)]
 
 #[cfg(test)]

@@ -1,14 +1,15 @@
-//! Guesses at what the next requests ask for: lines by hand, since no clause says what is guessed.
+//! Guesses at what the next requests ask for, on lines by hand. No clause says what is guessed.
 
 use crate::fixtures::{expect_bytes, expect_number};
 use std::process::Abort;
 use std::test::Fail;
 use tc_feed::{Feed, Peeked};
 
-/// Where the request behind ends that was not seen.
+/// Means that the guess did not see the end of the request.
 const UNSEEN: u64 = u64::MAX;
 
-/// Lines, the key that each seems to ask for, and where the request behind it begins.
+/// Lines, the key that each seems to ask for, and the place of the next request in bytes from the
+/// line's first.
 const LINES: [(&str, &str, u64); 11] = [
     ("get a\r\nget b\r\n", "a", 7),
     ("gets key\n", "key", 9),
@@ -23,7 +24,7 @@ const LINES: [(&str, &str, u64); 11] = [
     ("touch k 1000000000000000\r\n", "k", UNSEEN),
 ];
 
-/// What shows no key: none that is whole, or several.
+/// Lines that show no key: no whole key, several keys, or a command of another form.
 const NOTHING: [&str; 8] = [
     "",
     "get",
@@ -35,7 +36,7 @@ const NOTHING: [&str; 8] = [
     "flush_all 10\r\n",
 ];
 
-/// Whether this is guessed.
+/// Expects a guess with this key and this end.
 fn expect_peeked(rt: &impl Abort, got: Option<Peeked<'_>>, key: &str, end: u64, at: &str) {
     let (found, behind) = match got {
         Some(
@@ -51,6 +52,8 @@ fn expect_peeked(rt: &impl Abort, got: Option<Peeked<'_>>, key: &str, end: u64, 
     expect_number(rt, behind, end, at);
 }
 
+/// Guards speed: the memory that the next commands need is read ahead only if their keys are
+/// guessed.
 #[test]
 fn a_line_shows_its_key_and_where_it_ends(rt: HostRuntime) -> Result<(), Fail> {
     for (line, key, end) in LINES {
@@ -61,6 +64,7 @@ fn a_line_shows_its_key_and_where_it_ends(rt: HostRuntime) -> Result<(), Fail> {
     Ok(())
 }
 
+/// Guards speed: no memory is read ahead for a key that is not whole or not asked for.
 #[test]
 fn what_asks_for_no_key_shows_none(rt: HostRuntime) -> Result<(), Fail> {
     for line in NOTHING {
@@ -71,6 +75,7 @@ fn what_asks_for_no_key_shows_none(rt: HostRuntime) -> Result<(), Fail> {
     Ok(())
 }
 
+/// Guards speed: guesses must be about the requests that are still to come.
 #[test]
 fn a_guess_begins_behind_bytes_that_were_read(rt: HostRuntime) -> Result<(), Fail> {
     let mut feed = Feed::new(rt.alloc());

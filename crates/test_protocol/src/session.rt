@@ -1,6 +1,6 @@
-//! What no clause says of connections and no socket shows: what a server is told, what waits, what is read ahead,
-//! and each call with memory to spare. A call that meets a refused allocation is made again. Logins and reply texts
-//! are in examples/sessions.rows and examples/scripts.rows.
+//! Tests of what no clause says of connections and no socket shows: news for the operator, waiting
+//! output, requests read ahead, and each call with memory to spare. A call that is refused memory
+//! is made again. Logins and reply texts are in examples/sessions.rows and examples/scripts.rows.
 ghost use Rattle.std.specs.Prelude.{◌≤◌, OnOk};
 
 mod later;
@@ -18,7 +18,7 @@ use tc_item::NoMemory;
 use tc_session::{News, Session, Want};
 use tc_users::{UserNo, Users};
 
-/// Takes a piece, once more where memory was refused.
+/// Pushes a piece, and once more if memory was refused.
 fn push(session: &mut Session, piece: &[u8]) -> Result<(), NoMemory> {
     match session.push(piece) {
         Ok(()) => Ok(()),
@@ -26,7 +26,7 @@ fn push(session: &mut Session, piece: &[u8]) -> Result<(), NoMemory> {
     }
 }
 
-/// What the next request wants, looked for once more where memory was refused.
+/// Returns what the next request wants. Looks once more if memory was refused.
 fn next(alloc: Global, session: &mut Session, users: &Users) -> Result<Want, NoMemory>
     ensures { OnOk result (64 ≤ session.new.room) }
 {
@@ -36,7 +36,7 @@ fn next(alloc: Global, session: &mut Session, users: &Users) -> Result<Want, NoM
     }
 }
 
-/// Whose cache a command is for.
+/// Returns whose cache a command is for.
 fn owner_of(user: UserNo) -> Wanted {
     match user.number() {
         1 => Wanted::Alices,
@@ -45,7 +45,7 @@ fn owner_of(user: UserNo) -> Wanted {
     }
 }
 
-/// What a request wants, without the command.
+/// Returns what a request wants, without the command.
 fn wanted_of(want: &Want) -> Wanted {
     match want {
         Want::Nothing => Wanted::Nothing,
@@ -55,7 +55,7 @@ fn wanted_of(want: &Want) -> Wanted {
     }
 }
 
-/// What the next request wants, without the command.
+/// Returns what the next request wants, without the command.
 fn wanted(alloc: Global, session: &mut Session, users: &Users) -> Result<Wanted, NoMemory>
     ensures { OnOk result (64 ≤ session.new.room) }
 {
@@ -65,33 +65,34 @@ fn wanted(alloc: Global, session: &mut Session, users: &Users) -> Result<Wanted,
     }
 }
 
-/// A connection that alice's login has bound, with nothing to send.
+/// Returns a connection bound to alice, with nothing to send.
 fn opened(alloc: Global, users: &Users) -> Result<Session, NoMemory> {
     let mut session = Session::new(alloc);
     bind(alloc, &mut session, users)?;
     Ok(session)
 }
 
-/// Logs alice in.
+/// Logs alice in, with a quiet `set`.
 fn bind(alloc: Global, session: &mut Session, users: &Users) -> Result<(), NoMemory> {
     push(session, b"set auth 0 0 9 noreply\r\nalice one\r\n")?;
     wanted(alloc, session, users)?;
     Ok(())
 }
 
-/// Whether a request wants this here.
+/// Expects a request to want this.
 fn expect_wanted(rt: &impl Abort, got: Wanted, want: Wanted, at: &str) {
     assert_eq!(rt; got, want, "{at}");
 }
 
-/// Whether this waits to be sent, in one slice.
+/// Expects these bytes to wait, in one slice.
 fn expect_out(rt: &impl Abort, session: &Session, out: &[u8], at: &str) {
     let (first, behind) = session.parts().split_first();
     expect_bytes(rt, first, out, at);
     assert!(rt; behind.is_empty(), "{at}");
 }
 
-/// Takes a turn.
+/// Pushes a turn's piece, and expects what the next request wants and what waits to be sent after
+/// it.
 fn expect_turn(
     rt: &(impl AllocGlobal + Abort),
     session: &mut Session,
@@ -106,7 +107,7 @@ fn expect_turn(
     Ok(())
 }
 
-/// Whether what was said on a new connection is told so, once.
+/// Says something on a new connection, and expects this news once.
 fn expect_news(
     rt: &(impl AllocGlobal + Abort),
     users: &Users,
@@ -116,7 +117,7 @@ fn expect_news(
     hear_news(rt, &mut Session::new(rt.alloc()), users, said, news)
 }
 
-/// The same on this connection.
+/// Says something on this connection, and expects this news once.
 fn hear_news(
     rt: &(impl AllocGlobal + Abort),
     session: &mut Session,
@@ -131,7 +132,7 @@ fn hear_news(
     Ok(())
 }
 
-/// The news of a refused login of the user with this number, or of none.
+/// Returns the news of a refused login that named the user with this number, or nobody.
 fn refused_login(user: Option<u32>) -> Option<News> {
     match user {
         Some(user) => Some(News::LoginRefused(Some(UserNo::new(user)))),
@@ -139,7 +140,7 @@ fn refused_login(user: Option<u32>) -> Option<News> {
     }
 }
 
-/// Whether what is said on new connections is told so.
+/// Says a login on each of several new connections, and expects its news.
 fn expect_told(rt: &(impl AllocGlobal + Abort), users: &Users) -> Result<(), NoMemory> {
     expect_news(
         rt,
@@ -158,6 +159,8 @@ fn expect_told(rt: &(impl AllocGlobal + Abort), users: &Users) -> Result<(), NoM
     expect_news(rt, users, "set a 0 0 257\r\n", Some(News::LongBlock))
 }
 
+/// Guards the operator's log: a wrong token must be counted against the user whose name came with
+/// it.
 #[test]
 fn a_refused_login_is_told_by_its_user(rt: HostRuntime) -> Result<(), Fail> {
     let users = users(rt.alloc())?;
@@ -165,7 +168,7 @@ fn a_refused_login_is_told_by_its_user(rt: HostRuntime) -> Result<(), Fail> {
     Ok(())
 }
 
-/// Reads a request ahead, and asks for it.
+/// Reads a request ahead, which leaves it unread, and asks for it.
 fn expect_ahead(
     rt: &(impl AllocGlobal + Abort),
     session: &mut Session,
@@ -180,6 +183,7 @@ fn expect_ahead(
     Ok(())
 }
 
+/// Guards requests that were read ahead: each must be done once, neither dropped nor doubled.
 #[test]
 fn a_request_that_was_read_ahead_is_taken_when_it_is_asked_for(
     rt: HostRuntime,
@@ -190,7 +194,7 @@ fn a_request_that_was_read_ahead_is_taken_when_it_is_asked_for(
     Ok(())
 }
 
-/// Whether the connection is closed.
+/// Returns whether the connection is open or closed.
 fn state_of(session: &Session) -> State {
     if session.is_closed() {
         State::Closed
@@ -199,13 +203,13 @@ fn state_of(session: &Session) -> State {
     }
 }
 
-/// Whether a connection is in this state, with so many bytes unread.
+/// Expects a connection to be in this state, with `kept` bytes unread.
 fn expect_state(rt: &impl Abort, session: &Session, state: State, kept: u64, at: &str) {
     assert_eq!(rt; state_of(session), state, "{at}");
     expect_number(rt, session.unread_len() as u64, kept, at);
 }
 
-/// Takes steps.
+/// Takes each step: sends its bytes, takes its turn, and expects the state after it.
 fn expect_steps(
     rt: &(impl AllocGlobal + Abort),
     session: &mut Session,
@@ -220,7 +224,7 @@ fn expect_steps(
     Ok(())
 }
 
-/// Takes steps, is shut with a whole line unread, and takes steps.
+/// Takes steps, shuts the connection with a whole line unread, and takes further steps.
 fn expect_shut(
     rt: &(impl AllocGlobal + Abort),
     session: &mut Session,
@@ -234,6 +238,8 @@ fn expect_shut(
     expect_steps(rt, session, users, after)
 }
 
+/// Guards replies that a socket takes in pieces: no byte may be sent twice or skipped. A shut
+/// connection must do no further request.
 #[test]
 fn what_was_sent_is_given_up_and_the_rest_waits(rt: HostRuntime) -> Result<(), Fail> {
     let users = users(rt.alloc())?;

@@ -1,5 +1,5 @@
-//! What no clause says of outcomes, hits and counters: counts by hand, and each call with memory to
-//! spare. The rows of `stats` are in examples/scripts.rows.
+//! Tests of what no clause says of outcomes, hits and counters: counts by hand, and each call with
+//! memory to spare. The rows of `stats` are in examples/scripts.rows.
 
 use crate::fixtures::{Found, command, expect_number, hit, hits, push_hit};
 use std::alloc::Global;
@@ -15,7 +15,7 @@ const FOUND: [Found; 3] = [
     ("a", "data", 7, 3),
 ];
 
-/// Whether hits have these cas numbers.
+/// Expects hits to have these cas numbers.
 fn expect_cas(rt: &impl Abort, hits: &Hits, wanted: &[u64]) {
     expect_number(rt, hits.len() as u64, wanted.len() as u64, "len");
     for (hit, cas) in hits.as_slice().iter().zip(wanted) {
@@ -23,7 +23,7 @@ fn expect_cas(rt: &impl Abort, hits: &Hits, wanted: &[u64]) {
     }
 }
 
-/// Whether these are the three hits, and a copy of them is too.
+/// Expects the three hits, in the list and in a copy of it.
 fn expect_three(rt: &(impl AllocGlobal + Abort), hits: &Hits) -> Result<(), NoMemory> {
     expect_cas(rt, hits, &[1, 2, 3]);
     let copied = hits.copy(rt.alloc())?;
@@ -31,6 +31,8 @@ fn expect_three(rt: &(impl AllocGlobal + Abort), hits: &Hits) -> Result<(), NoMe
     Ok(())
 }
 
+/// Guards `get` with several keys: values come in the order asked, and a key asked twice comes
+/// twice.
 #[test]
 fn hits_stand_in_the_order_pushed(rt: HostRuntime) -> Result<(), Fail> {
     assert!(rt; Hits::new().is_empty());
@@ -38,6 +40,7 @@ fn hits_stand_in_the_order_pushed(rt: HostRuntime) -> Result<(), Fail> {
     Ok(())
 }
 
+/// Guards the audit's journal: kept hits must not change with the list they were copied from.
 #[test]
 fn a_hit_pushed_after_a_copy_is_not_in_the_copy(rt: HostRuntime) -> Result<(), Fail> {
     let mut found = hits(rt.alloc(), &FOUND)?;
@@ -48,6 +51,7 @@ fn a_hit_pushed_after_a_copy_is_not_in_the_copy(rt: HostRuntime) -> Result<(), F
     Ok(())
 }
 
+/// Guards the order of values if hits are made from a list at once.
 #[test]
 fn hits_stand_as_in_the_list_that_they_were_in(rt: HostRuntime) -> Result<(), Fail> {
     let mut found = Vec::new(rt.alloc());
@@ -58,6 +62,7 @@ fn hits_stand_as_in_the_list_that_they_were_in(rt: HostRuntime) -> Result<(), Fa
     Ok(())
 }
 
+/// Counters that all differ, so that an exchange of two shows.
 const COUNTERS: Counters = Counters {
     curr_items: 1,
     total_items: 2,
@@ -85,11 +90,12 @@ const COUNTERS: Counters = Counters {
     store_too_large: 24,
 };
 
-/// Whether counters are these.
+/// Expects these counters.
 fn expect_counters(rt: &impl Abort, got: &Counters, want: &Counters) {
     assert!(rt; got == want, "{got:?}");
 }
 
+/// Guards `stats`: the boxed counters must be those of the cache, each in its own place.
 #[test]
 fn boxed_counters_are_what_was_put_in(rt: HostRuntime) -> Result<(), Fail> {
     let mut statistics = Statistics::new(rt.alloc(), Counters::new())?;
@@ -115,32 +121,35 @@ const OUTCOMES: [Outcome; 12] = [
     Outcome::CasWorn,
 ];
 
-/// Whether there is memory for a copy.
+/// Expects a copy to succeed.
 fn expect_copied(rt: &(impl AllocGlobal + Abort), outcome: &Outcome) {
     assert!(rt; outcome.copy(rt.alloc()).is_ok());
 }
 
+/// Expects a copy of each outcome to succeed.
 fn expect_all_copied(rt: &(impl AllocGlobal + Abort), outcomes: &[Outcome]) {
     for outcome in outcomes {
         expect_copied(rt, outcome);
     }
 }
 
+/// Guards the audit's journal, which must keep every kind of outcome.
 #[test]
 fn outcomes_that_hold_no_data_are_copied(rt: HostRuntime) {
     expect_all_copied(&rt, &OUTCOMES);
 }
 
-/// What a look-up comes to that finds these.
+/// Returns the outcome of a look-up that finds these hits.
 pub fn look_up(alloc: Global, found: &[Found]) -> Result<Outcome, Fail> {
     Ok(Outcome::Values(hits(alloc, found)?))
 }
 
-/// What `stats` comes to where these are the counters.
+/// Returns the outcome of `stats` with these counters.
 pub fn stats_of(alloc: Global, counters: &Counters) -> Result<Outcome, NoMemory> {
     Ok(Outcome::Stats(Statistics::new(alloc, *counters)?))
 }
 
+/// Guards the audit's journal, which must keep hits and counters too.
 #[test]
 fn outcomes_that_hold_something_are_copied(rt: HostRuntime) -> Result<(), Fail> {
     expect_copied(&rt, &look_up(rt.alloc(), &FOUND)?);
@@ -148,7 +157,7 @@ fn outcomes_that_hold_something_are_copied(rt: HostRuntime) -> Result<(), Fail> 
     Ok(())
 }
 
-/// Counts a command that came to this outcome.
+/// Counts a command with this outcome.
 fn note(alloc: Global, counters: &mut Counters, said: &str, outcome: &Outcome) -> Result<(), Fail> {
     match command(alloc, said) {
         Ok(command) => counters.note(&command, outcome),
@@ -157,7 +166,7 @@ fn note(alloc: Global, counters: &mut Counters, said: &str, outcome: &Outcome) -
     Ok(())
 }
 
-/// Counts a look-up that found these.
+/// Counts a look-up that found these hits.
 fn note_look_up(
     alloc: Global,
     counters: &mut Counters,
@@ -171,9 +180,10 @@ fn note_look_up(
 /// One hit.
 const ONE: [Found; 1] = [("k", "x", 0, 1)];
 
-/// A command, what it came to, and how often.
+/// A command, its outcome, and how often it is counted.
 type Noted = (&'static str, Outcome, u32);
 
+/// Commands to be counted, with different numbers of times for outcomes that are easily confused.
 const NOTED: [Noted; 20] = [
     ("set k 0 0 1\r\nx\r\n", Outcome::Stored, 1),
     ("add k 0 0 1\r\nx\r\n", Outcome::NotStored, 1),
@@ -197,7 +207,7 @@ const NOTED: [Noted; 20] = [
     ("version\r\n", Outcome::Version, 1),
 ];
 
-/// Counts these.
+/// Counts each row's command as often as the row says.
 fn note_all(alloc: Global, counters: &mut Counters, rows: &[Noted]) -> Result<(), Fail> {
     for (said, outcome, times) in rows {
         for _ in 0..*times {
@@ -207,7 +217,7 @@ fn note_all(alloc: Global, counters: &mut Counters, rows: &[Noted]) -> Result<()
     Ok(())
 }
 
-/// The counters after these, a `get` that found one of three keys, and a `gats` that found one of
+/// The counters after `NOTED`, a `get` that found one of three keys, and a `gats` that found one of
 /// two.
 const COUNTED: Counters = Counters {
     curr_items: 0,
@@ -236,7 +246,7 @@ const COUNTED: Counters = Counters {
     store_too_large: 2,
 };
 
-/// The counters after all of these.
+/// Counts `NOTED` and two look-ups. Returns the counters.
 fn counted(alloc: Global) -> Result<Counters, Fail> {
     let mut counters = Counters::new();
     note_all(alloc, &mut counters, &NOTED)?;
@@ -245,15 +255,17 @@ fn counted(alloc: Global) -> Result<Counters, Fail> {
     Ok(counters)
 }
 
+/// Guards the hit rates and totals that operators read in `stats`.
 #[test]
 fn each_command_counts_by_what_it_came_to(rt: HostRuntime) -> Result<(), Fail> {
     expect_counters(&rt, &counted(rt.alloc())?, &COUNTED);
     Ok(())
 }
 
-/// A `flush_all`, three times.
+/// Three times a `flush_all`.
 const FLUSHED: [Noted; 1] = [("flush_all\r\n", Outcome::Done, 3)];
 
+/// Guards graphs drawn from `stats`: a counter must never fall back to 0 by overflow.
 #[test]
 fn a_counter_stops_at_the_top(rt: HostRuntime) -> Result<(), Fail> {
     let mut counters = Counters::new();

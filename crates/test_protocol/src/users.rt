@@ -1,5 +1,6 @@
-//! What no text of settings shows: bytes that are no UTF-8, numbers that TOML cannot say, and faults that take
-//! all memory or a long text. examples/settings.rows has the others.
+//! User rows that no text of settings can contain: bytes that are not UTF-8, numbers that TOML
+//! cannot hold, and faults that need all memory or a long text. examples/settings.rows has the
+//! others.
 
 use crate::fixtures::{expect_number, expect_text, row};
 use std::alloc::{AllocError, Global};
@@ -7,29 +8,30 @@ use std::process::Abort;
 use std::test::Fail;
 use tc_users::{Field, SettingsFault, Text, TextFault, UserSpec, Users};
 
-/// Whether a fault is this one.
+/// Expects this fault, or none.
 fn expect_fault(rt: &impl Abort, got: Option<SettingsFault>, want: Option<SettingsFault>) {
     assert!(rt; got == want, "{got:?}");
 }
 
-/// The fault of a row alone.
+/// Returns the fault of a table with this row alone, or none.
 fn row_fault(alloc: Global, row: UserSpec) -> Result<Option<SettingsFault>, Fail> {
     let mut rows = Vec::new(alloc);
     rows.push(row)?;
     Ok(Users::build(rows).err())
 }
 
-/// The fault of a row with this name and this token.
+/// Returns the fault of a row with this name and this token, or none.
 fn text_fault(alloc: Global, name: &[u8], token: &[u8]) -> Result<Option<SettingsFault>, Fail> {
     row_fault(alloc, row(alloc, name, token)?)
 }
 
-/// Bytes that stand in no name, and those that stand in no token.
+/// Bytes that a name may not have.
 const NOT_IN_NAMES: [u8; 14] = [0, 32, 43, 44, 47, 58, 64, 91, 94, 96, 123, 127, 128, 255];
 
+/// Bytes that a token may not have.
 const NOT_IN_TOKENS: [u8; 5] = [0, 32, 127, 128, 255];
 
-/// Whether a byte at the end of a name, or of a token, is a fault.
+/// Expects a byte at the end of a name, or of a token, to be refused with its place.
 fn expect_bad_byte(rt: &(impl AllocGlobal + Abort), in_name: bool, byte: u8) -> Result<(), Fail> {
     let fault = TextFault::BadByte { place: 2, byte };
     if in_name {
@@ -43,6 +45,7 @@ fn expect_bad_byte(rt: &(impl AllocGlobal + Abort), in_name: bool, byte: u8) -> 
     Ok(())
 }
 
+/// Expects each byte to be refused at the end of a name, or of a token.
 fn expect_bad_bytes(
     rt: &(impl AllocGlobal + Abort),
     in_name: bool,
@@ -54,13 +57,15 @@ fn expect_bad_bytes(
     Ok(())
 }
 
+/// Guards the message by which an operator finds the bad byte in a name or a token.
 #[test]
 fn a_byte_outside_a_name_or_a_token_is_shown_with_its_place(rt: HostRuntime) -> Result<(), Fail> {
     expect_bad_bytes(&rt, true, &NOT_IN_NAMES)?;
     expect_bad_bytes(&rt, false, &NOT_IN_TOKENS)
 }
 
-/// Alice's row, whose second token is her first, and whose items may have no data.
+/// Returns alice's row with two faults: her second token equals her first, and her largest item has
+/// 0 bytes.
 fn same_tokens(alloc: Global) -> Result<UserSpec, Fail> {
     let mut alice = row(alloc, b"alice", b"one")?;
     alice.second = Some(Text::copy(alloc, b"one")?);
@@ -68,13 +73,14 @@ fn same_tokens(alloc: Global) -> Result<UserSpec, Fail> {
     Ok(alice)
 }
 
-/// Alice's row with the largest budget that can be said.
+/// Returns alice's row with a budget of 2^64 - 1 bytes.
 fn largest_budget(alloc: Global) -> Result<UserSpec, Fail> {
     let mut alice = row(alloc, b"alice", b"one")?;
     alice.budget = u64::MAX;
     Ok(alice)
 }
 
+/// Guards start-up: a table with a bad row is refused, and the operator reads its first fault.
 #[test]
 fn rows_are_refused_by_their_first_fault(rt: HostRuntime) -> Result<(), Fail> {
     let want = SettingsFault::SameToken { user: 1 };
@@ -93,15 +99,15 @@ fn rows_are_refused_by_their_first_fault(rt: HostRuntime) -> Result<(), Fail> {
     Ok(())
 }
 
-/// A fault's words.
+/// Returns a fault's text.
 fn words(alloc: Global, fault: SettingsFault) -> Result<String, AllocError> {
     format!(in alloc; "{fault}")
 }
 
-/// A fault, its number and its words.
+/// A fault, its number and its text.
 type Told = (SettingsFault, u64, &'static str);
 
-/// Faults that no text of a few lines has.
+/// Faults that no short text of settings can cause.
 const OF_NO_TEXT: [Told; 2] = [
     (SettingsFault::NoMemory, 9, "out of memory"),
     (
@@ -113,6 +119,7 @@ const OF_NO_TEXT: [Told; 2] = [
     ),
 ];
 
+/// Expects the number and the text of each fault.
 fn expect_told(rt: &(impl AllocGlobal + Abort), rows: &[Told]) -> Result<(), Fail> {
     for (fault, number, want) in rows {
         expect_number(rt, u64::from(fault.number()), *number, want);
@@ -121,6 +128,8 @@ fn expect_told(rt: &(impl AllocGlobal + Abort), rows: &[Told]) -> Result<(), Fai
     Ok(())
 }
 
+/// Guards the messages and numbers of faults that an operator meets only on a huge or starved
+/// machine.
 #[test]
 fn want_of_memory_and_too_many_users_are_told(rt: HostRuntime) -> Result<(), Fail> {
     expect_told(&rt, &OF_NO_TEXT)

@@ -1,5 +1,5 @@
-//! Tests of what no socket shows of a server that runs in threads: halls that many threads call, and workers over
-//! wires in memory.
+//! Tests of what no socket shows of a threaded server: halls that many threads call, and workers
+//! over wires in memory.
 #![tactic(auto)]
 
 #[cfg(test)]

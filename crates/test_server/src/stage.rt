@@ -1,4 +1,4 @@
-//! Two users, a hall over their caches, and the scenes that are played in it.
+//! Two users, a hall over their caches, and the scenes that tests play in it.
 ghost use Rattle.std.specs.Prelude.{◌≡◌, ◌<◌, map};
 ghost use Rattle.tc_fresh.specs.Beginning.{fresh_cache};
 
@@ -24,59 +24,60 @@ use tc_partition::Fast;
 use tc_plain::{Cache, Journal, Plain};
 use tc_users::{Text, UserNo, UserSpec, Users};
 
-/// What is played in a hall.
+/// A scene that a test plays in a hall.
 #[derive(Clone, Copy)]
 pub enum Scene {
     Within(Within),
     Closing(Closing),
 }
 
-/// What is played in a hall that stays open.
+/// A scene that leaves the hall open.
 #[derive(Clone, Copy)]
 pub enum Within {
-    /// A seat reads back what it set.
+    /// A seat reads back its own `set`.
     ReadsBack,
-    /// Calls at moments that have passed in a user's book.
+    /// Calls at moments earlier than a user's book.
     CallsLate,
+    /// Calls on users that do not exist.
     CallsNobody,
-    /// Two connections of one worker, one after the other.
+    /// One worker serves two connections, one after the other.
     Talks(Plan, Plan),
-    /// One turn of a connection that has nothing more to say.
+    /// A connection rests once it has nothing more to say.
     Rests,
-    /// Two connections of one worker in the same turns, the second of which came to it first.
+    /// One worker serves two connections in the same turns. It gets the second one first.
     Beside(Plan, Plan),
-    /// Many connections of alice's that read late, with bob's.
+    /// Alice has many connections that take their replies late, and bob has one.
     HoldsBack,
-    /// Many busy connections of alice's, with bob's or without.
+    /// Alice has many busy connections, with or without one of bob's.
     Deals(Guests),
-    /// Many items of alice's are due in one second.
+    /// Many of alice's items are due in one second.
     FallsDue,
-    /// A client over a wire that knows its bytes.
+    /// A client talks over a wire that knows its bytes.
     Tapes,
-    /// Two users come to the worker of one.
+    /// Both users connect to the worker of alice.
     Comes,
-    /// Bob is served while alice's worker is held.
+    /// Bob gets his replies while a gate holds alice's worker.
     Holds(Hold),
 }
 
-/// What is played in a hall that is closed behind it.
+/// A scene that closes the hall.
 #[derive(Clone, Copy)]
 pub enum Closing {
-    /// The hall is closed without its last seat, and then with it.
+    /// Closes the hall without its last seat, and then with it.
     ClosesTwice,
-    /// One call more than a page holds.
+    /// Makes one more call than a page holds.
     FillsPage,
-    /// A set and 39 gets.
+    /// Makes a `set` and 39 `get`s on pages of 16 entries.
     TurnsPages,
-    /// A page on which items are touched, evicted, expired and flushed.
+    /// Fills a page on which items are touched, evicted, expired and flushed.
     ChangesAll,
-    /// A hundred calls by each of eight threads, beside a keeper.
+    /// Makes a hundred calls in each of eight threads while a keeper maintains.
     EightThreads,
-    /// A hundred calls by each of eight workers.
+    /// Makes a hundred calls in each of eight workers.
     Counts,
 }
 
-/// Users, an empty cache for each, and a table for their hall.
+/// Users, an empty cache for each, and the table for their hall.
 #[derive(Drop)]
 pub struct Beginning<C: Cache> {
     pub opened: Opened,
@@ -85,7 +86,7 @@ pub struct Beginning<C: Cache> {
     ghost fresh: { map C.settled caches.items ≡ map fresh_cache users },
 }
 
-/// The budget of each user in a scene.
+/// Returns each user's budget in a scene, in bytes.
 fn budget_of(scene: &Scene) -> u64 {
     match scene {
         Scene::Within(Within::FallsDue) => 1_048_576,
@@ -93,6 +94,7 @@ fn budget_of(scene: &Scene) -> u64 {
     }
 }
 
+/// Returns a user's row with the token `one` and a largest item of 20,000 bytes.
 fn row(alloc: Global, name: &[u8], budget: u64) -> Result<UserSpec, Fail> {
     Ok(UserSpec {
         name: Text::copy(alloc, name)?,
@@ -109,6 +111,7 @@ fn add(alloc: Global, users: &mut Users, name: &[u8], budget: u64) -> Result<(),
     Ok(())
 }
 
+/// Returns the table of alice, user 1, and bob, user 2.
 fn two_users(alloc: Global, budget: u64) -> Result<Users, Fail> {
     let mut users = Users::new(alloc);
     add(alloc, &mut users, b"alice", budget)?;
@@ -116,7 +119,7 @@ fn two_users(alloc: Global, budget: u64) -> Result<Users, Fail> {
     Ok(users)
 }
 
-/// Two users with empty caches of a kind and this budget.
+/// Returns the two users with empty caches of one kind and this budget.
 fn begin<C: Kind>(alloc: Global, hasher: RandomState, budget: u64) -> Result<Beginning<C>, Fail> {
     let users = two_users(alloc, budget)?;
     let caches = begin_all(alloc, &users, hasher)?;
@@ -127,7 +130,7 @@ fn begin<C: Kind>(alloc: Global, hasher: RandomState, budget: u64) -> Result<Beg
     })
 }
 
-/// A scene in a hall that stays open.
+/// Plays a scene that leaves the hall open.
 fn perform_within<
     C: Cache + Send + Sync,
     N: Naming + Send + Sync,
@@ -159,7 +162,7 @@ fn perform_within<
     }
 }
 
-/// A scene in a hall of `all` seats.
+/// Plays a scene in a hall of `all` seats.
 fn perform<
     C: Cache + Send + Sync,
     N: Naming + Send + Sync,
@@ -193,7 +196,7 @@ fn perform<
     }
 }
 
-/// A scene in the hall N of a beginning.
+/// Opens the hall `N` of a beginning, and plays a scene in it.
 fn perform_on<
     C: Cache + Send + Sync,
     N: Naming + Send + Sync,
@@ -222,7 +225,7 @@ fn perform_on<
     perform(rt, alloc, hall, &users, given, seats, keeps, scene)
 }
 
-/// A scene over a kind of cache, with a journal or none.
+/// Plays a scene over one kind of cache, with or without a journal.
 fn play_once<C: Kind + Send + Sync, R: Threads + Wait + Abort + Time + Copy + Send + Sync + Drop>(
     rt: &R,
     alloc: Global,
@@ -238,7 +241,7 @@ fn play_once<C: Kind + Send + Sync, R: Threads + Wait + Abort + Time + Copy + Se
     perform_on::<C, Brand, R>(rt, alloc, beginning, seats, journal, keeps, scene)
 }
 
-/// A scene over a kind of cache, with a journal and without.
+/// Plays a scene over one kind of cache twice: with a journal and without.
 fn play_over<C: Kind + Send + Sync, R: Threads + Wait + Abort + Time + Copy + Send + Sync + Drop>(
     rt: &R,
     alloc: Global,
@@ -253,8 +256,8 @@ fn play_over<C: Kind + Send + Sync, R: Threads + Wait + Abort + Time + Copy + Se
     play_once::<C, R>(rt, alloc, hasher, seats, journal, Journal::Off, scene)
 }
 
-/// A scene over each kind of cache, with a journal and without, in a hall of so many seats and with so many
-/// entries a page.
+/// Plays a scene over each kind of cache, with a journal and without. The hall has `seats` seats,
+/// and a page has `journal` entries.
 pub fn play<R: Threads + Wait + Abort + Time + RandomSource + Copy + Send + Sync + Drop>(
     rt: &R,
     alloc: Global,
@@ -269,7 +272,7 @@ pub fn play<R: Threads + Wait + Abort + Time + RandomSource + Copy + Send + Sync
     play_over::<Fast, R>(rt, alloc, hasher, seats, journal, &scene)
 }
 
-/// A scene over the fast cache alone, with a journal and without.
+/// Plays a scene over the fast cache alone, with a journal and without.
 pub fn play_fast<R: Threads + Wait + Abort + Time + RandomSource + Copy + Send + Sync + Drop>(
     rt: &R,
     alloc: Global,
@@ -283,13 +286,13 @@ pub fn play_fast<R: Threads + Wait + Abort + Time + RandomSource + Copy + Send +
     play_over::<Fast, R>(rt, alloc, hasher, seats, journal, &scene)
 }
 
-/// The first seat.
+/// Returns the first seat.
 pub fn first<'a, N: Naming, R: Abort>(rt: &R, seats: &'a mut Vec<Seat<N>>) -> &'a mut Seat<N> {
     assert!(rt; !seats.is_empty());
     &mut seats[0]
 }
 
-/// One call of the first connection, at a second below 2^40.
+/// Makes one call for connection 1, at a second below 2^40.
 pub fn call<C: Cache, N: Naming, R: Wait + Abort>(
     rt: &R,
     alloc: Global,
@@ -304,7 +307,7 @@ pub fn call<C: Cache, N: Naming, R: Wait + Abort>(
     Ok(hall.call(rt, alloc, seat, UserNo::new(user), now, 1, command)?)
 }
 
-/// A hall that is closed with all its seats.
+/// Closes a hall with all its seats.
 pub fn closed<C: Cache, N: Naming, R: Abort>(
     rt: &R,
     hall: Hall<C, N>,
@@ -316,7 +319,7 @@ pub fn closed<C: Cache, N: Naming, R: Abort>(
     }
 }
 
-/// How many entries one of `all` seats wrote for a user.
+/// Returns how many entries one of `all` seats wrote for a user.
 pub fn count<C: Cache, N: Naming, R: Abort>(
     rt: &R,
     closed: &Closed<C, N>,

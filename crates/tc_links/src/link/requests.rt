@@ -1,4 +1,4 @@
-//! The requests of a connection: each is asked for, done, and answered.
+//! A connection's requests: each is read, done, and answered.
 ghost use Rattle.std.specs.Prelude.{◌≡◌, ◌≢◌, ◌≤◌, ℕ, List, [], true, false};
 ghost use Rattle.std.specs.Prelude.{Some, IsSome};
 ghost use Rattle.tc_model.specs.Connection.{is_closed};
@@ -24,16 +24,16 @@ use tc_plain::Cache;
 use tc_session::{News, Want};
 use tc_users::UserNo;
 
-/// How many requests are done in a turn at most.
+/// The most requests in a turn.
 pub(crate) const REQUESTS: u32 = 16;
 
-/// More bytes than these are sent as soon as a turn's requests are done; fewer wait until the other
-/// connections' are done too.
+/// A connection with more bytes to send than this writes right after its requests. Fewer wait until
+/// the other connections' requests are done too.
 const EARLY_OUT: usize = 131_072;
 
 impl<W: Wire + Drop> Link<W> {
-    /// The second part of a turn: does requests, and writes where much waits. Each command is one call of
-    /// the hall, and there are 16 at most. Whether it goes on.
+    /// The second part of a turn: does requests, and writes if much waits to be sent. Each command
+    /// is one call of the hall, and a turn has at most 16. Returns whether the connection goes on.
     pub(crate) fn do_requests<'a, R: Wait, C: Cache, N: Naming, G: Gate>(
         &mut self,
         service: &Service<'a, R, C, N, G>,
@@ -57,7 +57,7 @@ impl<W: Wire + Drop> Link<W> {
         if self.keeps_out() {
             return true;
         }
-        // No lock is held while a socket is touched.
+        // The worker holds no lock while it writes to a socket.
         lease.release();
         self.send()
     }
@@ -69,13 +69,14 @@ impl<W: Wire + Drop> Link<W> {
         self.last.is_some()
     }
 
-    /// Whether what waits to be sent is kept for the last part of the turn.
+    /// Whether its output waits for the last part of the turn.
     fn keeps_out(&self) -> bool {
         self.session.about_out() <= EARLY_OUT || self.guesses.waits()
     }
 
-    /// Does requests until none is whole, many were done, much was done, much waits to be sent, a reply
-    /// waits, or it is to be admitted anew. The first is done in any case, so that it gets on.
+    /// Does up to 16 requests. It stops if none is whole, a share of work is done, it is full, a
+    /// reply is held back, or it must be admitted again. The first request needs no new admission,
+    /// so that the connection makes progress.
     fn serve<'a, R: Wait, C: Cache, N: Naming, G: Gate>(
         &mut self,
         service: &Service<'a, R, C, N, G>,
@@ -100,20 +101,20 @@ impl<W: Wire + Drop> Link<W> {
         pace
     }
 
-    /// Whether others are to go on first, or a reply waits.
+    /// Whether others go first, or a reply is held back.
     fn pauses(&self) -> bool {
         self.work.units() >= SHARE || self.guesses.waits()
     }
 
-    /// Whether what is unread is for another turn: since it was admitted it has logged in, or the clock
+    /// Whether what is unread is for another turn: since its admission it logged in, or the clock
     /// went on.
     fn is_to_be_admitted(&self, clock: &Clock) -> bool {
         let Admitted { user, now, .. } = self.admitted;
         self.session.unread_len() > 0 && (self.user() != user || clock.now() != now)
     }
 
-    /// Asks for one request, and does it; a command to which memory is refused twice is declined. Whether
-    /// memory sufficed to ask, or to say so.
+    /// Reads one request and does it. It declines a command to which memory is refused twice.
+    /// Returns whether memory sufficed for the request, or for declining it.
     fn ask<'a, R: Wait, C: Cache, N: Naming, G: Gate>(
         &mut self,
         service: &Service<'a, R, C, N, G>,
@@ -124,7 +125,7 @@ impl<W: Wire + Drop> Link<W> {
         ensures moved { Talks 1 service.now.users.now [] [] self.old self.new desk.old desk.new }
     {
         let kept = self.session.unread_len();
-        // Memory may be there in the next turn; a client is not to wait for it any longer.
+        // Memory may be there in the next turn. The client should not wait longer than that.
         let is_retry = self.refused.is_some();
         let Ok(asked) = self
             .session
@@ -155,7 +156,7 @@ impl<W: Wire + Drop> Link<W> {
         }
     }
 
-    /// Notes that a request was answered that calls no command, before which so many bytes were unread.
+    /// Notes an answered request that called no command, before which `kept` bytes were unread.
     fn note_answer<R: Wait, C: Cache, N: Naming, G: Gate>(
         &mut self,
         service: &Service<'_, R, C, N, G>,
@@ -168,7 +169,8 @@ impl<W: Wire + Drop> Link<W> {
         self.tell(service);
     }
 
-    /// Tells the wire what an operator may want to know, and counts refused logins.
+    /// Passes news for the operator to the wire, and counts refused logins. The wire's note may
+    /// spin while a lock is held.
     fn tell<R: Wait, C: Cache, N: Naming, G: Gate>(&mut self, service: &Service<'_, R, C, N, G>)
         ensures { self.new ≡ self.old }
     {
@@ -180,7 +182,7 @@ impl<W: Wire + Drop> Link<W> {
         }
     }
 
-    /// Does one command, and answers it.
+    /// Calls one command, and answers it.
     fn call<'a, R: Wait, C: Cache, N: Naming, G: Gate>(
         &mut self,
         service: &Service<'a, R, C, N, G>,
@@ -211,16 +213,17 @@ impl<W: Wire + Drop> Link<W> {
         );
         gate.pass(user, Stage::After);
         let Ok(receipt) = called else {
-            // The protocol has one text for a command that was not done. Memory may be there for the next
-            // one; a worn book does none again. No server sees `NoUser` or `OtherBook`: its hall is made of
-            // the table by which its sessions log in, and nothing takes a book out of it.
+            // The protocol has one text for a command that was not done. Memory may be there for
+            // the next one; a worn book does none again. No server sees `NoUser` or `OtherBook`:
+            // its hall has the table by which its sessions log in, and keeps all its books.
             self.session.refuse(command);
             return;
         };
         self.last = number_after(self.last, receipt.slip.number);
-        // With nothing unread there is no request to ask for.
+        // With nothing unread there is no request to read.
         self.rests = self.session.unread_len() == 0;
-        // It is written once no lock is held; one that was refused says so itself.
+        // The session writes the reply once no lock is held. If it has no memory for that, it says
+        // so itself.
         let _ = self.session.answer_later(command, receipt.slip.outcome);
     }
 }

@@ -14,8 +14,8 @@ use crate::reference::lists::{
 use std::alloc::Global;
 use tc_item::{Moment, NoMemory};
 
-/// The entries of one user's cache: the window, and main, which is probation and protected. Each list
-/// has its most recent entry first.
+/// The entries of one user's cache: the window, and main, which is probation and protected. Each
+/// list has its most recent entry first.
 #[derive(Drop)]
 pub struct Areas {
     pub window: Vec<Entry>,
@@ -23,7 +23,7 @@ pub struct Areas {
     pub protected: Vec<Entry>,
 }
 
-/// Where an entry stood before it was taken out.
+/// Where an entry was before it was taken out.
 #[derive(Clone, Copy, PartialEq, Eq)]
 pub(crate) enum Origin {
     Window,
@@ -42,7 +42,7 @@ impl Areas {
         }
     }
 
-    /// How many entries there are in all.
+    /// Returns how many entries there are in all areas.
     pub(crate) fn count(&self) -> usize
         requires { total weight (areas_of self.now) < 2 ^ 63 }
         ensures { result ≡ length (entries_of (areas_of self.now)) }
@@ -50,7 +50,7 @@ impl Areas {
         count(&self.window) + count(&self.probation) + count(&self.protected)
     }
 
-    /// What all entries weigh together.
+    /// Returns what all entries weigh together, in bytes.
     pub(crate) fn weigh(&self) -> u64
         requires { total weight (areas_of self.now) < 2 ^ 63 }
         ensures { result ≡ sum_by weight (entries_of (areas_of self.now)) }
@@ -58,7 +58,7 @@ impl Areas {
         weigh_all(&self.window) + weigh_all(&self.probation) + weigh_all(&self.protected)
     }
 
-    /// Equal entries, over the same data.
+    /// Copies all entries. The copies share their data. Fails if memory is refused.
     pub(crate) fn copy(&self, alloc: Global) -> Result<Areas, NoMemory>
         ensures { IfOk result (λ areas. areas_of areas ≡ areas_of self.now) }
     {
@@ -69,7 +69,8 @@ impl Areas {
         })
     }
 
-    /// Room in each list for all entries and one more. A refusal leaves the entries as they are.
+    /// Makes room in each list for all entries and one more. A refusal leaves the entries
+    /// unchanged.
     pub fn make_room(&mut self) -> Result<(), NoMemory>
         requires { total weight (areas_of self.old) < 2 ^ 63 }
         ensures room { OnOk result (HasRoom 1 self.new) }
@@ -82,7 +83,7 @@ impl Areas {
         Ok(())
     }
 
-    /// Takes all entries out.
+    /// Removes all entries.
     pub(crate) fn clear(&mut self)
         ensures areas { areas_of self.new ≡ no_entries }
         ensures room { (spare : ℕ) → HasRoom spare self.old → HasRoom spare self.new }
@@ -92,7 +93,7 @@ impl Areas {
         self.protected.clear();
     }
 
-    /// Takes out what isn't alive at the moment.
+    /// Removes the entries that are not alive at the moment.
     pub(crate) fn expire(&mut self, moment: Moment)
         ensures areas { areas_of self.new ≡ filtered (lives moment) (areas_of self.old) }
         ensures room { (spare : ℕ) → HasRoom spare self.old → HasRoom spare self.new }
@@ -102,7 +103,7 @@ impl Areas {
         expire(&mut self.protected, moment);
     }
 
-    /// Takes out what a key holds, and hands it out with where it stood.
+    /// Removes what a key holds, and returns it with the area that it was in.
     pub(crate) fn take(&mut self, key: &[u8]) -> Option<(Origin, Entry)>
         ensures taken { MatchOption result (held key.now (areas_of self.old) ≡ None)
             (λ r. (held key.now (areas_of self.old) ≡ Some r.1)
@@ -124,7 +125,7 @@ impl Areas {
         Some((Origin::Main, entry))
     }
 
-    /// Puts an entry at the front of the window if it stood there, and else of protected.
+    /// Puts an entry at the front of the window if it was there before, otherwise of protected.
     pub(crate) fn put_back(&mut self, origin: Origin, entry: Entry)
         requires { HasRoom 1 self.old }
         ensures areas { areas_of self.new
@@ -137,7 +138,8 @@ impl Areas {
         }
     }
 
-    /// Holds protected to what it may weigh: while it weighs more, its last goes to the front of probation.
+    /// Brings protected within `most` bytes: while it weighs more, its last entry goes to the front
+    /// of probation.
     pub(crate) fn hold_protected(&mut self, most: u64)
         requires weight { total weight (areas_of self.old) < 2 ^ 64 }
         requires room { HasRoom 0 self.old }

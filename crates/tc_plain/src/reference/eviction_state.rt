@@ -1,4 +1,4 @@
-//! What look-ups touch of one user's cache.
+//! What look-ups touch of the reference.
 ghost use Rattle.std.specs.Prelude.{◌≡◌, ℕ, ◌<◌, ◌+◌, ◌^◌, is_some, cond, length, IfOk, MatchOption};
 ghost use Rattle.tc_model.specs.Areas.{total, demoted, settle};
 ghost use Rattle.tc_stats.specs.UserCounters.{more};
@@ -17,24 +17,25 @@ use std::alloc::Global;
 use tc_item::{Due, Moment, NoMemory, alive, hash};
 use tc_sketch::Sketch;
 
-/// What look-ups touch: the areas that hold the entries, how often each key was seen, and when the
+/// What look-ups touch: the areas that hold the entries, how often each key was seen, and when
 /// entries go.
 #[derive(Drop)]
 pub struct EvictionState {
-    /// The most that each area may weigh.
+    /// The most that each area may weigh, in bytes.
     pub limits: Limits,
     /// The entries held.
     pub areas: Areas,
-    /// How often each key was seen of late.
+    /// How often each key was seen lately.
     pub sketch: Sketch,
-    /// The second at which all entries go, if that was asked for.
+    /// The second at which all entries go, if a delayed flush is pending.
     pub flush: Option<u64>,
-    /// The moment that the cache was last advanced to.
+    /// The latest moment that the cache was advanced to.
     pub moment: Moment,
 }
 
 impl EvictionState {
-    /// Brings it to the moment, if that is later than its own.
+    /// Advances to the moment, if that is later than its own: a due flush removes all entries,
+    /// otherwise those that expired go.
     pub fn advance(&mut self, now: Moment)
         ensures live { live_of self.new ≡ advanced (live_of self.old) now }
         ensures room { (spare : ℕ) → HasRoom spare self.old.areas → HasRoom spare self.new.areas }
@@ -48,7 +49,7 @@ impl EvictionState {
         }
     }
 
-    /// An equal state of its own.
+    /// Copies the state. The copies of entries share their data. Fails if memory is refused.
     pub(crate) fn copy(&self, alloc: Global) -> Result<EvictionState, NoMemory>
         ensures { IfOk result (λ live. live_of live ≡ live_of self.now) }
     {
@@ -61,7 +62,7 @@ impl EvictionState {
         })
     }
 
-    /// What a key will hold at the moment.
+    /// Returns what a key will hold at the moment.
     pub(crate) fn peek(&self, key: &[u8], moment: Moment) -> Option<&Entry>
         ensures { MatchOption result
             (held key.now (at_moment moment (live_of self.now)).areas ≡ None)
@@ -82,8 +83,8 @@ impl EvictionState {
         None
     }
 
-    /// An entry that was taken out goes to the front of where it stood, or from probation to that of
-    /// protected; one that isn't alive is gone.
+    /// Puts back an entry that was taken out, if it is alive: at the front of the window if it was
+    /// there, otherwise of protected.
     fn access(&mut self, origin: Origin, entry: Entry)
         requires weight { total weight (areas_of self.old.areas) + weight entry < 2 ^ 64 }
         requires room { HasRoom 1 self.old.areas }
@@ -101,8 +102,7 @@ impl EvictionState {
         }
     }
 
-    /// One look-up of a key: whether it is held. What it holds has this due from now on, if one is
-    /// given.
+    /// Looks up one key and returns whether it is held. If a due is given, its entry gets it.
     pub fn look(&mut self, key: &[u8], due: Option<Due>) -> bool
         requires weight { total weight (areas_of self.old.areas) < 2 ^ 32 }
         requires room { HasRoom 0 self.old.areas }
@@ -119,7 +119,8 @@ impl EvictionState {
         true
     }
 
-    /// Puts an entry in the place of what its key holds.
+    /// Puts an entry in the place of the one that its key holds, or else at the window's front. An
+    /// entry that is not alive is dropped, and so is the old one.
     pub(crate) fn use_new(&mut self, entry: Entry)
         requires weight { total weight (areas_of self.old.areas) + weight entry < 2 ^ 64 }
         requires room { HasRoom 1 self.old.areas }
@@ -136,7 +137,7 @@ impl EvictionState {
         }
     }
 
-    /// Brings each area within its limit, and counts each entry that is dropped.
+    /// Brings each area within its limit. Returns `evictions` plus the number of dropped entries.
     pub(crate) fn settle(&mut self, evictions: u64) -> u64
         requires weight { total weight (areas_of self.old.areas) < 2 ^ 64 }
         requires room { HasRoom 0 self.old.areas }
@@ -150,8 +151,8 @@ impl EvictionState {
         self.areas.settle(self.limits, &self.sketch, evictions)
     }
 
-    /// Puts an entry in the place of what its key holds, and brings each area within its limit; each entry
-    /// that is dropped is counted.
+    /// Puts an entry in the place of the one that its key holds, and brings each area within its
+    /// limit. Returns `evictions` plus the number of dropped entries.
     pub(crate) fn change(&mut self, entry: Entry, evictions: u64) -> u64
         requires weight { total weight (areas_of self.old.areas) + weight entry < 2 ^ 64 }
         requires room { HasRoom 1 self.old.areas }
@@ -167,7 +168,7 @@ impl EvictionState {
         self.settle(evictions)
     }
 
-    /// Takes all entries out, at once or so many seconds from its moment.
+    /// Removes all entries, at once or `delay` seconds after its moment.
     pub(crate) fn flush(&mut self, delay: u32)
         ensures { live_of self.new ≡ flushed delay (live_of self.old) }
     {

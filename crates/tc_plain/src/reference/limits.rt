@@ -5,7 +5,7 @@ ghost use Rattle.tc_plain.specs.EvictionState.{limits_of};
 
 use std::marker::Model;
 
-/// The most that the window, main and protected, which is a part of main, may weigh.
+/// The most that the window, main and protected may weigh, in bytes. Protected is a part of main.
 #[derive(Clone, Copy, PartialEq, Eq)]
 pub struct Limits {
     pub window: u64,
@@ -24,8 +24,8 @@ impl Model for Limits {
 }
 
 impl Limits {
-    /// The limits of a budget: a hundredth for the window, the rest for main, and four fifths of main for
-    /// protected.
+    /// Returns the limits of a budget in bytes: a hundredth for the window, the rest for main, and
+    /// four fifths of main for protected.
     pub fn of(budget: u64) -> Limits
         requires { budget ≤ largest_budget }
         ensures { result ≡ limits_of budget }
@@ -39,14 +39,14 @@ impl Limits {
         }
     }
 
-    /// The most that main may weigh.
+    /// Returns the most that main may weigh.
     pub(crate) fn main_limit(&self) -> u64
         ensures { result ≡ self.now.main }
     {
         self.main
     }
 
-    /// The most that protected may weigh.
+    /// Returns the most that protected may weigh.
     pub(crate) fn protected_limit(&self) -> u64
         ensures { result ≡ self.now.protected }
     {

@@ -1,4 +1,4 @@
-//! Lists of entries: what they weigh, and taking entries out.
+//! Lists of entries: their weight, and entries that enter or leave.
 ghost use Rattle.std.specs.Prelude.{◌≡◌, ◌<◌, ◌≤◌, ◌+◌, ◌^◌, ◌++◌, ◌∷◌, [], not, filter, find, sum_by, length, is_some, IfOk};
 ghost use Rattle.std.specs.Prelude.{IfSome, MatchOption, vec_len, vec_capacity};
 ghost use Rattle.tc_model.specs.Areas.{without};
@@ -9,7 +9,7 @@ use crate::Entry;
 use std::alloc::Global;
 use tc_item::{Moment, NoMemory, alive};
 
-/// What entries weigh together.
+/// Returns what the entries weigh together, in bytes.
 pub fn weigh_all(items: &[Entry]) -> u64
     requires { sum_by weight items.now < 2 ^ 64 }
     ensures { result ≡ sum_by weight items.now }
@@ -21,7 +21,7 @@ pub fn weigh_all(items: &[Entry]) -> u64
     all
 }
 
-/// Takes out what isn't alive at the moment.
+/// Removes the entries that are not alive at the moment.
 pub fn expire(items: &mut Vec<Entry>, moment: Moment)
     ensures items { items.new.items ≡ filter (lives moment) items.old.items }
     ensures room { (vec_capacity items.new ≡ vec_capacity items.old)
@@ -30,7 +30,7 @@ pub fn expire(items: &mut Vec<Entry>, moment: Moment)
     items.retain(|entry| alive(&entry.item, moment));
 }
 
-/// Takes out what a key holds.
+/// Removes all entries of a key.
 pub fn take_out(items: &mut Vec<Entry>, key: &[u8])
     ensures items { items.new.items ≡ without (has_key key.now) items.old.items }
     ensures room { (vec_capacity items.new ≡ vec_capacity items.old)
@@ -39,7 +39,7 @@ pub fn take_out(items: &mut Vec<Entry>, key: &[u8])
     items.retain(|entry| entry.key.as_bytes() != key);
 }
 
-/// Where the first entry of a key stands.
+/// Returns the place of the first entry of a key.
 fn place_of(items: &[Entry], key: &[u8]) -> Option<usize>
     ensures place { result ≡ first_place (has_key key.now) items.now }
     ensures within { IfSome result (λ i. i < length items.now) }
@@ -52,7 +52,7 @@ fn place_of(items: &[Entry], key: &[u8]) -> Option<usize>
     None
 }
 
-/// Takes out what a key holds, and hands it out.
+/// Removes all entries of a key, and returns the first.
 pub fn take_first(items: &mut Vec<Entry>, key: &[u8]) -> Option<Entry>
     ensures entry { result ≡ find (has_key key.now) items.old.items }
     ensures items { items.new.items ≡ without (has_key key.now) items.old.items }
@@ -66,7 +66,7 @@ pub fn take_first(items: &mut Vec<Entry>, key: &[u8]) -> Option<Entry>
     Some(entry)
 }
 
-/// The last entry, taken out, if all weigh more than they may.
+/// Removes and returns the last entry, if all together weigh more than `most` bytes.
 pub fn pop_over(items: &mut Vec<Entry>, most: u64) -> Option<Entry>
     requires { sum_by weight items.old.items < 2 ^ 64 }
     ensures capacity { vec_capacity items.new ≡ vec_capacity items.old }
@@ -84,7 +84,7 @@ pub fn pop_over(items: &mut Vec<Entry>, most: u64) -> Option<Entry>
     }
 }
 
-/// Puts an entry at the front, where there is room.
+/// Inserts an entry at the front. The list has room for it.
 pub fn put_first(items: &mut Vec<Entry>, entry: Entry)
     requires { vec_len items.old < vec_capacity items.old }
     ensures items { items.new.items ≡ entry ∷ items.old.items }
@@ -94,7 +94,8 @@ pub fn put_first(items: &mut Vec<Entry>, entry: Entry)
     let _ = items.insert(0, entry);
 }
 
-/// How many entries there are: no more than they weigh.
+/// Returns how many entries there are. Each weighs at least one byte, so there are no more than
+/// they weigh.
 pub fn count(items: &Vec<Entry>) -> usize
     ensures len { result ≡ vec_len items.now }
     ensures light { result ≤ sum_by weight items.now.items }
@@ -102,7 +103,7 @@ pub fn count(items: &Vec<Entry>) -> usize
     items.as_slice().len()
 }
 
-/// Equal entries in the same order, over the same data.
+/// Copies the entries, in order. The copies share their data. Fails if memory is refused.
 pub fn copy_all(alloc: Global, items: &[Entry]) -> Result<Vec<Entry>, NoMemory>
     ensures { IfOk result (λ copied. copied.items ≡ items.now) }
 {

@@ -1,4 +1,4 @@
-//! Look-ups of keys in lists.
+//! Look-ups of keys in the reference's lists.
 ghost use Rattle.std.specs.Prelude.{◌≡◌, ◌<◌, ◌+◌, ◌^◌, IfOk};
 ghost use Rattle.tc_plain.specs.EvictionState.{at_moment};
 ghost use Rattle.tc_plain.specs.Doing.{all_looked_up};
@@ -12,8 +12,9 @@ use tc_item::{Due, Key, Moment, NoMemory};
 use tc_stats::Hits;
 
 impl EvictionState {
-    /// The hits of keys at the moment, in the order asked. What is held has this due after its hit,
-    /// if one is given; where that due has come it is gone, so that a key asked again shows nothing.
+    /// Returns the hits of keys at the moment, in the order asked. If a due is given, an entry gets
+    /// it after its hit. If that due has come, the entry is gone, so a key asked again shows
+    /// nothing. Fails if memory is refused.
     pub(crate) fn look_up(
         &self,
         alloc: Global,
@@ -35,7 +36,7 @@ impl EvictionState {
         Hits::from_vec(alloc, hits)
     }
 
-    /// Looks keys up, one after another. What they hold has this due from now on, if one is given.
+    /// Looks up keys one after another. If a due is given, the entries found get it.
     pub(crate) fn look_all(&mut self, keys: &[Key], due: Option<Due>)
         requires sound { AreSound self.old.limits (areas_of self.old.areas) }
         requires light { self.old.limits.window + self.old.limits.main < 2 ^ 32 }

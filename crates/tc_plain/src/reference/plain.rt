@@ -1,4 +1,4 @@
-//! The plain cache: three lists, with nothing deferred.
+//! The reference cache: three lists, with nothing deferred.
 ghost use Rattle.std.specs.Prelude.{◌≡◌, ◌≤◌, ⊤, IfOk, OnOk, OnErr};
 ghost use Rattle.tc_item.specs.Bounds.{smallest_budget, largest_budget, largest_item};
 ghost use Rattle.tc_plain.specs.EvictionState.{held};
@@ -25,13 +25,14 @@ use tc_stats::{Counters, Outcome};
 /// one.
 #[derive(Drop)]
 pub struct Plain {
-    /// The most bytes that all items may weigh together, within the range of budgets.
+    /// The most that all items may weigh together, in bytes: 65,536 to 2^30.
     pub budget: u64,
-    /// The most data bytes that a storage command stores, 1 to those of the largest item there is.
+    /// The most bytes of data that a storage command stores: 1 to 1,048,576.
     pub largest: u64,
-    /// What look-ups touch: the entries, how often keys were seen, the pending flush and the moment.
+    /// What look-ups touch: the entries, how often keys were seen, the pending flush, and the
+    /// moment.
     pub live: EvictionState,
-    /// The last cas number taken.
+    /// The last cas number given.
     pub last: u64,
     /// The user's counters.
     pub counters: Counters,
@@ -62,7 +63,8 @@ impl Model for Plain {
 }
 
 impl Plain {
-    /// An empty cache of this budget, whose storage commands store at most `largest` bytes of data.
+    /// Makes an empty cache with a budget of 65,536 to 2^30 bytes, whose storage commands store at
+    /// most `largest` bytes of data, 1 to 1,048,576. Fails if memory is refused.
     pub fn new(alloc: Global, budget: u64, largest: u64) -> Result<Plain, NoMemory>
         requires least_budget { smallest_budget ≤ budget }
         requires most_budget { budget ≤ largest_budget }
@@ -86,7 +88,7 @@ impl Plain {
         })
     }
 
-    /// A copy of its own.
+    /// Copies the cache. The copies of entries share their data. Fails if memory is refused.
     pub fn copy(&self, alloc: Global) -> Result<Plain, NoMemory>
         ensures { IfOk result (λ plain. plain ≡ self.now) }
     {
@@ -99,7 +101,7 @@ impl Plain {
         })
     }
 
-    /// What a storage line with its block will do at the moment.
+    /// Plans what a storage line with its block will do at the moment. Fails if memory is refused.
     fn plan_store(
         &self,
         alloc: Global,
@@ -127,7 +129,8 @@ impl Plain {
         }
     }
 
-    /// What counting what a key holds will do at the moment.
+    /// Plans what counting the number under a key will do at the moment. Fails if memory is
+    /// refused.
     fn plan_count(
         &self,
         alloc: Global,
@@ -148,7 +151,7 @@ impl Plain {
         }
     }
 
-    /// Carries a plan out at the moment. A refusal changes nothing.
+    /// Carries out a plan at the moment. A refusal changes nothing.
     fn change(&mut self, now: Moment, plan: Plan) -> Result<End, NoMemory>
         requires { IsLightPlan self.old.live.limits plan }
         ensures outcome { IfOk result (λ end. outcome_of end

@@ -1,4 +1,4 @@
-//! How the areas settle: each comes within its limit.
+//! How the areas settle: each gets within its limit (docs/EVICTION.md).
 ghost use Rattle.std.specs.Prelude.{◌≡◌, ℕ, ◌<◌, ◌≤◌, ◌+◌, ◌-◌, ◌^◌, ◌++◌, ◌∷◌, [], ◌⊎◌, length, reverse, nat_lt, sum_by};
 ghost use Rattle.std.specs.Prelude.{MatchOption};
 ghost use Rattle.std.specs.List.{list_all};
@@ -12,7 +12,8 @@ use crate::reference::lists::{pop_over, put_first, weigh_all};
 use crate::{Entry, Limits};
 use tc_sketch::Sketch;
 
-/// Whether each of the last entries that weigh `need` together was seen less often than `level`.
+/// Returns whether each entry of the shortest run from the list's end that weighs at least `need`
+/// bytes was seen less often than `level`.
 fn outranked(items: &[Entry], sketch: &Sketch, mut need: u64, level: u8) -> bool
     ensures { result ≡ list_all (λ e. nat_lt (frequency_in sketch.now e) level)
         (shortest weight need (reverse items.now)) }
@@ -30,7 +31,7 @@ fn outranked(items: &[Entry], sketch: &Sketch, mut need: u64, level: u8) -> bool
 }
 
 impl Areas {
-    /// What main weighs.
+    /// Returns what main weighs, in bytes.
     fn weigh_main(&self) -> u64
         requires { main_weight weight (areas_of self.now) < 2 ^ 64 }
         ensures { result ≡ main_weight weight (areas_of self.now) }
@@ -38,7 +39,7 @@ impl Areas {
         weigh_all(&self.probation) + weigh_all(&self.protected)
     }
 
-    /// The last of main, of probation first, taken out where something is needed.
+    /// Removes and returns main's last entry, from probation first, unless `need` is 0.
     fn pop_main(&mut self, need: u64) -> Option<Entry>
         ensures popped { MatchOption result
             ((areas_of self.new ≡ areas_of self.old)
@@ -55,7 +56,8 @@ impl Areas {
         }
     }
 
-    /// Drops the shortest run from main's tail that weighs `need`, and counts each as an eviction.
+    /// Drops the shortest run from main's tail that weighs at least `need` bytes. Returns
+    /// `evictions` plus the number of dropped entries.
     fn drop_main(&mut self, mut need: u64, mut evictions: u64) -> u64
         ensures areas { areas_of self.new ≡ without_last
             (length (shortest weight need (from_tail (areas_of self.old)))) (areas_of self.old) }
@@ -70,7 +72,8 @@ impl Areas {
         evictions
     }
 
-    /// Whether the candidate was seen more often than each of main's last that weigh `need`.
+    /// Returns whether the candidate was seen more often than each entry of the shortest run from
+    /// main's tail that weighs at least `need` bytes.
     fn outranks(&self, sketch: &Sketch, candidate: &Entry, need: u64) -> bool
         requires { main_weight weight (areas_of self.now) < 2 ^ 64 }
         ensures { result ≡ list_all
@@ -83,7 +86,8 @@ impl Areas {
             && outranked(&self.protected, sketch, rest, level)
     }
 
-    /// The candidate enters over its victims, or is dropped; each drop is counted as an eviction.
+    /// Admits the candidate in place of its victims, or drops it. Returns `evictions` plus the
+    /// number of dropped entries.
     fn admit(&mut self, main: u64, sketch: &Sketch, candidate: Entry, evictions: u64) -> u64
         requires weight { total weight (areas_of self.old) + weight candidate < 2 ^ 64 }
         requires room { HasRoom 1 self.old }
@@ -106,7 +110,7 @@ impl Areas {
         evictions
     }
 
-    /// Brings each area within its limit, and counts each entry that is dropped.
+    /// Brings each area within its limit. Returns `evictions` plus the number of dropped entries.
     pub(crate) fn settle(&mut self, limits: Limits, sketch: &Sketch, mut evictions: u64) -> u64
         requires weight { total weight (areas_of self.old) < 2 ^ 64 }
         requires room { HasRoom 0 self.old }

@@ -1,4 +1,4 @@
-//! What a cache gives of a command that it did.
+//! The result of a command on a cache.
 ghost use Rattle.std.specs.Prelude.{◌≡◌, IfOk};
 ghost use Rattle.tc_stats.specs.declared.outcome.Outcome.TheVariants.{Values, Stats, Done};
 ghost use Rattle.tc_plain.specs.Keeping.{kept_by};
@@ -8,15 +8,15 @@ use std::alloc::Global;
 use tc_item::NoMemory;
 use tc_stats::{Counters, Hits, Outcome, Statistics};
 
-/// What a command came to: the outcome to answer, and the same once more to keep, where the journal is
-/// on.
+/// The result of a command: the outcome to answer, and the same to keep if the journal is on.
 #[derive(Drop)]
 pub struct Acted {
     pub answer: Outcome,
     pub kept: Option<KeptOutcome>,
 }
 
-/// Hits to keep, over the same data, where the journal is on.
+/// Copies hits to keep if the journal is on. The copy shares their data. Fails if memory is
+/// refused.
 pub fn keep_hits(alloc: Global, hits: &Hits, keep: Journal) -> Result<Option<KeptOutcome>, NoMemory>
     ensures { IfOk result (λ kept. kept ≡ kept_by keep (Values hits.now)) }
 {
@@ -29,7 +29,7 @@ pub fn keep_hits(alloc: Global, hits: &Hits, keep: Journal) -> Result<Option<Kep
     }
 }
 
-/// Counters to keep, where the journal is on.
+/// Copies counters to keep if the journal is on. Fails if memory is refused.
 pub(crate) fn keep_statistics(
     alloc: Global,
     statistics: &Statistics,
@@ -46,7 +46,7 @@ pub(crate) fn keep_statistics(
     }
 }
 
-/// The counters that are kept, with these numbers in the place of those that were.
+/// Replaces the numbers of the kept counters, if any are kept.
 pub(crate) fn with_numbers(
     kept: Option<KeptOutcome>,
     was: &Counters,
@@ -65,7 +65,8 @@ pub(crate) fn with_numbers(
     }
 }
 
-/// Room for an outcome to keep, where the journal is on. It holds `Done` until it is filled.
+/// Makes room for an outcome to keep if the journal is on. The room holds `Done` until it is
+/// filled. Fails if memory is refused.
 pub(crate) fn keep_room(alloc: Global, keep: Journal) -> Result<Option<KeptOutcome>, NoMemory>
     ensures { IfOk result (λ room. room ≡ kept_by keep Done) }
 {

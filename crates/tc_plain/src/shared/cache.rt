@@ -9,14 +9,14 @@ use std::alloc::Global;
 use tc_grammar::Command;
 use tc_item::{Moment, NoMemory};
 
-/// One user's cache, however it is kept. It knows nothing of what it stood for before.
+/// One user's cache in any representation. It keeps no record of its earlier states.
 pub trait Cache: Drop {
-    /// The state that it stands for once all deferred work is done.
+    /// The state that the cache has once all deferred work is done.
     ghost settled: { Self → UserCache };
 
-    /// Does one command, at this moment or at the cache's own where that is later. The outcome is
-    /// given once to answer, and once more to keep where `keep` says so (`IsActed`). All memory is taken before
-    /// anything that shows changes, so a refusal changes nothing.
+    /// Runs one command at the later of `now` and the cache's moment. It returns the outcome to
+    /// answer, and the same to keep if `keep` is on (`IsActed`). The cache takes all memory before
+    /// its state changes, so a refusal changes nothing.
     fn act(
         &mut self,
         alloc: Global,
@@ -28,17 +28,17 @@ pub trait Cache: Drop {
             (act (settled self.old) now command.now) r (settled self.new)) }
         ensures unchanged_on_err { OnErr result (settled self.new ≡ settled self.old) };
 
-    /// Does deferred work, at most `limit` pieces of it as the cache counts them: it comes to the
-    /// moment, and nothing else of what it stands for changes. Whether it stopped at the limit shows
-    /// nowhere else: it is no part of what the cache stands for.
+    /// Does at most `limit` pieces of deferred work, as the cache counts them. The state advances
+    /// to the moment and changes in nothing else. The result says whether it stopped at the limit,
+    /// which is no part of the state.
     fn maintain(&mut self, now: Moment, limit: u32) -> Progress
         ensures advanced { settled self.new ≡ advance (settled self.old) now };
 
-    /// Reads what look-ups of keys of these hashes (`tc_item::hash`) are going to read, so that they wait
-    /// for memory together. It gives nothing, and changes nothing.
+    /// Prefetches what look-ups of keys with these hashes (`tc_item::hash`) will read, so that they
+    /// wait for memory together. It changes nothing.
     fn read_ahead(&self, hashes: &[u64]);
 
-    /// A copy of what the cache stands for.
+    /// Copies the cache's state into lists. Fails if memory is refused.
     fn freeze(&self, alloc: Global) -> Result<Plain, NoMemory>
         ensures settled { IfOk result (λ plain. plain ≡ settled self.now) };
 }

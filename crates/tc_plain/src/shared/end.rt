@@ -1,4 +1,4 @@
-//! How commands end that show no item.
+//! How commands that show no item end.
 ghost use Rattle.std.specs.Prelude.{◌≡◌};
 ghost use Rattle.tc_stats.specs.declared.outcome.Outcome.TheVariants.{Done};
 ghost use Rattle.tc_plain.specs.Keeping.{kept_by};
@@ -7,7 +7,7 @@ ghost use Rattle.tc_plain.specs.Plans.{outcome_of};
 use crate::{Acted, Journal, KeptOutcome};
 use tc_stats::Outcome;
 
-/// How a command ends that shows no item: an outcome that takes no memory.
+/// How a command that shows no item ends: an outcome that takes no memory.
 #[derive(Clone, Copy, PartialEq, Eq)]
 pub enum End {
     Stored,
@@ -16,16 +16,20 @@ pub enum End {
     NotFound,
     Deleted,
     Touched,
+    /// The new number of `incr` or `decr`.
     Number(u64),
     Done,
     Version,
+    /// The data is longer than the user's largest item, or the item weighs more than main may.
     TooLarge,
+    /// The data under the key is no number of 64 bits.
     NotNumeric,
+    /// No cas number is left.
     CasWorn,
 }
 
 impl End {
-    /// The end as an outcome.
+    /// Returns the end as an outcome.
     fn outcome(self) -> Outcome
         ensures { result ≡ outcome_of self }
     {
@@ -45,7 +49,8 @@ impl End {
         }
     }
 
-    /// What a command gives that ends so, with the room that there is where it is kept.
+    /// Returns the result of a command that ends like this. It fills `room`, which exists if the
+    /// journal is on.
     pub(crate) fn acted(self, room: Option<KeptOutcome>, keep: Journal) -> Acted
         requires { room ≡ kept_by keep Done }
         ensures answer { result.answer ≡ outcome_of self }

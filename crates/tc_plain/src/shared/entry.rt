@@ -16,7 +16,7 @@ pub struct Entry {
 }
 
 impl Entry {
-    /// What the entry weighs, in bytes.
+    /// Returns what the entry weighs, in bytes: key, data and 64.
     pub fn weight(&self) -> u64
         ensures value { result ≡ weight self.now }
         ensures within { result < 2 ^ 63 + (longest_key + record_weight) }
@@ -24,7 +24,8 @@ impl Entry {
         self.key.as_bytes().len() as u64 + self.item.blob.as_slice().len() as u64 + RECORD_WEIGHT
     }
 
-    /// What a look-up shows of the entry.
+    /// Returns the hit that a look-up shows of the entry. It shares the data. Fails if memory is
+    /// refused.
     #[inline(always)]
     pub fn show(&self, alloc: Global) -> Result<Hit, NoMemory>
         ensures { IfOk result (λ hit. hit ≡ record {
@@ -42,7 +43,7 @@ impl Entry {
         })
     }
 
-    /// The entry with another due, if one is given.
+    /// Returns the entry, with another due if one is given.
     pub fn with_due(mut self, due: Option<Due>) -> Entry
         ensures { result ≡ with_item self (change_of due self.item) }
     {
@@ -52,7 +53,7 @@ impl Entry {
         self
     }
 
-    /// An equal entry, over the same data.
+    /// Copies the entry. The copy shares the data. Fails if memory is refused.
     pub fn copy(&self, alloc: Global) -> Result<Entry, NoMemory>
         ensures { IfOk result (λ entry. entry ≡ self.now) }
     {

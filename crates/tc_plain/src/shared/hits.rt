@@ -12,7 +12,7 @@ use std::alloc::Global;
 use tc_item::{Due, Key, Moment, NoMemory};
 use tc_stats::{Hit, Hits};
 
-/// Whether a due is given that has come at the moment.
+/// Returns whether there is a due and the moment has reached it.
 pub fn is_due(due: Option<Due>, moment: Moment) -> bool
     ensures { result ≡ is_due due moment }
 {
@@ -22,14 +22,16 @@ pub fn is_due(due: Option<Due>, moment: Moment) -> bool
     }
 }
 
-/// Whether the key is one of the keys.
+/// Returns whether the key is one of the keys.
 fn is_asked(keys: &[Key], key: &Key) -> bool
     ensures { result ≡ list_any (λ k. bytes_eq k key.now) keys.now }
 {
     keys.iter().any(|asked| asked == key)
 }
 
-/// The hit of what one key was found to hold.
+/// Returns the hit of the entry that one key was found to hold, or none. Fails if memory is
+/// refused.
+#[inline(always)]
 pub fn show_one(alloc: Global, found: Option<&Entry>) -> Result<Hits, NoMemory>
     ensures { IfOk result (λ hits. hits
         ≡ option_to_list (option_map hit_of (option_copied found.entry))) }
@@ -40,8 +42,9 @@ pub fn show_one(alloc: Global, found: Option<&Entry>) -> Result<Hits, NoMemory>
     }
 }
 
-/// Adds the hit of what a key was found to hold, for which there is room, unless that is gone since the key was
-/// asked before.
+/// Appends the hit of the entry that a key was found to hold; `hits` has room for it. If `gone`,
+/// the first hit of a key expires its entry, so a key in `asked` shows nothing. Fails if memory is
+/// refused.
 #[inline(always)]
 pub fn add_next(
     alloc: Global,

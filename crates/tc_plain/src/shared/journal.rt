@@ -1,6 +1,6 @@
-//! Whether what was done is kept.
+//! Whether commands and outcomes are kept.
 
-/// Whether a cache's commands are kept beside what they came to, so that they can be done again.
+/// Whether a cache keeps each command and its outcome, so that an audit can replay them.
 #[derive(Clone, Copy, PartialEq, Eq)]
 pub enum Journal {
     On,

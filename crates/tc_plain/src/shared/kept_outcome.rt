@@ -1,4 +1,4 @@
-//! An outcome to keep.
+//! An outcome that an entry keeps.
 ghost use Rattle.std.specs.Prelude.{◌≡◌, IfOk};
 ghost use Rattle.tc_stats.specs.declared.counters.Counters.{Counters};
 ghost use Rattle.tc_stats.specs.declared.outcome.Outcome.TheVariants.{Stats};
@@ -8,7 +8,8 @@ use std::marker::Model;
 use tc_item::NoMemory;
 use tc_stats::{Counters, Outcome};
 
-/// An outcome in a box of its own, so that a command of which nothing is kept moves no room for one about.
+/// An outcome in a box of its own, so that a command that keeps none doesn't move that much room
+/// around.
 #[derive(Drop)]
 pub struct KeptOutcome {
     outcome: Box<Outcome>,
@@ -23,7 +24,7 @@ impl Model for KeptOutcome {
 }
 
 impl KeptOutcome {
-    /// The outcome, to keep.
+    /// Boxes an outcome. Fails if memory is refused.
     pub(crate) fn of(alloc: Global, outcome: Outcome) -> Result<KeptOutcome, NoMemory>
         ensures { IfOk result (λ kept. kept ≡ outcome) }
     {
@@ -31,14 +32,14 @@ impl KeptOutcome {
         Ok(KeptOutcome { outcome })
     }
 
-    /// Keeps this outcome in the place of the one that it holds.
+    /// Replaces the outcome.
     pub(crate) fn set(&mut self, outcome: Outcome)
         ensures { self.new ≡ outcome }
     {
         *self.outcome = outcome;
     }
 
-    /// Keeps these numbers in the place of the counters that it holds, if it holds any.
+    /// Replaces the numbers of the counters, if the outcome has any.
     pub(crate) fn set_numbers(&mut self, numbers: Counters)
         ensures { (was : Counters) → self.old ≡ Stats was → self.new ≡ Stats numbers }
     {
@@ -47,7 +48,7 @@ impl KeptOutcome {
         }
     }
 
-    /// The outcome.
+    /// Returns the outcome.
     pub fn into_outcome(self) -> Outcome
         ensures { result ≡ self }
     {

@@ -1,4 +1,4 @@
-//! What storage lines make of their own item and of what their key holds.
+//! What storage lines make of their own item and of the item under their key.
 ghost use Rattle.std.specs.Prelude.{◌≡◌, ℕ, ◌++◌, length, option_map, IfOk};
 ghost use Rattle.tc_item.specs.Weight.{weight_of};
 ghost use Rattle.tc_plain.specs.Entries.{with_data};
@@ -12,10 +12,10 @@ use tc_grammar::{Head, StoreKind};
 use tc_item::exptime::due;
 use tc_item::{Blob, Item, KeptDue, Key, Moment, NoMemory, RECORD_WEIGHT};
 
-/// An item that is to be stored and has no cas number yet.
+/// An item to be stored, which has no cas number yet.
 #[derive(Drop)]
 pub struct Draft {
-    /// What the client stores beside the data and gets back with it.
+    /// The client's number, which look-ups return with the data.
     pub flags: u32,
     /// Until when the item will be alive.
     pub due: KeptDue,
@@ -24,7 +24,7 @@ pub struct Draft {
 }
 
 impl Draft {
-    /// The item, with this cas number.
+    /// Returns the item with this cas number.
     pub fn numbered(self, cas: u64) -> Item
         ensures { result ≡ numbered cas self }
     {
@@ -36,7 +36,7 @@ impl Draft {
         }
     }
 
-    /// What the item will weigh under a key, in bytes.
+    /// Returns what the item will weigh under a key, in bytes: key, data and 64.
     pub(crate) fn weight_under(&self, key: &Key) -> u64
         ensures { result ≡ weight_of key.now (length self.now.blob) }
     {
@@ -44,15 +44,15 @@ impl Draft {
     }
 }
 
-/// What a storage line offers before it is weighed and numbered: it is refused for what its key holds,
-/// or there is an item to store.
+/// What a storage line offers before the item is weighed and numbered: a refusal for what its key
+/// holds, or an item to store.
 #[derive(Drop)]
 pub enum Bid {
     Refused(End),
     Offered(Draft),
 }
 
-/// The line's own item.
+/// Makes the line's own item. Fails if memory is refused.
 fn own_item(head: &Head, blob: &Blob, moment: Moment) -> Result<Draft, NoMemory>
     ensures { IfOk result (λ draft. (cas : ℕ)
         → numbered cas draft ≡ item_of head.now blob.now moment cas) }
@@ -64,7 +64,7 @@ fn own_item(head: &Head, blob: &Blob, moment: Moment) -> Result<Draft, NoMemory>
     })
 }
 
-/// The bytes of both in one piece.
+/// Joins the bytes of both. Fails if memory is refused.
 fn join(alloc: Global, first: &[u8], second: &[u8]) -> Result<Blob, NoMemory>
     ensures { IfOk result (λ blob. blob ≡ first.now ++ second.now) }
 {
@@ -74,7 +74,7 @@ fn join(alloc: Global, first: &[u8], second: &[u8]) -> Result<Blob, NoMemory>
     Blob::new(alloc, bytes)
 }
 
-/// The held item with joined data.
+/// Makes the held item with joined data. Fails if memory is refused.
 fn joined(alloc: Global, held: &Item, first: &Blob, second: &Blob) -> Result<Draft, NoMemory>
     ensures { IfOk result (λ draft. (cas : ℕ)
         → numbered cas draft ≡ with_data cas (first.now ++ second.now) held.now) }
@@ -86,7 +86,8 @@ fn joined(alloc: Global, held: &Item, first: &Blob, second: &Blob) -> Result<Dra
     })
 }
 
-/// What a storage line makes of its own item and of what its key holds at the moment.
+/// Returns what a storage line offers, by its kind and by what its key holds at the moment
+/// (doc/protocol.txt, "Storage commands"). Fails if memory is refused.
 pub fn offer(
     alloc: Global,
     held: Option<&Entry>,

@@ -1,4 +1,4 @@
-//! What a command will do that may change data, before anything is changed.
+//! What a command that may change data will do, planned before anything changes.
 ghost use Rattle.std.specs.Prelude.{◌≡◌, ℕ, ◌≤◌, ◌+◌, ◌<◌, ◌^◌, length, Some, IfOk};
 ghost use Rattle.tc_model.specs.Areas.{Limits, total};
 ghost use Rattle.tc_item.specs.Weight.{weight_of};
@@ -17,15 +17,16 @@ use tc_grammar::Way;
 use tc_item::{Blob, Key, NoMemory};
 use tc_stats::Counters;
 
-/// What a command will do: end so at once, or use a draft under a key, with the next cas number, before it
-/// ends so.
+/// What a command will do: end at once, or first store a draft under a key with the next cas
+/// number.
 #[derive(Drop)]
 pub enum Plan {
     Ends(End),
     Changes(End, Key, Draft),
 }
 
-/// What storing an item under a key will do: it is too large, or is used.
+/// Plans to store an item under a key. It is too large with more than `largest` bytes of data, or
+/// if it weighs more than `main`. Fails if memory is refused.
 pub fn plan_item(
     alloc: Global,
     largest: u64,
@@ -47,7 +48,7 @@ pub fn plan_item(
     Ok(Plan::Changes(End::Stored, key, draft))
 }
 
-/// A number counted: up it wraps at 2^64, and down it stops at 0.
+/// Returns the number counted up or down. Up it wraps at 2^64, and down it stops at 0.
 fn count(way: Way, number: u64, by: u64) -> u64
     ensures { result ≡ counted way number by }
 {
@@ -57,7 +58,7 @@ fn count(way: Way, number: u64, by: u64) -> u64
     }
 }
 
-/// A number as data.
+/// Spells a number as decimal digits. Fails if memory is refused.
 fn spell(alloc: Global, number: u64) -> Result<Blob, NoMemory>
     ensures { IfOk result (λ blob. blob ≡ text_of number) }
 {
@@ -66,7 +67,8 @@ fn spell(alloc: Global, number: u64) -> Result<Blob, NoMemory>
     Blob::new(alloc, text)
 }
 
-/// What counting an entry's data will do: it is no number, or the entry is used with the new number's text.
+/// Plans to count an entry's data up or down: the data is not a number, or the entry gets the new
+/// number's text. Fails if memory is refused.
 pub fn plan_count(alloc: Global, entry: &Entry, way: Way, by: u64) -> Result<Plan, NoMemory>
     ensures plan { IfOk result (λ plan. (k : UserCache)
         → planned k plan ≡ counted_under way by (Some entry.now) k) }
@@ -88,8 +90,9 @@ pub fn plan_count(alloc: Global, entry: &Entry, way: Way, by: u64) -> Result<Pla
 }
 
 impl EvictionState {
-    /// Carries a plan out, for which there is room: a draft gets the next cas number after `last`, and
-    /// each entry that is dropped for it is counted.
+    /// Carries out a plan. A draft gets the cas number after `last`; if there is none, nothing
+    /// changes and the end is `CasWorn`. Each entry dropped for it counts as an eviction. The lists
+    /// have room for one more entry.
     pub(crate) fn carry_out(&mut self, plan: Plan, last: &mut u64, counters: &mut Counters) -> End
         requires weight { total weight (areas_of self.old.areas) < 2 ^ 63 }
         requires light { IsLightPlan self.old.limits plan }

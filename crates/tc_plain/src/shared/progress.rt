@@ -1,10 +1,10 @@
-//! How far deferred work came.
+//! The progress of deferred work.
 
-/// Whether deferred work that had a limit stopped at it.
+/// Whether deferred work stopped at its limit.
 #[derive(Clone, Copy, PartialEq, Eq)]
 pub enum Progress {
-    /// It stopped before, with nothing left to do.
+    /// It did not: nothing is left to do.
     Done,
-    /// At its limit: more may be left.
+    /// It did: more may be left.
     MoreLeft,
 }

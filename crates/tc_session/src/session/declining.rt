@@ -1,4 +1,4 @@
-//! Passing over a request for which there is no memory.
+//! Skips a request for which there is no memory.
 ghost use Rattle.std.specs.Prelude.{◌≡◌, ◌≢◌, ◌≤◌, List, length, Some, IfOk, IfSome, OnOk, OnErr};
 ghost use Rattle.tc_model.specs.Connection.{turn, Bound, Nothing};
 ghost use Rattle.tc_feed.specs.Passing.{passed_of};
@@ -19,10 +19,12 @@ use tc_item::{LARGEST_ITEM, NoMemory};
 use tc_users::UserNo;
 
 impl Session {
-    /// Passes over the next whole request of the user's connection, with its block. A command is not
-    /// done, and `None`: that memory was refused is said, unless its line has `noreply`. What needs no
-    /// cache is answered as `next` does. It takes no memory but for room to say so; a refusal, also where no
-    /// whole request is there, leaves all as it was.
+    /// Skips the next whole request of the connection of `user`, with its block. A command is not
+    /// done, and the result is `None`. Its reply is `SERVER_ERROR out of memory`, unless its line
+    /// has `noreply`. It handles `quit` and faults as `next` does.
+    ///
+    /// The only memory it takes is room for what it says. It fails if that is refused, or no whole
+    /// request is there; then nothing changes.
     pub fn decline(&mut self, alloc: Global, user: UserNo) -> Result<Option<Want>, NoMemory>
         requires bound { self.old.endpoint.phase ≡ Bound user }
         ensures passed { IfOk result (IsPassed user (next_turn user self.old) self.old self.new) }
@@ -41,7 +43,8 @@ impl Session {
         }
     }
 
-    /// Declines a bound connection's next request, and lists it.
+    /// Declines a bound connection's next request as `decline` does, and lists it. Fails if the
+    /// connection is not bound.
     pub(super) fn decline_listed(
         &mut self,
         alloc: Global,
@@ -73,7 +76,7 @@ impl Session {
         }
     }
 
-    /// What is made of a request of the user's that was passed over.
+    /// Answers a request of this user that was skipped; `None` for a command.
     fn answer_passed(&mut self, user: UserNo, passed: Passed) -> Option<Want>
         requires room { needed_room ≤ self.old.room }
         requires bound { self.old.endpoint.phase ≡ Bound user }

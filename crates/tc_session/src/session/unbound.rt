@@ -1,4 +1,4 @@
-//! What is asked on a connection before it is bound.
+//! Requests of a connection before its login.
 ghost use Rattle.std.specs.Prelude.{◌≡◌, ◌≢◌, ◌≤◌, ◌++◌, None, Some, codes};
 ghost use Rattle.tc_model.specs.Connection.{Unbound, Nothing};
 ghost use Rattle.tc_feed.specs.declared.request.Request.TheVariants.{Ask};
@@ -13,7 +13,7 @@ use tc_grammar::{Command, Fault, StoreKind};
 use tc_users::Users;
 
 impl Session {
-    /// What a request means before the connection is bound.
+    /// Does a request of an unbound connection.
     pub(super) fn serve_unbound(&mut self, users: &Users, request: Option<Request>) -> Want
         requires room { needed_room ≤ self.old.room }
         requires unbound { self.old.endpoint.phase ≡ Unbound }
@@ -32,7 +32,7 @@ impl Session {
         }
     }
 
-    /// Notes a fault that a log has a line for.
+    /// Notes a fault that deserves a line in a log: a block that is too long.
     fn note_fault(&mut self, fault: Fault)
         ensures { self.new ≡ self.old }
     {
@@ -41,7 +41,8 @@ impl Session {
         }
     }
 
-    /// What a command means before the connection is bound: a `set` is a login.
+    /// Does a command of an unbound connection: a `set` is a login, `quit` closes, and all others
+    /// are refused.
     fn serve_unbound_command(&mut self, users: &Users, command: &Command) -> Want
         requires room { needed_room ≤ self.old.room }
         requires unbound { self.old.endpoint.phase ≡ Unbound }
@@ -61,7 +62,7 @@ impl Session {
         Want::Said
     }
 
-    /// Binds the connection to the user whom the data logs in, or denies the login.
+    /// Binds the connection to the user whose name and token the data has, or refuses the login.
     fn log_in(&mut self, users: &Users, quiet: bool, text: &[u8])
         requires room { needed_room ≤ self.old.room }
         requires unbound { self.old.endpoint.phase ≡ Unbound }
@@ -84,7 +85,7 @@ impl Session {
         }
     }
 
-    /// Says that a login was granted, unless it is quiet.
+    /// Appends that a login succeeded, unless it is quiet.
     fn say_stored(&mut self, quiet: bool)
         requires { needed_room ≤ self.old.room }
         ensures endpoint { self.new.endpoint ≡ self.old.endpoint }

@@ -1,4 +1,4 @@
-//! The entries as lists.
+//! Entries copied into lists.
 ghost use Rattle.std.specs.Prelude.{◌≡◌, IfOk};
 ghost use Rattle.tc_plain.specs.AreaLists.{areas_of};
 
@@ -10,7 +10,7 @@ use tc_plain::Areas;
 use tc_slru::Area;
 
 impl Slots {
-    /// Equal entries in the same order, over the same data.
+    /// Copies the entries in order. The copies share their data. Fails if memory is refused.
     pub fn copy(&self, alloc: Global) -> Result<Areas, NoMemory>
         ensures { IfOk result (λ areas. areas_of areas ≡ self.now.areas) }
     {

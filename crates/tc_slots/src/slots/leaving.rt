@@ -1,4 +1,4 @@
-//! How entries leave: by their key, all at once, by eviction and at their due.
+//! How entries leave: by key, all at once, by eviction and by expiry.
 ghost use Rattle.std.specs.Prelude.{◌≡◌, ℕ, true, false, length, ◌+◌, ◌≤◌, Some, None, is_some, IsSome, slice_index_or, slice_set};
 ghost use Rattle.tc_model.specs.Areas.{Limits as AreaLimits, settle};
 ghost use Rattle.tc_stats.specs.UserCounters.{more};
@@ -16,7 +16,7 @@ use tc_item::{Key, Moment, Slot};
 use tc_sketch::SparingSketch;
 
 impl Slots {
-    /// Takes a slot's entry out.
+    /// Removes a slot's entry.
     pub fn empty(&mut self, slot: Slot)
         requires { IsSome (slice_index_or self.old.slots slot.0 None) }
         ensures limits { self.new.limits ≡ self.old.limits }
@@ -30,7 +30,7 @@ impl Slots {
         self.wheel.remove(slot);
     }
 
-    /// Takes out what a key holds, and says whether it held anything.
+    /// Removes what a key holds, and returns whether it held anything.
     pub fn remove(&mut self, key: &Key) -> bool
         ensures held { result ≡ is_some (held key.now self.old.areas) }
         ensures areas { self.new.areas ≡ without_key key.now self.old.areas }
@@ -46,7 +46,7 @@ impl Slots {
         }
     }
 
-    /// Takes all entries out, each of the four in one pass, and lets go of them.
+    /// Removes and frees all entries, in one pass over each of the four tables.
     fn clear_in_place(&mut self)
         ensures limits { self.new.limits ≡ self.old.limits }
         ensures areas { self.new.areas ≡ no_entries }
@@ -58,8 +58,8 @@ impl Slots {
         self.wheel.clear();
     }
 
-    /// Takes all entries out: new tables are in use from now on, and what was held is let go of later. Where memory is
-    /// refused for that, all goes at once.
+    /// Removes all entries. It puts new tables in use, and sets the old ones aside to be freed
+    /// later. If memory for that is refused, it frees all entries at once.
     pub fn clear(&mut self)
         ensures limits { self.new.limits ≡ self.old.limits }
         ensures areas { self.new.areas ≡ no_entries }
@@ -73,7 +73,7 @@ impl Slots {
         }
     }
 
-    /// Drops the next entry that settle drops, and says whether there was one.
+    /// Drops the next entry that settle drops, and returns whether there was one.
     pub fn settle_next(&mut self, sketch: &SparingSketch) -> bool
         ensures limits { self.new.limits ≡ self.old.limits }
         ensures next { DropsEntry result sketch.now self.old self.new }
@@ -90,7 +90,7 @@ impl Slots {
         }
     }
 
-    /// Brings each area within its limit, and counts each entry that is dropped.
+    /// Brings each area within its limit. Returns `evictions` plus the number of dropped entries.
     pub fn settle(&mut self, sketch: &SparingSketch, mut evictions: u64) -> u64
         ensures areas { self.new.areas ≡ (settle weight
             (frequency_in sketch.now) self.old.limits self.old.areas).areas }
@@ -105,7 +105,7 @@ impl Slots {
         evictions
     }
 
-    /// Takes out one entry that is not alive at the moment, and says whether there was one.
+    /// Removes one entry that is not alive at the moment, and returns whether there was one.
     pub fn expire_next(&mut self, moment: Moment) -> bool
         ensures limits { self.new.limits ≡ self.old.limits }
         ensures kept { filtered (lives moment) self.new.areas ≡ filtered (lives moment) self.old.areas }
@@ -128,7 +128,7 @@ impl Slots {
         }
     }
 
-    /// Takes out what is not alive at the moment.
+    /// Removes all entries that are not alive at the moment.
     pub fn expire(&mut self, moment: Moment)
         ensures limits { self.new.limits ≡ self.old.limits }
         ensures areas { self.new.areas ≡ filtered (lives moment) self.old.areas }

@@ -16,12 +16,16 @@ use tc_plain::Cache;
 use tc_users::{UserNo, Users};
 
 impl<W: Wire + Drop, N: Naming> Worker<W, N> {
-    /// Goes over the listed connections, in the order in which they came to the server: each reads, once
-    /// all did each does requests, and once all did each writes. Those that are done are dropped; those
-    /// that another worker is to serve wait for `pass_on`; those whose user had its share, or has much
-    /// deferred work in a new second, go first in the next turn. How long the inlet may then wait: not at
-    /// all where one gets on or was left out, and a moment where one is to be tried again. Each command of a
-    /// connection is one call of the hall, and a connection has 16 at most.
+    /// Goes over the listed connections three times: each reads, each does requests, and each
+    /// writes. Those left out of the last turn come first, and then the others by number.
+    ///
+    /// Done connections are dropped. Those that another worker must serve wait for `pass_on`. A
+    /// connection goes first in the next turn if its user had its share, or has much deferred work
+    /// in a new second.
+    ///
+    /// Returns how long the inlet may wait: not at all if a connection got on or was left out, and
+    /// a moment if one must be tried again. Each command is one call of the hall, and a connection
+    /// has 16 at most.
     pub fn turn<R: Wait, C: Cache, G: Gate>(
         &mut self,
         rt: &R,
@@ -47,7 +51,7 @@ impl<W: Wire + Drop, N: Naming> Worker<W, N> {
         self.give_all_out(clock.now())
     }
 
-    /// Begins to deal the turn out among so many users.
+    /// Begins a turn among `users` users.
     fn begin_turn(&mut self, users: usize)
         ensures { self.new ≡ self.old }
     {
@@ -56,7 +60,7 @@ impl<W: Wire + Drop, N: Naming> Worker<W, N> {
         self.accounts.begin(users, sole);
     }
 
-    /// The user whose connections alone are listed.
+    /// Returns the user to whom all listed connections belong, if there is one.
     fn sole_user(&self) -> Option<usize> {
         let first = self.user_of(self.listed.first()?.key);
         for listed in &self.listed {
@@ -67,7 +71,7 @@ impl<W: Wire + Drop, N: Naming> Worker<W, N> {
         Some(first)
     }
 
-    /// The user of a key's connection for the deal, 0 where it has not logged in.
+    /// Returns the user of a key's connection, 0 before its login.
     fn user_of(&self, key: usize) -> usize {
         match self.links.get(key) {
             Some(link) => link.user(),
@@ -75,9 +79,9 @@ impl<W: Wire + Drop, N: Naming> Worker<W, N> {
         }
     }
 
-    /// Orders the listed connections by their numbers, behind those that were left out. A client's
-    /// connections mostly came one after the other, so that replies to it follow one another, and a thread
-    /// of it that sleeps is woken once for several.
+    /// Orders the listed connections by number, behind those that were left out. The connections of
+    /// one client mostly have consecutive numbers. So replies to it follow one another, and a
+    /// sleeping thread of it wakes once for several.
     fn order(&mut self)
         ensures { self.new ≡ self.old }
     {
@@ -95,7 +99,8 @@ impl<W: Wire + Drop, N: Naming> Worker<W, N> {
         }
     }
 
-    /// The first part of the turn of the connection at a place of the list, unless its user is to wait.
+    /// The first part of the turn of the connection at a place of the list, unless its user must
+    /// wait.
     fn begin_visit<R: Wait, C: Cache, G: Gate>(
         &mut self,
         service: &Service<'_, R, C, N, G>,
@@ -122,8 +127,8 @@ impl<W: Wire + Drop, N: Naming> Worker<W, N> {
         lease.release();
     }
 
-    /// The second part of the turn of the connection at a place of the list, before which memory is read ahead
-    /// for it and for some behind it.
+    /// The second part of the turn of the connection at a place of the list. Before it, memory is
+    /// read ahead for this connection and some behind it.
     fn visit<'a, R: Wait, C: Cache, G: Gate>(
         &mut self,
         service: &Service<'a, R, C, N, G>,
@@ -137,8 +142,9 @@ impl<W: Wire + Drop, N: Naming> Worker<W, N> {
         self.do_admitted(service, lease, at);
     }
 
-    /// Reads ahead what holds the keys that the next requests seem to ask for, of the connections of one user
-    /// from a place of the list on up to one of another user, where that was not done for the first of them.
+    /// Reads ahead the memory of the keys that the next requests seem to ask for. It covers the
+    /// connections from a place of the list up to the first of another user, unless that was done
+    /// already.
     fn read_ahead<'a, R: Wait, C: Cache, G: Gate>(
         &mut self,
         service: &Service<'a, R, C, N, G>,
@@ -160,14 +166,14 @@ impl<W: Wire + Drop, N: Naming> Worker<W, N> {
         }
     }
 
-    /// The user that the connection at a place of the list logged in as.
+    /// Returns the user of the login of the connection at a place of the list.
     fn bound_at(&self, at: usize) -> Option<UserNo> {
         let listed = self.listed.get(at)?;
         self.links.get(listed.key)?.bound()
     }
 
-    /// Sees which keys the connections of a user from a place of the list on seem to ask for, up to one of
-    /// another user and as many as there is room for.
+    /// Collects the keys that a user's connections seem to ask for, as far as there is room. It
+    /// begins at a place of the list and ends before the first connection of another user.
     fn look_ahead(&mut self, user: UserNo, from: usize)
         ensures { self.new ≡ self.old }
     {
@@ -179,8 +185,8 @@ impl<W: Wire + Drop, N: Naming> Worker<W, N> {
         }
     }
 
-    /// Sees which keys the connection at a place of the list seems to ask for. Whether it is this user's, or is
-    /// left out of the turn, and there was room.
+    /// Collects the keys of the connection at a place of the list. Returns whether it is this
+    /// user's or is left out of the turn, and there was room.
     fn look_at(&mut self, user: UserNo, at: usize) -> bool
         ensures { self.new ≡ self.old }
     {
@@ -198,7 +204,7 @@ impl<W: Wire + Drop, N: Naming> Worker<W, N> {
         true
     }
 
-    /// The requests of the connection at a place of the list, unless its user is to wait.
+    /// Does the requests of the connection at a place of the list, unless its user must wait.
     fn do_admitted<'a, R: Wait, C: Cache, G: Gate>(
         &mut self,
         service: &Service<'a, R, C, N, G>,
@@ -214,8 +220,9 @@ impl<W: Wire + Drop, N: Naming> Worker<W, N> {
         self.do_requests(service, lease, key, before);
     }
 
-    /// The key of the connection at a place of the list, and what is kept for it, where it was admitted to
-    /// this turn and its user still has a share of it; else it is left out.
+    /// Returns the key of the connection at a place of the list, and what is kept for it. `None` if
+    /// it was not admitted to this turn, or if its user has no share left and the turn leaves it
+    /// out.
     fn admit_again(&mut self, at: usize) -> Option<(usize, Holding)>
         ensures { self.new ≡ self.old }
     {
@@ -234,8 +241,8 @@ impl<W: Wire + Drop, N: Naming> Worker<W, N> {
         Some((listed.key, holding))
     }
 
-    /// The key of the connection at a place of the list, and what is kept for it, where it is admitted to
-    /// this turn; else it is left out. One that held it up is to end.
+    /// Admits the connection at a place of the list, and returns its key and what is kept for it.
+    /// `None` if the turn leaves it out. A connection that held it up must end.
     fn admit<R: Wait, C: Cache, G: Gate>(
         &mut self,
         service: &Service<'_, R, C, N, G>,
@@ -266,7 +273,7 @@ impl<W: Wire + Drop, N: Naming> Worker<W, N> {
         Some((key, holding))
     }
 
-    /// Has a key's connection end, since it holds up others of its user.
+    /// Makes a key's connection end, since it holds up others of its user.
     fn give_up<R: Wait, C: Cache, G: Gate>(&mut self, service: &Service<'_, R, C, N, G>, key: usize)
         ensures { self.new ≡ self.old }
     {
@@ -275,7 +282,7 @@ impl<W: Wire + Drop, N: Naming> Worker<W, N> {
         }
     }
 
-    /// The last part of the turn of each listed connection, and how long the inlet may wait.
+    /// The last part of the turn of each listed connection. Returns how long the inlet may wait.
     fn give_all_out(&mut self, now: Moment) -> Patience
         ensures serves { ServesSilently self.old self.new }
     {
@@ -304,7 +311,7 @@ impl<W: Wire + Drop, N: Naming> Worker<W, N> {
         }
     }
 
-    /// The first part of one connection's turn. Where it is done it is dropped.
+    /// The first part of one connection's turn. A connection that is over is dropped.
     fn take_in<R: Wait>(&mut self, rt: &R, now: Moment, key: usize, before: Holding)
         ensures listed { self.new.due ≡ self.old.due }
         ensures serves { ServesSilently self.old self.new }
@@ -314,7 +321,7 @@ impl<W: Wire + Drop, N: Naming> Worker<W, N> {
         }
     }
 
-    /// Reads on one connection, for which so much was kept. Whether it goes on.
+    /// Reads on one connection, for which `before` was kept. Returns whether it goes on.
     fn read<R: Wait>(&mut self, rt: &R, now: Moment, key: usize, before: Holding) -> bool
         ensures listed { self.new.due ≡ self.old.due }
         ensures serves { (rows : List UserSpec) → GoesOnOrEnds 0 rows key result self.old self.new }
@@ -330,7 +337,7 @@ impl<W: Wire + Drop, N: Naming> Worker<W, N> {
         }
     }
 
-    /// The second part of one connection's turn. Where it is done it is dropped.
+    /// The second part of one connection's turn. A connection that is over is dropped.
     fn do_requests<'a, R: Wait, C: Cache, G: Gate>(
         &mut self,
         service: &Service<'a, R, C, N, G>,
@@ -346,8 +353,8 @@ impl<W: Wire + Drop, N: Naming> Worker<W, N> {
         }
     }
 
-    /// Does requests, and writes where much waits, on one connection, for which so much was kept. Whether
-    /// it goes on.
+    /// Does requests on one connection, for which `before` was kept, and writes if much waits to be
+    /// sent. Returns whether it goes on.
     fn serve<'a, R: Wait, C: Cache, G: Gate>(
         &mut self,
         service: &Service<'a, R, C, N, G>,
@@ -370,7 +377,8 @@ impl<W: Wire + Drop, N: Naming> Worker<W, N> {
         }
     }
 
-    /// The last part of the turn of a listed connection. One that was left out gets on in the next.
+    /// The last part of the turn of a listed connection. One that was left out gets on in the next
+    /// turn.
     fn end_visit(&mut self, now: Moment, listed: Listed) -> Onward
         ensures listed { self.new.due ≡ self.old.due }
         ensures serves { ServesSilently self.old self.new }
@@ -381,13 +389,14 @@ impl<W: Wire + Drop, N: Naming> Worker<W, N> {
         self.give_out(now, listed.key)
     }
 
-    /// Whether a listed connection was left out of the turn. One that was dropped in it was not.
+    /// Whether a listed connection was left out of the turn. A connection that the turn dropped was
+    /// not.
     fn waits(&self, listed: Listed) -> bool {
         listed.waits() && self.links.contains(listed.key)
     }
 
-    /// The last part of one connection's turn. Where it is done it is dropped, where it rests it is
-    /// told so, and where another worker is to serve it, it is done with here.
+    /// The last part of one connection's turn. A done connection is dropped, one that rests leaves
+    /// the list, and one that another worker must serve is done here.
     fn give_out(&mut self, now: Moment, key: usize) -> Onward
         ensures listed { self.new.due ≡ self.old.due }
         ensures serves { ServesSilently self.old self.new }
@@ -404,7 +413,7 @@ impl<W: Wire + Drop, N: Naming> Worker<W, N> {
         }
     }
 
-    /// Writes on one connection, and looks at it once more; `None` where there is none.
+    /// Writes on one connection, and looks at it once more; `None` if the key has none.
     fn write(&mut self, now: Moment, key: usize) -> Option<Onward>
         ensures listed { self.new.due ≡ self.old.due }
         ensures serves { IfSome result (λ onward. (rows : List UserSpec)
@@ -421,7 +430,7 @@ impl<W: Wire + Drop, N: Naming> Worker<W, N> {
         Some(onward)
     }
 
-    /// What a turn of this pace leaves of a connection that goes on.
+    /// Decides whether a connection that goes on leaves for another worker or stays with this pace.
     fn leave_or_stay(&mut self, key: usize, pace: Pace) -> Onward
         ensures listed { self.new.due ≡ self.old.due }
         ensures serves { ServesSilently self.old self.new }

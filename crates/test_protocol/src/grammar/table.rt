@@ -1,5 +1,5 @@
-//! The table of lines: what each spells where a block may have 256 bytes, made by hand; and the
-//! faults, with their numbers and texts.
+//! Lines and what each spells if a block may have 256 bytes, by hand from doc/protocol.txt; and the
+//! faults with their numbers and texts.
 
 use tc_grammar::Fault;
 
@@ -11,7 +11,7 @@ const BAD_FORMAT_SKIPS_7: &str = "Refused { fault: BadFormat, quiet: false, skip
 
 const BAD_DELTA: &str = "Refused { fault: BadDelta, quiet: false, skip: 0 }";
 
-/// Names: lower case alone, and a tab is no space.
+/// Command names: lower case only, and a tab is no space.
 pub const NAMES: [(&str, &str); 9] = [
     ("", UNKNOWN),
     ("   ", UNKNOWN),
@@ -24,7 +24,7 @@ pub const NAMES: [(&str, &str); 9] = [
     ("noreply", UNKNOWN),
 ];
 
-/// Retrieval.
+/// Retrieval lines.
 pub const RETRIEVAL: [(&str, &str); 17] = [
     ("get k", r#"Ready(Get { form: Bare, keys: ["k"] })"#),
     ("  get   k  ", r#"Ready(Get { form: Bare, keys: ["k"] })"#),
@@ -57,7 +57,7 @@ pub const RETRIEVAL: [(&str, &str); 17] = [
     ("get a\tb", BAD_FORMAT),
 ];
 
-/// Storage lines of their form.
+/// Storage lines of the right form.
 pub const STORAGE: [(&str, &str); 16] = [
     (
         "set k 0 0 5",
@@ -141,7 +141,8 @@ pub const STORAGE: [(&str, &str); 16] = [
     ),
 ];
 
-/// Refused storage lines: a length is the fifth token; a refused line skips it and two bytes more.
+/// Refused storage lines. The fifth token is the length, and a refused line skips that many bytes
+/// and two more.
 pub const REFUSED_STORAGE: [(&str, &str); 28] = [
     ("set k 4294967296 0 5", BAD_FORMAT_SKIPS_7),
     ("set k 0 4294967296 5", BAD_FORMAT_SKIPS_7),
@@ -194,7 +195,7 @@ pub const REFUSED_STORAGE: [(&str, &str); 28] = [
     ),
 ];
 
-/// Counters: the delta has a fault of its own, behind a good key and a good ending alone.
+/// Counter lines. A bad delta has a fault of its own, but only if the key and the ending are good.
 pub const COUNTERS: [(&str, &str); 17] = [
     (
         "incr k 5",
@@ -312,7 +313,7 @@ pub const LONG_KEY: [(&str, &str); 1] = [(
     "Refused { fault: BadFormat, quiet: false, skip: 3 }",
 )];
 
-/// Lines where a block may have 1,048,576 bytes.
+/// Storage lines if a block may have 1,048,576 bytes.
 pub const AT_A_MEBIBYTE: [(&str, &str); 2] = [
     (
         "set k 0 0 1048576",
@@ -325,7 +326,7 @@ pub const AT_A_MEBIBYTE: [(&str, &str); 2] = [
     ),
 ];
 
-/// Streams that begin with a command, one of each kind.
+/// Streams of one command, one for each kind of command.
 pub const COPIED: [&str; 11] = [
     "gets a b c\r\n",
     "gat 5 a_key_of_more_than_thirty_two_bytes\r\n",

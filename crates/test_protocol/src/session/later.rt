@@ -1,4 +1,4 @@
-//! Replies that are written later. Texts are by hand from the protocol's text.
+//! Replies that the session writes later. Texts are by hand from doc/protocol.txt.
 ghost use Rattle.std.specs.Prelude.{◌≤◌};
 
 use super::shared::found;
@@ -13,7 +13,7 @@ use tc_session::{Session, Want, can_end};
 use tc_stats::Outcome;
 use tc_users::Users;
 
-/// Answers the next request later, if it is a command that can come to this outcome.
+/// Answers the next request later, if it is a command that can have this outcome.
 fn answer_next_later(
     alloc: Global,
     session: &mut Session,
@@ -29,7 +29,7 @@ fn answer_next_later(
     Ok(())
 }
 
-/// The same of a look-up that finds so many bytes under this key.
+/// Answers the next request later with a hit of `size` bytes under this key.
 fn find_later(
     alloc: Global,
     session: &mut Session,
@@ -42,6 +42,7 @@ fn find_later(
     Ok(())
 }
 
+/// Guards clients that send several commands at once: replies must come in the order asked.
 #[test]
 fn replies_that_are_written_later_keep_their_order(rt: HostRuntime) -> Result<(), Fail> {
     let users = users(rt.alloc())?;
@@ -49,7 +50,8 @@ fn replies_that_are_written_later_keep_their_order(rt: HostRuntime) -> Result<()
     expect_order(&rt, &mut session, &users)
 }
 
-/// Two replies are written later, and a third behind them.
+/// Answers two look-ups later. Expects that they wait unwritten until the next request, and that
+/// its reply follows theirs.
 fn expect_order(
     rt: &(impl AllocGlobal + Abort),
     session: &mut Session,
@@ -66,6 +68,7 @@ fn expect_order(
     Ok(())
 }
 
+/// Guards a client's last reply: it must go out though no request follows it.
 #[test]
 fn a_reply_that_is_written_later_waits_to_be_sent(rt: HostRuntime) -> Result<(), Fail> {
     let users = users(rt.alloc())?;
@@ -73,7 +76,7 @@ fn a_reply_that_is_written_later_waits_to_be_sent(rt: HostRuntime) -> Result<(),
     expect_settled(&rt, &mut session, &users)
 }
 
-/// A reply that is written later waits once it is settled.
+/// Answers a look-up later, settles the session, and expects the reply to wait.
 fn expect_settled(
     rt: &(impl AllocGlobal + Abort),
     session: &mut Session,

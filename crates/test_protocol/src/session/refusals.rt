@@ -1,4 +1,4 @@
-//! Commands for which memory is refused, and those that are passed over.
+//! Commands that are refused memory, and commands that are passed over.
 ghost use Rattle.std.specs.Prelude.{◌≤◌};
 
 use super::{expect_out, expect_wanted, next, opened, push, wanted, wanted_of};
@@ -11,7 +11,7 @@ use tc_item::NoMemory;
 use tc_session::{Declined, News, Session, Want};
 use tc_users::Users;
 
-/// Refuses what a request wants of a cache.
+/// Refuses the call that a request wants, if it wants one.
 fn refuse(session: &mut Session, want: &Want)
     requires { 64 ≤ session.old.room }
 {
@@ -29,7 +29,7 @@ fn refuse_next(alloc: Global, session: &mut Session, users: &Users) -> Result<()
     Ok(())
 }
 
-/// What is to be sent where a command wants memory.
+/// Refuses a command, and expects its reply.
 fn expect_refused(
     rt: &(impl AllocGlobal + Abort),
     session: &mut Session,
@@ -43,7 +43,7 @@ fn expect_refused(
     Ok(())
 }
 
-/// The same, each on a connection of alice's own.
+/// Refuses each command on a new connection of alice's, and expects its reply.
 fn expect_each_refused(
     rt: &(impl AllocGlobal + Abort),
     users: &Users,
@@ -56,6 +56,8 @@ fn expect_each_refused(
     Ok(())
 }
 
+/// Guards clients when memory is short: each command that waits for a reply gets one, and a quiet
+/// one gets none.
 #[test]
 fn a_refusal_is_said_unless_the_line_is_quiet(rt: HostRuntime) -> Result<(), Fail> {
     let users = users(rt.alloc())?;
@@ -63,7 +65,7 @@ fn a_refusal_is_said_unless_the_line_is_quiet(rt: HostRuntime) -> Result<(), Fai
     Ok(())
 }
 
-/// Declines the next request of a bound connection, once more where memory was refused.
+/// Declines the next request of a bound connection, and once more if memory was refused.
 fn decline(alloc: Global, session: &mut Session) -> Result<Option<Want>, NoMemory> {
     let Some(user) = session.user() else {
         return Err(NoMemory)
@@ -74,7 +76,7 @@ fn decline(alloc: Global, session: &mut Session) -> Result<Option<Want>, NoMemor
     }
 }
 
-/// What is to be sent where a command is declined, and that the one behind it is still there.
+/// Declines a command, and expects its reply. The command after it must still be there.
 fn expect_declined(
     rt: &(impl AllocGlobal + Abort),
     users: &Users,
@@ -85,12 +87,12 @@ fn expect_declined(
     expect_behind(rt, &mut session, users, reply.0)
 }
 
-/// Whether the next request was declined, so that nothing is wanted.
+/// Declines the next request. Returns whether nothing is wanted of it.
 fn is_declined(alloc: Global, session: &mut Session) -> Result<bool, NoMemory> {
     Ok(decline(alloc, session)?.is_none())
 }
 
-/// The first of two commands is declined.
+/// Pushes two commands and declines the first. Expects its reply, and news for the operator.
 fn expect_passed_over(
     rt: &(impl AllocGlobal + Abort),
     session: &mut Session,
@@ -105,7 +107,7 @@ fn expect_passed_over(
     Ok(())
 }
 
-/// The second is still there.
+/// Expects the second command to be still there.
 fn expect_behind(
     rt: &(impl AllocGlobal + Abort),
     session: &mut Session,
@@ -117,7 +119,7 @@ fn expect_behind(
     Ok(())
 }
 
-/// The same, each on a connection of alice's own.
+/// Declines each command on a new connection of alice's, and expects its reply.
 fn expect_each_declined(
     rt: &(impl AllocGlobal + Abort),
     users: &Users,
@@ -129,6 +131,8 @@ fn expect_each_declined(
     Ok(())
 }
 
+/// Guards a connection when memory stays short: it must go on with the next command and not hang on
+/// one.
 #[test]
 fn a_declined_command_is_passed_over_and_its_refusal_said(rt: HostRuntime) -> Result<(), Fail> {
     let users = users(rt.alloc())?;
@@ -137,6 +141,8 @@ fn a_declined_command_is_passed_over_and_its_refusal_said(rt: HostRuntime) -> Re
     Ok(())
 }
 
+/// Guards a `set` whose block is still arriving: its bytes must stay, or the rest would run as
+/// commands.
 #[test]
 fn a_request_that_is_not_whole_is_not_declined(rt: HostRuntime) -> Result<(), Fail> {
     let users = users(rt.alloc())?;
@@ -145,7 +151,7 @@ fn a_request_that_is_not_whole_is_not_declined(rt: HostRuntime) -> Result<(), Fa
     Ok(())
 }
 
-/// A request that is not whole is not declined here, and stays.
+/// Declines a request that is not whole, and expects an error and all its bytes unread.
 fn expect_kept(rt: &(impl AllocGlobal + Abort), session: &mut Session) -> Result<(), NoMemory> {
     push(session, b"set k 0 0 5\r\nab")?;
     assert!(rt; decline(rt.alloc(), session).is_err());
@@ -153,7 +159,8 @@ fn expect_kept(rt: &(impl AllocGlobal + Abort), session: &mut Session) -> Result
     Ok(())
 }
 
-/// Asks for the next request, whether or not memory was refused to it before.
+/// Asks for the next request, as a first try or as a retry after a refusal of memory, and expects
+/// it.
 fn expect_asked(rt: &(impl AllocGlobal + Abort), is_retry: bool) -> Result<(), Fail> {
     let users = users(rt.alloc())?;
     let mut session = opened(rt.alloc(), &users)?;
@@ -162,7 +169,7 @@ fn expect_asked(rt: &(impl AllocGlobal + Abort), is_retry: bool) -> Result<(), F
     Ok(())
 }
 
-/// What is asked for then.
+/// Pushes a `get` and asks for it. Returns what it wants.
 fn asked(
     alloc: Global,
     session: &mut Session,
@@ -174,6 +181,7 @@ fn asked(
     Ok(asked.as_ref().map_or(Wanted::Nothing, wanted_of))
 }
 
+/// Guards a command whose second try finds memory: it must be done, not declined.
 #[test]
 fn a_request_is_declined_only_where_memory_is_refused(rt: HostRuntime) -> Result<(), Fail> {
     expect_asked(&rt, false)?;

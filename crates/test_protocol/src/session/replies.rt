@@ -1,4 +1,4 @@
-//! The replies to outcomes that no script comes to. Texts are by hand from the protocol's text.
+//! Replies to outcomes that no script reaches. Texts are by hand from doc/protocol.txt.
 ghost use Rattle.std.specs.Prelude.{◌≡◌, ◌≤◌, true};
 ghost use Rattle.tc_session.specs.Replies.{can_end};
 
@@ -14,7 +14,8 @@ use tc_session::{Session, Want, can_end};
 use tc_stats::Outcome;
 use tc_users::Users;
 
-/// Answers a command; where memory was refused, that is said, and then it is tried again.
+/// Answers a command. If memory is refused, expects the reply to say so, sends it, and answers once
+/// more.
 fn answer(
     rt: &(impl AllocGlobal + Abort),
     session: &mut Session,
@@ -35,7 +36,7 @@ fn answer(
     session.answer(command, outcome)
 }
 
-/// Does what a request wants, which comes to this outcome where it is for a cache.
+/// Answers a request with this outcome if it wants a call of a cache. Returns what it wants.
 fn serve(
     rt: &(impl AllocGlobal + Abort),
     session: &mut Session,
@@ -52,7 +53,7 @@ fn serve(
     Ok(wanted_of(want))
 }
 
-/// Does the next request.
+/// Answers the next request with this outcome if it wants a call of a cache. Returns what it wants.
 pub(super) fn serve_next(
     rt: &(impl AllocGlobal + Abort),
     session: &mut Session,
@@ -65,7 +66,7 @@ pub(super) fn serve_next(
     }
 }
 
-/// What is to be sent for an outcome of a command on a connection.
+/// Pushes a command of alice's, answers it with an outcome, and expects its reply.
 fn expect_reply(
     rt: &(impl AllocGlobal + Abort),
     session: &mut Session,
@@ -81,7 +82,7 @@ fn expect_reply(
     Ok(())
 }
 
-/// The same, each on a connection of alice's own.
+/// Answers each command with an outcome, on a new connection of alice's, and expects its reply.
 fn expect_each_reply(
     rt: &(impl AllocGlobal + Abort),
     users: &Users,
@@ -95,7 +96,7 @@ fn expect_each_reply(
     Ok(())
 }
 
-/// The replies to an outcome.
+/// Expects the replies to an outcome, each command on a new connection of alice's.
 fn expect_replies(
     rt: &(impl AllocGlobal + Abort),
     outcome: &Outcome,
@@ -106,11 +107,14 @@ fn expect_replies(
     Ok(())
 }
 
+/// Guards the client of a cache without cas numbers: it gets a reply of its own, not a wrong
+/// number.
 #[test]
 fn used_up_cas_numbers_are_told(rt: HostRuntime) -> Result<(), Fail> {
     expect_replies(&rt, &Outcome::CasWorn, &WORN)
 }
 
+/// Guards data that looks like a reply, and cas numbers of 64 bits, on their way to the client.
 #[test]
 fn hits_are_shown_in_order_with_cas_numbers_where_asked(rt: HostRuntime) -> Result<(), Fail> {
     expect_replies(&rt, &look_up(rt.alloc(), &FOUND)?, &LOOK_UPS)

@@ -1,4 +1,4 @@
-//! Replies whose data is sent from where it lies. Texts are by hand from the protocol's text.
+//! Replies whose data is sent from the item's own memory. Texts are by hand from doc/protocol.txt.
 
 use super::replies::serve_next;
 use super::table::Wanted;
@@ -12,7 +12,7 @@ use tc_session::Session;
 use tc_stats::{Hit, Hits, Outcome};
 use tc_users::Users;
 
-/// A hit of so many bytes `d`.
+/// Returns a hit with `size` bytes `d` of data.
 fn hit(alloc: Global, name: &str, size: usize) -> Result<Hit, Fail> {
     let key = Key::new(alloc, name.as_bytes())?;
     let blob = Blob::new(alloc, vec![in alloc; b'd'; size]?)?;
@@ -24,7 +24,7 @@ fn hit(alloc: Global, name: &str, size: usize) -> Result<Hit, Fail> {
     })
 }
 
-/// What a look-up comes to that finds so many bytes under each of these keys.
+/// Returns the outcome of a look-up that finds `size` bytes under each of these keys.
 pub(super) fn found(alloc: Global, names: &[&str], size: usize) -> Result<Outcome, Fail> {
     let mut hits = Hits::new();
     for name in names {
@@ -33,7 +33,7 @@ pub(super) fn found(alloc: Global, names: &[&str], size: usize) -> Result<Outcom
     Ok(Outcome::Values(hits))
 }
 
-/// Asks on a connection of alice's, which finds this.
+/// Pushes a look-up on a connection of alice's, and answers it with this outcome.
 fn ask(
     rt: &(impl AllocGlobal + Abort),
     session: &mut Session,
@@ -47,20 +47,20 @@ fn ask(
     Ok(())
 }
 
-/// A slice of what waits: these bytes, or so many bytes `d`.
+/// A slice of waiting output: these bytes, or this many bytes `d`.
 #[derive(Clone, Copy)]
 enum Slice {
     Text(&'static [u8]),
     Data(usize),
 }
 
-/// Whether bytes are so many `d`.
+/// Expects `size` bytes `d`.
 fn expect_data(rt: &impl Abort, data: &[u8], size: usize, at: &str) {
     expect_number(rt, data.len() as u64, size as u64, at);
     assert!(rt; data.iter().all(|byte| *byte == b'd'), "{at}");
 }
 
-/// Whether bytes are this slice.
+/// Expects bytes to be this slice.
 fn expect_slice(rt: &impl Abort, bytes: &[u8], slice: Slice) {
     match slice {
         Slice::Text(text) => expect_bytes(rt, bytes, text, "text"),
@@ -68,7 +68,7 @@ fn expect_slice(rt: &impl Abort, bytes: &[u8], slice: Slice) {
     }
 }
 
-/// Whether what waits begins with these slices; how many bytes stand behind them.
+/// Expects waiting output to begin with these slices. Returns the number of bytes after them.
 fn expect_front(rt: &impl Abort, session: &Session, slices: &[Slice]) -> usize {
     let mut parts = session.parts();
     for slice in slices {
@@ -79,7 +79,7 @@ fn expect_front(rt: &impl Abort, session: &Session, slices: &[Slice]) -> usize {
     parts.len()
 }
 
-/// How many bytes are sent, and the slices that wait then.
+/// How many bytes are sent, and the slices that wait after that.
 type Sending = (usize, &'static [Slice]);
 
 const VALUE: Slice = Slice::Text(b"VALUE k 7 16384\r\n");
@@ -88,8 +88,8 @@ const DATA: Slice = Slice::Data(16_384);
 
 const END: Slice = Slice::Text(b"\r\nEND\r\n");
 
-/// A reply with shared data, sent bit by bit: nothing, some of the line, all of it, some of the data,
-/// all of it and a byte more, and more than waits.
+/// A reply with shared data, sent in pieces: nothing, part of the line, the rest of it, part of the
+/// data, the rest of it and one byte more, and more than waits.
 const ONE: [Sending; 6] = [
     (0, &[VALUE, DATA, END]),
     (6, &[Slice::Text(b"k 7 16384\r\n"), DATA, END]),
@@ -99,7 +99,8 @@ const ONE: [Sending; 6] = [
     (9, &[]),
 ];
 
-/// A reply with data of two hits: nothing is sent, then the first hit but its last byte, and all the data.
+/// A reply with the data of two hits, sent in pieces: nothing, the first hit and one byte of its
+/// line end, and all up to the end of the second hit's data.
 const TWO: [Sending; 3] = [
     (
         0,
@@ -118,7 +119,7 @@ const TWO: [Sending; 3] = [
     (18 + 16_384, &[END]),
 ];
 
-/// Two replies: the second stands behind the first one's end, and waits while that is sent.
+/// Two replies, sent in pieces: nothing, and the first reply. The second still waits then.
 const BEHIND: [Sending; 2] = [
     (
         0,
@@ -136,7 +137,7 @@ const BEHIND: [Sending; 2] = [
     ),
 ];
 
-/// Sends what waits bit by bit.
+/// Sends waiting output in pieces, and expects the slices after each.
 fn expect_sendings(rt: &impl Abort, session: &mut Session, sendings: &[Sending]) {
     for (sent, slices) in sendings {
         session.sent(*sent);
@@ -145,7 +146,7 @@ fn expect_sendings(rt: &impl Abort, session: &mut Session, sendings: &[Sending])
     }
 }
 
-/// Asks line after line.
+/// Pushes each look-up, and answers it with this outcome.
 fn ask_all(
     rt: &(impl AllocGlobal + Abort),
     session: &mut Session,
@@ -159,7 +160,8 @@ fn ask_all(
     Ok(())
 }
 
-/// Asks on one connection of alice's, twice, where so many bytes are found under each of these keys.
+/// Asks twice on one connection of alice's, where each key holds 16,384 bytes, and expects the
+/// slices of the replies.
 fn expect_replies(
     rt: &(impl AllocGlobal + Abort),
     names: &[&str],
@@ -173,7 +175,7 @@ fn expect_replies(
     Ok(())
 }
 
-/// The same on this connection, where this is found.
+/// Asks twice on this connection, answers with this outcome, and expects the slices of the replies.
 fn expect_twice(
     rt: &(impl AllocGlobal + Abort),
     session: &mut Session,
@@ -190,6 +192,8 @@ fn expect_twice(
     Ok(())
 }
 
+/// Guards memory and speed: large data must not be copied into the output. Every byte must still go
+/// out once.
 #[test]
 fn large_data_is_sent_from_where_it_lies(rt: HostRuntime) -> Result<(), Fail> {
     expect_replies(&rt, &["k"], &["get k\r\n"], &ONE)?;
@@ -197,6 +201,7 @@ fn large_data_is_sent_from_where_it_lies(rt: HostRuntime) -> Result<(), Fail> {
     expect_replies(&rt, &["k"], &["get k\r\n", "gets k\r\n"], &BEHIND)
 }
 
+/// Guards memory: a look-up of many items must not copy all their data into the output.
 #[test]
 fn smaller_data_is_shared_where_a_reply_is_long(rt: HostRuntime) -> Result<(), Fail> {
     let users = users(rt.alloc())?;
@@ -204,7 +209,7 @@ fn smaller_data_is_shared_where_a_reply_is_long(rt: HostRuntime) -> Result<(), F
     expect_long(&rt, &mut session, &users)
 }
 
-/// A reply with 64 hits, of which the first slices are looked at.
+/// Asks for 64 hits of 16,383 bytes, and expects the first hit's data in a slice of its own.
 fn expect_long(
     rt: &(impl AllocGlobal + Abort),
     session: &mut Session,

@@ -1,4 +1,4 @@
-//! Lines, with what they are answered, by hand from the protocol's text.
+//! What clients say, and what they are answered, by hand from doc/protocol.txt.
 
 use crate::fixtures::Found;
 
@@ -7,16 +7,17 @@ use crate::fixtures::Found;
 pub enum Wanted {
     Nothing,
     Said,
-    /// Alice's cache, who is 1.
+    /// The cache of alice, who is user 1.
     Alices,
-    /// Bob's, who is 2.
+    /// The cache of bob, who is user 2.
     Bobs,
-    /// The cache of somebody else.
+    /// The cache of any other user.
     Unknown,
     Close,
 }
 
-/// A piece that comes, what the next request wants then, and all that waits to be sent after it.
+/// A piece that is pushed, what the next request wants after it, and all output that waits at that
+/// point.
 pub type Turn = (&'static str, Wanted, &'static str);
 
 const DENIED: &str = "CLIENT_ERROR unauthenticated\r\n";
@@ -28,10 +29,11 @@ pub enum State {
     Closed,
 }
 
-/// How many bytes are sent, a turn that is taken then, and how many bytes are unread after it.
+/// How many bytes are sent first, the turn taken after that, and the connection's state and unread
+/// bytes after the turn.
 pub type Step = (usize, Turn, State, u64);
 
-/// What waits is sent bit by bit, the last of it with more bytes than there are.
+/// Output is sent in pieces. The last piece reports more bytes than wait.
 pub const UNSENT: [Step; 4] = [
     (
         0,
@@ -49,7 +51,7 @@ pub const UNSENT: [Step; 4] = [
     (8, ("", Wanted::Nothing, ""), State::Open, 3),
 ];
 
-/// What a connection that was shut makes of a line that is unread.
+/// A connection that was shut leaves a whole line unread.
 pub const SHUT: [Step; 1] = [(0, ("", Wanted::Nothing, ""), State::Closed, 5)];
 
 const BARE: &str = "VALUE a 4294967295 7\r\n\r\nEND\r\n\r\nVALUE b 0 0\r\n\r\nEND\r\n";
@@ -60,7 +62,7 @@ const WITH_CAS: &str = "VALUE a 4294967295 7 18446744073709551615\r\n\r\nEND\r\n
 /// A command and its reply.
 pub type Reply = (&'static str, &'static str);
 
-/// Two hits, one of them of a block that looks like a reply's end.
+/// Two hits. The data of the first looks like the end of a reply.
 pub const FOUND: [Found; 2] = [
     (
         "a",
@@ -79,19 +81,19 @@ pub const LOOK_UPS: [Reply; 4] = [
     ("gats 0 a b\r\n", WITH_CAS),
 ];
 
-/// A command where no cas numbers are left, and its reply.
+/// A command if no cas number is left, and its reply.
 pub const WORN: [Reply; 1] = [("incr k 1\r\n", "SERVER_ERROR cas numbers exhausted\r\n")];
 
 const NO_MEMORY: &str = "SERVER_ERROR out of memory\r\n";
 
-/// Commands, and what is said where they want memory.
+/// Commands, and their replies if memory is refused.
 pub const REFUSALS: [Reply; 3] = [
     ("get k\r\n", NO_MEMORY),
     ("set k 0 0 1\r\nx\r\n", NO_MEMORY),
     ("set k 0 0 1 noreply\r\nx\r\n", ""),
 ];
 
-/// The same of a long key, of several keys, and of lines that have no key.
+/// The same for a long key, for several keys, and for lines without a key.
 pub const DECLINED: [Reply; 5] = [
     (
         "get a_key_of_more_bytes_than_are_kept_in_place\r\n",

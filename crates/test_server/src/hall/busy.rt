@@ -1,5 +1,6 @@
-//! A page in which items were touched, were evicted, expired and were flushed, and what it began with.
-//! The outcomes are by hand: a budget of 65,536 holds three items of 20,000 bytes beside a small one.
+//! A page on which items are touched, evicted, expired and flushed, and the state that it began
+//! with. The outcomes are by hand: a budget of 65,536 bytes holds three items of 20,000 bytes and a
+//! small one.
 use super::commands::{flush, get_of, set_of, touch_of};
 use super::replayed::has_page;
 use crate::stage::{Closing, Scene, call, closed, first, play};
@@ -12,17 +13,17 @@ use tc_locked::{Hall, Naming, Seat};
 use tc_plain::{Cache, Journal};
 use tc_stats::Outcome;
 
-/// What is asked of a key.
+/// What a step does with its key.
 #[derive(Clone, Copy)]
 enum Ask {
-    /// So many bytes are set, which are due after so many seconds, or never.
+    /// Sets `len` bytes, which are due after `exptime` seconds, or never if it is 0.
     Set { exptime: i64, len: usize },
     Get,
     Touch { exptime: i64 },
     Flush,
 }
 
-/// What it comes to.
+/// The expected outcome.
 #[derive(Clone, Copy)]
 enum Want {
     Stored,
@@ -32,10 +33,10 @@ enum Want {
     Miss,
 }
 
-/// The second of a call, its key, what is asked, and what it comes to.
+/// The second of a call, its key, what it does, and its expected outcome.
 type Step = (u64, &'static [u8], Ask, Want);
 
-/// Three sets; with thirteen gets behind them they are a page.
+/// Three `set`s. Thirteen `get`s after them fill the first page.
 const FIRST: [Step; 3] = [
     (5, b"a", LARGE, Want::Stored),
     (5, b"b", DUE_AT_25, Want::Stored),
@@ -70,7 +71,7 @@ const DUE_AT_25: Ask = Ask::Set {
 
 const SMALL: Ask = Ask::Set { exptime: 0, len: 3 };
 
-/// The command that a key is asked.
+/// Returns the command of a step.
 fn command(alloc: Global, key: &[u8], ask: Ask) -> Result<Command, Fail> {
     match ask {
         Ask::Set { exptime, len } => set_of(alloc, key, exptime, &vec![in alloc; b'd'; len]?),
@@ -80,6 +81,7 @@ fn command(alloc: Global, key: &[u8], ask: Ask) -> Result<Command, Fail> {
     }
 }
 
+/// Returns whether an outcome is the expected one.
 fn meets(outcome: &Outcome, want: Want) -> bool {
     match (outcome, want) {
         (Outcome::Stored, Want::Stored) => true,
@@ -91,6 +93,7 @@ fn meets(outcome: &Outcome, want: Want) -> bool {
     }
 }
 
+/// Makes a step's call for alice, and expects its outcome.
 fn do_step<C: Cache, N: Naming, R: Wait + Abort>(
     rt: &R,
     alloc: Global,
@@ -106,7 +109,7 @@ fn do_step<C: Cache, N: Naming, R: Wait + Abort>(
     Ok(())
 }
 
-/// Whether a command comes to what is wanted.
+/// Makes a call for alice. Returns whether its outcome is the expected one.
 fn comes_to<C: Cache, N: Naming, R: Wait + Abort>(
     rt: &R,
     alloc: Global,
@@ -120,7 +123,7 @@ fn comes_to<C: Cache, N: Naming, R: Wait + Abort>(
     Ok(meets(&receipt.slip.outcome, want))
 }
 
-/// Fills a page, and does the second one.
+/// Fills the first page, and makes the calls of the second.
 fn do_pages<C: Cache, N: Naming, R: Wait + Abort>(
     rt: &R,
     alloc: Global,
@@ -139,7 +142,8 @@ fn do_pages<C: Cache, N: Naming, R: Wait + Abort>(
     Ok(())
 }
 
-/// The second page leads from its opening to its outcomes.
+/// Makes the calls of two pages, closes the hall, and expects the second page to replay from its
+/// opening.
 pub fn change_all<C: Cache, N: Naming, R: Wait + Abort>(
     rt: &R,
     alloc: Global,
@@ -153,6 +157,7 @@ pub fn change_all<C: Cache, N: Naming, R: Wait + Abort>(
     Ok(())
 }
 
+/// Guards audits: a page must replay even if it begins in the middle of a cache's life.
 #[test]
 fn a_page_with_every_change_replays(rt: HostRuntime) -> Result<(), Fail> {
     play(&rt, rt.alloc(), 1, 16, Scene::Closing(Closing::ChangesAll))

@@ -1,4 +1,4 @@
-//! Commands, most of them on the key `k`, and what they come to.
+//! Commands, most of them on the key `k`, and checks of their outcomes.
 use std::alloc::Global;
 use std::test::Fail;
 use tc_grammar::{Command, Form, Head, StoreKind, Way};
@@ -9,6 +9,7 @@ fn key(alloc: Global) -> Result<Key, Fail> {
     Ok(Key::new(alloc, b"k")?)
 }
 
+/// Returns a storage command with flags 7.
 fn store(
     alloc: Global,
     kind: StoreKind,
@@ -28,29 +29,33 @@ fn store(
     Ok(Command::Store(head, blob))
 }
 
+/// Returns a `set` of `k` that is never due.
 pub fn set(alloc: Global, data: &[u8]) -> Result<Command, Fail> {
     store(alloc, StoreKind::Set, key(alloc)?, 0, data)
 }
 
-/// A set of another key, with this exptime.
+/// Returns a `set` of another key, with this exptime.
 pub fn set_of(alloc: Global, key: &[u8], exptime: i64, data: &[u8]) -> Result<Command, Fail> {
     store(alloc, StoreKind::Set, Key::new(alloc, key)?, exptime, data)
 }
 
+/// Returns an `append` to `k`.
 pub fn append(alloc: Global, data: &[u8]) -> Result<Command, Fail> {
     store(alloc, StoreKind::Append, key(alloc)?, 0, data)
 }
 
+/// Returns a `get` or `gets` of `k`.
 pub fn look_up(alloc: Global, form: Form) -> Result<Command, Fail> {
     let keys = Keys::one(key(alloc)?);
     Ok(Command::Get { form, keys })
 }
 
+/// Returns a `get` of `k`.
 pub fn get(alloc: Global) -> Result<Command, Fail> {
     look_up(alloc, Form::Bare)
 }
 
-/// A get of another key.
+/// Returns a `get` of another key.
 pub fn get_of(alloc: Global, key: &[u8]) -> Result<Command, Fail> {
     Ok(Command::Get {
         form: Form::Bare,
@@ -58,7 +63,7 @@ pub fn get_of(alloc: Global, key: &[u8]) -> Result<Command, Fail> {
     })
 }
 
-/// A touch of another key, with this exptime.
+/// Returns a `touch` of another key, with this exptime.
 pub fn touch_of(alloc: Global, key: &[u8], exptime: i64) -> Result<Command, Fail> {
     Ok(Command::Touch {
         key: Key::new(alloc, key)?,
@@ -67,7 +72,7 @@ pub fn touch_of(alloc: Global, key: &[u8], exptime: i64) -> Result<Command, Fail
     })
 }
 
-/// A flush at once.
+/// Returns a `flush_all` without delay.
 pub fn flush() -> Command {
     Command::Flush {
         delay: 0,
@@ -75,6 +80,7 @@ pub fn flush() -> Command {
     }
 }
 
+/// Returns an `incr` of `k`.
 pub fn incr(alloc: Global, value: u64) -> Result<Command, Fail> {
     Ok(Command::Count {
         way: Way::Incr,
@@ -84,7 +90,7 @@ pub fn incr(alloc: Global, value: u64) -> Result<Command, Fail> {
     })
 }
 
-/// Whether an outcome is one hit of this data.
+/// Returns whether an outcome is one hit with this data and flags 7.
 pub fn shows(outcome: &Outcome, data: &[u8]) -> bool {
     let Outcome::Values(hits) = outcome else {
         return false;
@@ -95,7 +101,7 @@ pub fn shows(outcome: &Outcome, data: &[u8]) -> bool {
     }
 }
 
-/// Whether an outcome is a look-up that found nothing.
+/// Returns whether an outcome is a look-up that found nothing.
 pub fn shows_nothing(outcome: &Outcome) -> bool {
     match outcome {
         Outcome::Values(hits) => hits.is_empty(),

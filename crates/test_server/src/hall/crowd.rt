@@ -1,4 +1,4 @@
-//! Threads on one hall.
+//! Eight threads and a keeper on one hall.
 
 use super::commands::{append, get, incr, look_up, set};
 use super::replayed::has_page;
@@ -14,7 +14,7 @@ use tc_locked::{Closed, Hall, Naming, Receipt, Seat, Unread};
 use tc_plain::{Cache, Journal};
 use tc_users::UserNo;
 
-/// A seat, what it calls, and the receipts of its calls.
+/// A seat, the commands that it calls, and the receipts of its calls.
 #[derive(Drop)]
 struct Work<N: Naming> {
     seat: Seat<N>,
@@ -25,11 +25,14 @@ struct Work<N: Naming> {
 /// What a thread does.
 #[derive(Drop)]
 enum Job<N: Naming> {
-    /// It maintains both users.
+    /// Maintains both users' caches.
     Keeps,
+    /// Makes a hundred calls.
     Calls(Work<N>),
 }
 
+/// Guards the history of a user who is served by several workers: no call may be lost, doubled or
+/// out of order.
 #[test]
 fn eight_threads_beside_a_keeper_leave_every_entry(rt: HostRuntime) -> Result<(), Fail> {
     play(
@@ -41,7 +44,8 @@ fn eight_threads_beside_a_keeper_leave_every_entry(rt: HostRuntime) -> Result<()
     )
 }
 
-/// A hundred calls by each of eight seats, beside a keeper, each in a thread of its own.
+/// Makes a hundred calls with each of eight seats while a keeper maintains, each in its own thread.
+/// Closes the hall and expects every entry.
 pub fn eight_threads<
     C: Cache + Send + Sync,
     N: Naming + Send + Sync,
@@ -57,7 +61,7 @@ pub fn eight_threads<
     close_with_jobs(rt, alloc, hall, jobs, keeps)
 }
 
-/// A keeper's job, and one for each seat.
+/// Returns the keeper's job, and one job for each seat.
 fn jobs_of<N: Naming>(alloc: Global, seats: Vec<Seat<N>>) -> Result<Vec<Job<N>>, Fail> {
     let mut jobs = Vec::new(alloc);
     jobs.push(Job::Keeps)?;
@@ -72,6 +76,7 @@ fn jobs_of<N: Naming>(alloc: Global, seats: Vec<Seat<N>>) -> Result<Vec<Job<N>>,
     Ok(jobs)
 }
 
+/// Returns the five commands that each seat calls: `set`, `gets`, `append`, `incr` and `get`.
 fn five_commands(alloc: Global) -> Result<Vec<Command>, Fail> {
     let mut commands = Vec::new(alloc);
     commands.push(set(alloc, b"1")?)?;
@@ -82,7 +87,7 @@ fn five_commands(alloc: Global) -> Result<Vec<Command>, Fail> {
     Ok(commands)
 }
 
-/// Does each job in a thread of its own.
+/// Does each job in its own thread. Returns the jobs with their receipts.
 fn do_all<C: Cache + Send + Sync, N: Naming + Send + Sync, R: Threads + Wait + Abort + Sync>(
     rt: &R,
     alloc: Global,
@@ -92,7 +97,7 @@ fn do_all<C: Cache + Send + Sync, N: Naming + Send + Sync, R: Threads + Wait + A
     thread::map_vec(rt, jobs, &|job| do_one(rt, alloc, hall, job))
 }
 
-/// Does a job, and gives it back with what came of it.
+/// Does a job, and returns it with its receipts.
 fn do_one<C: Cache, N: Naming, R: Wait + Abort>(
     rt: &R,
     alloc: Global,
@@ -108,14 +113,14 @@ fn do_one<C: Cache, N: Naming, R: Wait + Abort>(
     }
 }
 
-/// A thousand maintenances of both users, of limits 0 to 3.
+/// Maintains the users' caches by turns, a thousand times, with limits 0 to 3.
 fn keep<C: Cache, N: Naming, R: Wait>(rt: &R, hall: &Hall<C, N>) {
     for turn in 0..1_000 {
         hall.maintain(rt, UserNo::new(1 + turn % 2), Moment::new(5), turn % 4);
     }
 }
 
-/// Makes all commands twenty times, by turns on two users.
+/// Calls all commands twenty times, by turns on the two users.
 fn call_often<C: Cache, N: Naming, R: Wait + Abort>(
     rt: &R,
     alloc: Global,
@@ -141,6 +146,7 @@ fn call_often<C: Cache, N: Naming, R: Wait + Abort>(
     }
 }
 
+/// Makes one call for connection 1 at second 5. Aborts if it is refused.
 fn call_once<C: Cache, N: Naming, R: Wait + Abort>(
     rt: &R,
     alloc: Global,
@@ -163,7 +169,8 @@ fn call_once<C: Cache, N: Naming, R: Wait + Abort>(
     }
 }
 
-/// Each receipt has its entry, and each user's page has half of the entries, which lead to their outcomes.
+/// Closes the hall. Expects an entry for each receipt, and half of the entries on each user's page,
+/// which must replay.
 fn close_with_jobs<C: Cache, N: Naming, R: Abort>(
     rt: &R,
     alloc: Global,
@@ -179,7 +186,7 @@ fn close_with_jobs<C: Cache, N: Naming, R: Abort>(
     Ok(())
 }
 
-/// The seats, and the receipts of each.
+/// Returns the seats, and the receipts of each.
 fn parted<N: Naming>(
     alloc: Global,
     jobs: Vec<Job<N>>,
@@ -195,7 +202,7 @@ fn parted<N: Naming>(
     Ok((seats, receipts))
 }
 
-/// Each of eight hundred receipts has its entry.
+/// Expects an entry for each of eight hundred receipts.
 fn has_all_entries<C: Cache, N: Naming, R: Abort>(
     rt: &R,
     closed: &Closed<C, N>,
@@ -211,8 +218,8 @@ fn has_all_entries<C: Cache, N: Naming, R: Abort>(
     }
 }
 
-/// Whether a seat's entries in a user's book stand in the order in which it called: their numbers rise,
-/// and each counts one more of the seat's.
+/// Returns whether a seat's fifty entries for a user are in the order of its calls: their numbers
+/// rise, and each tally is one more than the last.
 fn are_in_order<N: Naming>(receipts: &[Receipt<N>], user: u32) -> bool {
     let (mut number, mut tally) = (0u64, 0u64);
     for receipt in receipts {
@@ -226,7 +233,7 @@ fn are_in_order<N: Naming>(receipts: &[Receipt<N>], user: u32) -> bool {
     tally == 50
 }
 
-/// Whether each receipt of a seat has its entry, with the command that it made and its outcome.
+/// Returns whether each receipt of a seat has its entry, with its command and its outcome.
 fn has_entries<C: Cache, N: Naming>(
     closed: &Closed<C, N>,
     keeps: Journal,
@@ -243,8 +250,8 @@ fn has_entries<C: Cache, N: Naming>(
     true
 }
 
-/// Whether a receipt has its entry, with this command and its outcome, which without a journal can't be
-/// read.
+/// Returns whether a receipt has its entry, with this command and its outcome. Without a journal,
+/// returns whether the entry exists but cannot be read.
 fn is_entered<C: Cache, N: Naming>(
     closed: &Closed<C, N>,
     keeps: Journal,

@@ -1,4 +1,4 @@
-//! Pages of 16 entries: which receipts still have theirs once pages were turned.
+//! Pages of 16 entries: which receipts still have an entry once pages were turned.
 ghost use Rattle.std.specs.Prelude.{◌≡◌};
 
 use super::commands::{get, set, shows};
@@ -12,12 +12,14 @@ use tc_grammar::Command;
 use tc_locked::{Closed, Hall, Naming, Receipt, Seat, Unread};
 use tc_plain::{Cache, Journal};
 
+/// Guards audits: a turned page must drop its entries, and the last page must keep all of its own.
 #[test]
 fn forty_calls_turn_two_pages(rt: HostRuntime) -> Result<(), Fail> {
     play(&rt, rt.alloc(), 1, 16, Scene::Closing(Closing::TurnsPages))
 }
 
-/// Makes a set and 39 gets on pages of 16 entries, and closes the hall.
+/// Makes a `set` and 39 `get`s on pages of 16 entries, closes the hall, and expects the last page
+/// alone.
 pub fn turn_two_pages<C: Cache, N: Naming, R: Wait + Abort>(
     rt: &R,
     alloc: Global,
@@ -34,7 +36,7 @@ pub fn turn_two_pages<C: Cache, N: Naming, R: Wait + Abort>(
     expect_forty(rt, alloc, &closed, keeps, &receipts)
 }
 
-/// The receipts of a set and 39 gets, each of which shows the data.
+/// Makes a `set` and 39 `get`s that show its data. Returns their receipts.
 fn set_and_forty<C: Cache, N: Naming, R: Wait + Abort>(
     rt: &R,
     alloc: Global,
@@ -47,7 +49,7 @@ fn set_and_forty<C: Cache, N: Naming, R: Wait + Abort>(
     Ok(receipts)
 }
 
-/// Adds the receipt of a set.
+/// Makes a `set`, and appends its receipt.
 fn add_set<C: Cache, N: Naming, R: Wait + Abort>(
     rt: &R,
     alloc: Global,
@@ -62,7 +64,7 @@ fn add_set<C: Cache, N: Naming, R: Wait + Abort>(
     Ok(())
 }
 
-/// Adds the receipts of 39 gets.
+/// Makes 39 `get`s, and appends their receipts.
 fn add_gets<C: Cache, N: Naming, R: Wait + Abort>(
     rt: &R,
     alloc: Global,
@@ -77,7 +79,7 @@ fn add_gets<C: Cache, N: Naming, R: Wait + Abort>(
     Ok(())
 }
 
-/// Adds the receipt of a get, which shows the data.
+/// Makes a `get`, which must show the data, and appends its receipt.
 fn add_shown<C: Cache, N: Naming, R: Wait + Abort>(
     rt: &R,
     alloc: Global,
@@ -93,7 +95,7 @@ fn add_shown<C: Cache, N: Naming, R: Wait + Abort>(
     Ok(())
 }
 
-/// The last page has eight entries, and the first 32 are gone.
+/// Expects eight entries on the last page, which must replay, and none for the first 32 receipts.
 fn expect_forty<C: Cache, N: Naming, R: Abort>(
     rt: &R,
     alloc: Global,
@@ -106,8 +108,8 @@ fn expect_forty<C: Cache, N: Naming, R: Abort>(
     Ok(())
 }
 
-/// Whether the first 32 receipts have no entry left, and the others theirs, which without a journal can't
-/// be read.
+/// Returns whether the first 32 receipts have no entry, and the last eight have theirs. Without a
+/// journal those exist but cannot be read.
 fn has_last_eight<C: Cache, N: Naming>(
     closed: &Closed<C, N>,
     keeps: Journal,

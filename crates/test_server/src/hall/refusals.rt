@@ -1,4 +1,4 @@
-//! A call that is refused memory, where one is: the book, its page and its counts are as before.
+//! A call that may be refused memory. If it is, the book, its page and its counts stay as before.
 ghost use Rattle.std.specs.Prelude.{◌≡◌};
 
 use super::commands::set;
@@ -14,12 +14,14 @@ use tc_locked::{CallFault, Hall, Naming, Seat};
 use tc_plain::{Cache, Journal};
 use tc_users::UserNo;
 
+/// Guards data and audits when memory is short: a refused call must leave no trace, and an accepted
+/// one a full one.
 #[test]
 fn a_refused_call_on_a_full_page_changes_nothing(rt: HostRuntime) -> Result<(), Fail> {
     play(&rt, rt.alloc(), 1, 3, Scene::Closing(Closing::FillsPage))
 }
 
-/// Fills a page of three entries and calls once more.
+/// Fills a page of three entries, makes one more call, and closes the hall.
 pub fn call_on_a_full_page<C: Cache, N: Naming, R: Wait + Abort>(
     rt: &R,
     alloc: Global,
@@ -34,7 +36,7 @@ pub fn call_on_a_full_page<C: Cache, N: Naming, R: Wait + Abort>(
     close_after(rt, alloc, hall, seats, all, keeps, refused)
 }
 
-/// Fills a page, and says whether one call more is refused.
+/// Fills a page. Returns whether one more call is refused.
 fn fill_page_and_call<C: Cache, N: Naming, R: Wait + Abort>(
     rt: &R,
     alloc: Global,
@@ -46,6 +48,7 @@ fn fill_page_and_call<C: Cache, N: Naming, R: Wait + Abort>(
     Ok(is_refused(rt, alloc, hall, seat, &set))
 }
 
+/// Makes three calls at second 5.
 fn fill_page<C: Cache, N: Naming, R: Wait + Abort>(
     rt: &R,
     alloc: Global,
@@ -59,7 +62,7 @@ fn fill_page<C: Cache, N: Naming, R: Wait + Abort>(
     Ok(())
 }
 
-/// Whether a call is refused for want of memory.
+/// Makes a call at second 6. Returns whether memory is refused to it.
 fn is_refused<C: Cache, N: Naming, R: Wait>(
     rt: &R,
     alloc: Global,
@@ -71,7 +74,8 @@ fn is_refused<C: Cache, N: Naming, R: Wait>(
     matches!(called, Err(CallFault::NoMemory))
 }
 
-/// A refused call left the page and the count; another began a page and was counted.
+/// Closes the hall. A refused call must leave the page and the count; an accepted one must begin a
+/// page and be counted.
 fn close_after<C: Cache, N: Naming, R: Abort>(
     rt: &R,
     alloc: Global,

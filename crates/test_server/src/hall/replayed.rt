@@ -1,4 +1,4 @@
-//! Entries that are done again.
+//! Audits: the entries of a page, replayed from the state that it began with.
 use super::commands::{get, set};
 use std::alloc::Global;
 use std::test::*;
@@ -9,12 +9,13 @@ use tc_plain::{Cache, Journal, Plain, act};
 use tc_stats::Outcome;
 use tc_users::UserNo;
 
-/// Whether an audit compared so many calls, and found no difference.
+/// Returns whether an audit compared this many calls and found no difference.
 fn agrees(audit: &Audit, calls: usize) -> bool {
     audit.compared == calls && audit.difference.is_none()
 }
 
-/// Whether the hall's own audit of a user's page compared so many calls, and found no difference.
+/// Returns whether the hall's own audit of a user's page compared this many calls and found no
+/// difference.
 fn is_audited<C: Cache, N: Naming>(
     alloc: Global,
     closed: &Closed<C, N>,
@@ -27,12 +28,12 @@ fn is_audited<C: Cache, N: Naming>(
     }
 }
 
-/// Whether so many entries lead from an opening to their outcomes.
+/// Returns whether this many entries replay from an opening to their outcomes.
 fn leads(alloc: Global, opening: Plain, page: &[CallEntry], entries: usize) -> Result<bool, Fail> {
     Ok(agrees(&audit_page(alloc, opening, page)?, entries))
 }
 
-/// The same by what the hall shows.
+/// Returns whether the page that the hall shows replays from the opening that it shows.
 fn is_shown<C: Cache, N: Naming>(
     alloc: Global,
     closed: &Closed<C, N>,
@@ -48,15 +49,15 @@ fn is_shown<C: Cache, N: Naming>(
     }
 }
 
-/// Whether nothing of a user's page can be read, since the journal is off.
+/// Returns whether nothing of a user's page can be read because the journal is off.
 fn is_off<C: Cache, N: Naming>(alloc: Global, closed: &Closed<C, N>, user: UserNo) -> bool {
     matches!(closed.audit(alloc, user), Err(Unread::Off))
         && matches!(closed.page(user), Err(Unread::Off))
         && matches!(closed.opening(alloc, user), Err(Unread::Off))
 }
 
-/// Whether a user's page has so many entries, which lead from its opening to their outcomes; without a
-/// journal, whether nothing of it can be read.
+/// Returns whether a user's page has this many entries, which replay from its opening. Without a
+/// journal, returns whether nothing of it can be read.
 pub fn has_page<C: Cache, N: Naming>(
     alloc: Global,
     closed: &Closed<C, N>,
@@ -73,7 +74,7 @@ pub fn has_page<C: Cache, N: Naming>(
     }
 }
 
-/// A call of a plain cache at second 5, as an entry of this number.
+/// Makes a call of a plain cache at second 5. Returns it as the entry with this number.
 fn entry_of(
     alloc: Global,
     cache: &mut Plain,
@@ -93,6 +94,7 @@ fn entry_of(
     })
 }
 
+/// Makes a call of a plain cache, and appends its entry.
 fn enter(
     alloc: Global,
     cache: &mut Plain,
@@ -105,14 +107,14 @@ fn enter(
     Ok(())
 }
 
-/// Enters a get, a set and a get, as entries 41 to 43.
+/// Enters a `get`, a `set` and a `get`, as entries 41 to 43.
 fn enter_three(alloc: Global, cache: &mut Plain, entries: &mut Vec<CallEntry>) -> Result<(), Fail> {
     enter(alloc, cache, entries, 41, get(alloc)?)?;
     enter(alloc, cache, entries, 42, set(alloc, b"abc")?)?;
     enter(alloc, cache, entries, 43, get(alloc)?)
 }
 
-/// A get, a set and a get of an empty cache.
+/// Returns the entries of a `get`, a `set` and a `get` on an empty cache.
 fn three_entries(alloc: Global) -> Result<Vec<CallEntry>, Fail> {
     let mut cache = Plain::new(alloc, 65_536, 1_024)?;
     let mut entries = Vec::new(alloc);
@@ -120,19 +122,19 @@ fn three_entries(alloc: Global) -> Result<Vec<CallEntry>, Fail> {
     Ok(entries)
 }
 
-/// What an audit of the entries finds, from an empty cache.
+/// Audits the entries from an empty cache.
 fn audit_of(alloc: Global, entries: &[CallEntry]) -> Result<Audit, Fail> {
     Ok(audit_page(alloc, Plain::new(alloc, 65_536, 1_024)?, entries)?)
 }
 
-/// Has the second of the entries keep another outcome than the call had.
+/// Replaces the outcome of the second entry by one that its call did not have.
 fn forge(entries: &mut Vec<CallEntry>) {
     if let Some(entry) = entries.get_mut(1) {
         entry.outcome = Outcome::NotFound;
     }
 }
 
-/// Whether the second of the entries, a set, is found to come to another outcome than it keeps.
+/// Returns whether the audit stops at the second entry, number 42, a `set` that was stored.
 fn tells_of_the_set(audit: &Audit) -> bool {
     match &audit.difference {
         Some(it) => {
@@ -143,6 +145,7 @@ fn tells_of_the_set(audit: &Audit) -> bool {
     }
 }
 
+/// Guards the use of audits: a reply that the cache did not give must be found and named.
 #[test]
 fn a_forged_outcome_is_found(rt: HostRuntime) -> Result<(), Fail> {
     let alloc = rt.alloc();

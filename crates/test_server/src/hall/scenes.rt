@@ -1,4 +1,4 @@
-//! One or two seats: what a call comes to, at which moment, and how a hall ends.
+//! Scenes with one or two seats: outcomes and moments of calls, and the close of a hall.
 ghost use Rattle.std.specs.Prelude.{◌≡◌};
 
 use super::commands::{get, set, shows, shows_nothing};
@@ -13,6 +13,7 @@ use tc_locked::{CallFault, Clock, Hall, Lease, Missing, Naming, Receipt, Seat};
 use tc_plain::{Cache, Journal};
 use tc_users::UserNo;
 
+/// Guards expiry: a clock that is set back must not bring expired items back.
 #[test]
 fn the_clock_takes_the_later_moment(rt: HostRuntime) {
     let clock = Clock::new();
@@ -22,12 +23,15 @@ fn the_clock_takes_the_later_moment(rt: HostRuntime) {
     assert!(&rt; clock.now() == Moment::new(7));
 }
 
+/// Guards users from one another: bob must not read what alice stored under the same key. The
+/// journal must take the bytes that operators plan for.
 #[test]
 fn a_seat_reads_its_own_set_back(rt: HostRuntime) -> Result<(), Fail> {
     play(&rt, rt.alloc(), 1, 16, Scene::Within(Within::ReadsBack))
 }
 
-/// What the first user set, the first user gets, and the second does not.
+/// Stores for alice. Expects that alice gets the data and bob does not, and the bytes that their
+/// pages keep.
 pub fn read_back<C: Cache, N: Naming, R: Wait + Abort>(
     rt: &R,
     alloc: Global,
@@ -38,7 +42,7 @@ pub fn read_back<C: Cache, N: Naming, R: Wait + Abort>(
     assert!(rt; hall.users() == 2);
     store_for_one(rt, alloc, hall, seat)?;
     read_ahead(rt, alloc, hall, 1);
-    // And for nobody.
+    // User 3 does not exist.
     read_ahead(rt, alloc, hall, 3);
     let get = get(alloc)?;
     let found = find_both(rt, alloc, hall, seat, &get);
@@ -49,8 +53,9 @@ pub fn read_back<C: Cache, N: Naming, R: Wait + Abort>(
     Ok(())
 }
 
-/// The bytes that the page of each user is to keep, and that of nobody: 200 an entry, and the three that were
-/// set and shown; without a journal none.
+/// Returns the bytes that the pages of users 1 to 3 should keep; user 3 does not exist. An entry
+/// takes 208 bytes, and 3 more for the data that it sets or shows. Without a journal a page keeps
+/// none.
 fn kept(keeps: Journal) -> [u64; 3] {
     match keeps {
         Journal::On => [422, 208, 0],
@@ -58,7 +63,7 @@ fn kept(keeps: Journal) -> [u64; 3] {
     }
 }
 
-/// The bytes that the page of each user keeps, and that of nobody.
+/// Returns the bytes that the pages of users 1 to 3 keep; user 3 does not exist.
 fn journals<C: Cache, N: Naming, R: Wait>(rt: &R, hall: &Hall<C, N>) -> [u64; 3] {
     [
         hall.journal_bytes(rt, UserNo::new(1)),
@@ -67,13 +72,14 @@ fn journals<C: Cache, N: Naming, R: Wait>(rt: &R, hall: &Hall<C, N>) -> [u64; 3]
     ]
 }
 
-/// Reads ahead for a user, of keys that may be held and are not.
+/// Reads ahead for a user, for two hashes whose keys need not be held.
 fn read_ahead<C: Cache, N: Naming, R: Wait>(rt: &R, alloc: Global, hall: &Hall<C, N>, user: u32) {
     let mut lease = Lease::none();
     hall.read_ahead(rt, &mut lease, UserNo::new(user), &[0, u64::MAX]);
     lease.release();
 }
 
+/// Stores `abc` for alice at second 5.
 fn store_for_one<C: Cache, N: Naming, R: Wait + Abort>(
     rt: &R,
     alloc: Global,
@@ -85,7 +91,7 @@ fn store_for_one<C: Cache, N: Naming, R: Wait + Abort>(
     Ok(())
 }
 
-/// Whether a look-up shows the data to each user.
+/// Returns whether a look-up shows the data to alice, and to bob.
 fn find_both<C: Cache, N: Naming, R: Wait + Abort>(
     rt: &R,
     alloc: Global,
@@ -98,7 +104,7 @@ fn find_both<C: Cache, N: Naming, R: Wait + Abort>(
     Ok((one, other))
 }
 
-/// Whether a look-up for a user shows the data, or nothing.
+/// Returns whether a look-up shows the data to a user. It must show the data or nothing.
 fn finds<C: Cache, N: Naming, R: Wait + Abort>(
     rt: &R,
     alloc: Global,
@@ -115,13 +121,14 @@ fn finds<C: Cache, N: Naming, R: Wait + Abort>(
     Ok(finds)
 }
 
-/// A call on a user at a second, and the second at which it is entered.
+/// A call for a user at a second, and the second that its entry should have.
 struct Late {
     user: u32,
     second: u64,
     entered: u64,
 }
 
+/// Calls before the maintenance of bob's book.
 const EARLY: [Late; 2] = [
     Late {
         user: 1,
@@ -135,7 +142,7 @@ const EARLY: [Late; 2] = [
     },
 ];
 
-/// Calls after the second user's book was maintained at 50.
+/// Calls after the maintenance of bob's book at second 50.
 const LATE: [Late; 2] = [
     Late {
         user: 1,
@@ -149,12 +156,13 @@ const LATE: [Late; 2] = [
     },
 ];
 
+/// Guards the history's order: a worker with an old moment must not serve what another saw expire.
 #[test]
 fn a_late_call_is_entered_at_the_books_moment(rt: HostRuntime) -> Result<(), Fail> {
     play(&rt, rt.alloc(), 1, 16, Scene::Within(Within::CallsLate))
 }
 
-/// Calls around a maintenance of the second user's book.
+/// Makes calls before and after a maintenance of bob's book, and expects the second of each entry.
 pub fn call_late<C: Cache, N: Naming, R: Wait + Abort>(
     rt: &R,
     alloc: Global,
@@ -167,6 +175,7 @@ pub fn call_late<C: Cache, N: Naming, R: Wait + Abort>(
     call_all(rt, alloc, hall, seat, &set, &LATE)
 }
 
+/// Makes each call, and expects the second of its entry.
 fn call_all<C: Cache, N: Naming, R: Wait + Abort>(
     rt: &R,
     alloc: Global,
@@ -182,7 +191,7 @@ fn call_all<C: Cache, N: Naming, R: Wait + Abort>(
     Ok(())
 }
 
-/// The second at which a call is entered.
+/// Makes a call. Returns the second of its entry.
 fn entered_at<C: Cache, N: Naming, R: Wait + Abort>(
     rt: &R,
     alloc: Global,
@@ -195,15 +204,18 @@ fn entered_at<C: Cache, N: Naming, R: Wait + Abort>(
     Ok(second_of(&receipt))
 }
 
+/// Returns the second of a receipt's entry.
 fn second_of<N: Naming>(receipt: &Receipt<N>) -> u64 {
     receipt.slip.moment.seconds()
 }
 
+/// Guards against a slip in user numbers, which start at 1: no call may reach a neighbour's cache.
 #[test]
 fn a_call_on_no_user_is_refused(rt: HostRuntime) -> Result<(), Fail> {
     play(&rt, rt.alloc(), 1, 16, Scene::Within(Within::CallsNobody))
 }
 
+/// Calls on users 0 and 3, which do not exist, and expects both to be refused.
 pub fn call_nobody<C: Cache, N: Naming, R: Wait + Abort>(
     rt: &R,
     alloc: Global,
@@ -217,6 +229,7 @@ pub fn call_nobody<C: Cache, N: Naming, R: Wait + Abort>(
     Ok(())
 }
 
+/// Makes a call. Returns whether it is refused because the user does not exist.
 fn has_no_user<C: Cache, N: Naming, R: Wait>(
     rt: &R,
     alloc: Global,
@@ -230,12 +243,14 @@ fn has_no_user<C: Cache, N: Naming, R: Wait>(
     matches!(called, Err(CallFault::NoUser))
 }
 
+/// Guards audits: a hall must not close while a worker can still write to it.
 #[test]
 fn a_hall_that_lacks_a_seat_is_not_closed(rt: HostRuntime) -> Result<(), Fail> {
     play(&rt, rt.alloc(), 2, 16, Scene::Closing(Closing::ClosesTwice))
 }
 
-/// Stores by the first of two seats, and closes the hall without the last and then with it.
+/// Stores with the first of two seats. Closes the hall twice: without the last seat, which must
+/// fail, and with it.
 pub fn close_twice<C: Cache, N: Naming, R: Wait + Abort>(
     rt: &R,
     alloc: Global,
@@ -251,7 +266,7 @@ pub fn close_twice<C: Cache, N: Naming, R: Wait + Abort>(
     close_with(rt, missing, last, all)
 }
 
-/// What comes back of a hall that is closed with too few seats.
+/// Closes a hall with too few seats, and returns the hall and the seats that come back.
 fn refused<C: Cache, N: Naming, R: Abort>(
     rt: &R,
     hall: Hall<C, N>,
@@ -263,7 +278,7 @@ fn refused<C: Cache, N: Naming, R: Abort>(
     }
 }
 
-/// Closes a hall with the seat that was missing.
+/// Closes a hall with the missing seat, and expects the count of each seat.
 fn close_with<C: Cache, N: Naming, R: Abort>(
     rt: &R,
     missing: Missing<C, N>,

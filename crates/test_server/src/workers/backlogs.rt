@@ -1,4 +1,5 @@
-//! Many connections of one user that don't read. Texts are by hand from the protocol's text.
+//! Many connections of one user that do not take their replies. Texts are by hand from
+//! doc/protocol.txt.
 ghost use Rattle.std.specs.Prelude.{None};
 
 use super::deals::{ALICE, BOB};
@@ -22,41 +23,43 @@ use tc_workers::Worker;
 /// How many connections alice has. Bob has one more.
 const HERS: usize = 10;
 
-/// How often each asks for `a`, and then for `b`.
+/// How often each of them looks up `a` and `b`.
 const ROUNDS: usize = 50;
 
-/// The bytes of each item.
+/// The bytes of each item's data.
 const DATA: usize = 10_000;
 
+/// What a connection asks over and over.
 const ASKS: &[u8] = b"get a\r\nget b\r\n";
 
-/// What a login is answered.
+/// The reply to a login.
 const STORED: &[u8] = b"STORED\r\n";
 
-/// All that each of alice's connections is sent.
+/// How many bytes each of alice's connections is sent in all.
 const ALL: u64 = 8 + 100 * 10_024;
 
-/// How much may wait for alice, and with one reply more for each of her connections.
+/// How many bytes may wait for alice before her connections are full.
 const ALLOWED: u64 = 8_388_608;
 
+/// How many bytes may wait with one more reply on each of her connections.
 const BOUND: u64 = ALLOWED + 10 * 10_024;
 
-/// After so many turns nothing more is done for her.
+/// Enough turns until nothing more is done for her.
 const FILLING: u32 = 16;
 
-/// After so many more all is sent.
+/// Enough further turns until all is sent.
 const DRAINING: u32 = 16;
 
-/// What all see of one another.
+/// What the wires and the scene share.
 #[derive(Drop)]
 struct Sight {
-    /// Whether alice's wires take bytes.
+    /// 1 if alice's wires take bytes, otherwise 0.
     is_open: AtomicU64,
-    /// All that each of alice's connections is to be sent.
+    /// All bytes that each of alice's connections must be sent.
     expects: Vec<u8>,
-    /// How many writes were not the next expected bytes.
+    /// How many writes to alice were not the next expected bytes.
     odd: AtomicU64,
-    /// By connections: what was sent, and what waited after the last write.
+    /// By connection: the bytes that were sent, and those that waited after the last write.
     sent: Words,
     waits: Words,
 }
@@ -72,18 +75,18 @@ impl Sight {
         })
     }
 
-    /// How much waits for alice.
+    /// Returns how many bytes wait for alice.
     fn backlog(&self) -> u64 {
         self.waits.sum(HERS)
     }
 
-    /// How many of alice's connections were sent all.
+    /// Returns how many of alice's connections were sent everything.
     fn served(&self) -> usize {
         self.sent.count(HERS, ALL)
     }
 }
 
-/// All that a connection of alice's is sent.
+/// Returns all bytes that a connection of alice's must be sent.
 fn all_replies(alloc: Global) -> Result<Vec<u8>, Fail> {
     let mut all = Vec::from_slice(alloc, STORED)?;
     for _ in 0..ROUNDS {
@@ -93,7 +96,7 @@ fn all_replies(alloc: Global) -> Result<Vec<u8>, Fail> {
     Ok(all)
 }
 
-/// Adds a reply that shows the item of this letter.
+/// Appends a reply that shows the item of this letter.
 fn add_reply(alloc: Global, all: &mut Vec<u8>, head: &[u8], letter: u8) -> Result<(), Fail> {
     all.extend_from_slice(head)?;
     all.extend_from_slice(&Vec::from_elem(alloc, letter, DATA)?)?;
@@ -101,12 +104,12 @@ fn add_reply(alloc: Global, all: &mut Vec<u8>, head: &[u8], letter: u8) -> Resul
     Ok(())
 }
 
-/// A wire that logs in and then asks.
+/// A wire that logs in, and asks over and over after that.
 #[derive(Drop)]
 struct Asker {
     at: usize,
     login: &'static [u8],
-    /// How many bytes it gave, and how many it gives in all.
+    /// How many bytes it gave so far, and how many it gives in all.
     given: usize,
     most: usize,
     taken: usize,
@@ -114,7 +117,7 @@ struct Asker {
 }
 
 impl Asker {
-    /// The byte at a place of all that it gives.
+    /// Returns the byte at a place of all that the wire gives.
     fn byte(&self, at: usize) -> u8 {
         let asks = at.saturating_sub(self.login.len());
         match self.login.get(at) {
@@ -123,7 +126,7 @@ impl Asker {
         }
     }
 
-    /// Takes bytes. Alice's are to be the next ones.
+    /// Takes bytes. Those of alice's connections must be the next expected ones.
     fn hear(&mut self, from: &[u8]) {
         let end = self.taken.saturating_add(from.len());
         let is_next = match self.sight.expects.get(self.taken..end) {
@@ -137,7 +140,7 @@ impl Asker {
         self.sight.sent.store(self.at, self.taken);
     }
 
-    /// Whether it takes bytes.
+    /// Returns whether the wire takes bytes. Bob's always does.
     fn is_open(&self) -> bool {
         self.at >= HERS || self.sight.is_open.load(SeqCst) == 1
     }
@@ -182,13 +185,13 @@ impl Wire for Asker {
     fn note<R: Wait>(&mut self, _rt: &R, _remark: Remark) {}
 }
 
-/// A `set` of a large item, whose bytes are that of its key.
+/// Returns a `set` of a large item, all of whose bytes are its key's.
 fn large_set(alloc: Global, key: &[u8; 1]) -> Result<Command, Fail> {
     let data = Vec::from_elem(alloc, key[0], DATA)?;
     set_of(alloc, key, 0, &data)
 }
 
-/// Stores a large item of alice's.
+/// Stores a large item for alice.
 fn store_large<C: Cache, N: Naming, R: Wait + Abort>(
     rt: &R,
     alloc: Global,
@@ -212,7 +215,7 @@ fn store_both<C: Cache, N: Naming, R: Wait + Abort>(
     store_large(rt, alloc, hall, seat, b"b")
 }
 
-/// Adds a connection that logs in and then asks, so many bytes in all.
+/// Adds a connection that logs in and asks over and over, until it gave `most` bytes in all.
 fn join<N: Naming, R: Abort>(
     rt: &R,
     worker: &mut Worker<Asker, N>,
@@ -234,7 +237,8 @@ fn join<N: Naming, R: Abort>(
     Ok(())
 }
 
-/// So many turns, after each of which no more waits for alice than may, and bob was sent more.
+/// Takes turns. After each, expects that no more waits for alice than `BOUND`, and that bob was
+/// sent more.
 fn turn_often<C: Cache, N: Naming, R: Wait + Abort>(
     rt: &R,
     hall: &Hall<C, N>,
@@ -252,7 +256,8 @@ fn turn_often<C: Cache, N: Naming, R: Wait + Abort>(
     }
 }
 
-/// Alice's connections, which read only once much waits, and bob's.
+/// Serves alice's connections, which take nothing at first, and bob's. Expects a bounded backlog,
+/// and all of alice's replies once she takes them.
 pub fn hold<C: Cache, N: Naming, R: Wait + Abort>(
     rt: &R,
     alloc: Global,
@@ -276,6 +281,8 @@ pub fn hold<C: Cache, N: Naming, R: Wait + Abort>(
     Ok(())
 }
 
+/// Guards the server's memory, and bob, against a user who asks much and reads nothing. Her replies
+/// must still arrive whole.
 #[test]
 fn what_waits_is_bounded_by_user_and_sent_in_the_end(rt: HostRuntime) -> Result<(), Fail> {
     play_fast(&rt, rt.alloc(), 2, 16, Scene::Within(Within::HoldsBack))

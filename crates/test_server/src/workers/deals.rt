@@ -1,4 +1,4 @@
-//! Turns that are dealt out by user. Texts are by hand from the protocol's text.
+//! Turns that a worker deals out by user. Texts are by hand from doc/protocol.txt.
 ghost use Rattle.std.specs.Prelude.{None};
 
 use super::talks::worker_of;
@@ -16,36 +16,40 @@ use tc_plain::Cache;
 use tc_users::{UserNo, Users};
 use tc_workers::Worker;
 
+/// Logs alice in.
 pub(super) const ALICE: &[u8] = b"set a 0 0 9\r\nalice one\r\n";
 
+/// Logs bob in.
 pub(super) const BOB: &[u8] = b"set a 0 0 7\r\nbob one\r\n";
 
-/// Ten of these are a user's share of a turn.
+/// Fifteen flushes. Ten of them use up a user's share of a turn.
 const FLUSHES: &[u8] = b"flush_all\r\nflush_all\r\nflush_all\r\nflush_all\r\nflush_all\r\n\
     flush_all\r\nflush_all\r\nflush_all\r\nflush_all\r\nflush_all\r\n\
     flush_all\r\nflush_all\r\nflush_all\r\nflush_all\r\nflush_all\r\n";
 
+/// Looks up a key that holds nothing.
 pub(super) const GETS: &[u8] = b"get k\r\n";
 
-/// What is heard of a login, and of one and ten flushes.
+/// The bytes of the reply to a login.
 pub(super) const LOGGED_IN: u64 = 8;
 
+/// The bytes of the replies to a login and ten flushes.
 const FLUSHED: u64 = LOGGED_IN + 40;
 
-/// What is heard of a get of nothing.
+/// The bytes of the reply to a `get` that finds nothing.
 pub(super) const MISSED: u64 = 5;
 
 /// How many connections alice has.
 pub(super) const MANY: usize = 4;
 
-/// Who is served.
+/// Who is connected.
 #[derive(Clone, Copy, Debug, PartialEq, Eq)]
 pub enum Guests {
     Alice,
     AliceAndBob,
 }
 
-/// How many bytes each connection was sent; bob's is the last. And whether all wires fail.
+/// How many bytes each connection was sent, bob's last, and whether all wires fail.
 #[derive(Drop)]
 pub(super) struct Ledger {
     sent: Words,
@@ -60,7 +64,7 @@ impl Ledger {
         })
     }
 
-    /// From now on all wires fail.
+    /// Makes all wires fail from the next read on.
     fn end(&self) {
         self.over.store(1, SeqCst);
     }
@@ -69,17 +73,19 @@ impl Ledger {
         self.over.load(SeqCst) == 1
     }
 
+    /// Returns how many bytes a connection was sent.
     pub(super) fn sent(&self, at: usize) -> u64 {
         self.sent.load(at)
     }
 
-    /// How many of alice's connections were sent as much as a login and ten flushes are.
+    /// Returns how many of alice's connections were sent exactly the replies to a login and ten
+    /// flushes.
     fn flushed(&self) -> usize {
         self.sent.count(MANY, FLUSHED)
     }
 }
 
-/// A wire that logs in, and then asks the same at each read.
+/// A wire that logs in, and asks the same at each later read.
 #[derive(Drop)]
 pub(super) struct Asking {
     at: usize,
@@ -119,7 +125,7 @@ impl Wire for Asking {
     fn note<R: Wait>(&mut self, _rt: &R, _remark: Remark) {}
 }
 
-/// Adds a connection that logs in and then asks.
+/// Adds a connection that logs in, and asks the same at each later read.
 pub(super) fn join<N: Naming, R: Abort>(
     rt: &R,
     worker: &mut Worker<Asking, N>,
@@ -139,7 +145,7 @@ pub(super) fn join<N: Naming, R: Abort>(
     Ok(())
 }
 
-/// Alice's connections, and bob's where he comes too.
+/// Adds alice's connections, and bob's if he is a guest.
 fn join_all<N: Naming, R: Abort>(
     rt: &R,
     worker: &mut Worker<Asking, N>,
@@ -155,7 +161,7 @@ fn join_all<N: Naming, R: Abort>(
     }
 }
 
-/// A turn in which all log in.
+/// Takes a turn, in which all log in.
 fn log_in<C: Cache, N: Naming, R: Wait + Abort>(
     rt: &R,
     hall: &Hall<C, N>,
@@ -169,7 +175,8 @@ fn log_in<C: Cache, N: Naming, R: Wait + Abort>(
     }
 }
 
-/// A turn after which so many of alice's connections flushed, and bob was sent so much.
+/// Takes a turn. Expects that this many of alice's connections have flushed, and the bytes that bob
+/// was sent.
 fn turn<C: Cache, N: Naming, R: Wait + Abort>(
     rt: &R,
     hall: &Hall<C, N>,
@@ -184,8 +191,8 @@ fn turn<C: Cache, N: Naming, R: Wait + Abort>(
     assert!(rt; ledger.flushed() == flushed && ledger.sent(MANY) == bob);
 }
 
-/// Turns in which all wires fail, also those of connections that were left out of the turn before: none
-/// of them is kept or listed.
+/// Takes turns in which all wires fail, those of connections that the last turn left out among
+/// them. Expects that none is kept or listed.
 fn fail_all<C: Cache, N: Naming, R: Wait + Abort>(
     rt: &R,
     hall: &Hall<C, N>,
@@ -201,8 +208,9 @@ fn fail_all<C: Cache, N: Naming, R: Wait + Abort>(
     assert!(rt; worker.is_idle() && patience == Patience::Long);
 }
 
-/// Alone, all of alice's connections are served in a turn. Beside bob, whom each turn serves, one is,
-/// and each comes once before another comes twice. In the end all wires fail.
+/// Serves alice's connections, alone or with bob's. Alone, all of hers are served in one turn. With
+/// bob, whom each turn serves, one of hers is served a turn, each once before any is served twice.
+/// At the end all wires fail.
 pub fn deal<C: Cache, N: Naming, R: Wait + Abort>(
     rt: &R,
     alloc: Global,
@@ -227,6 +235,7 @@ pub fn deal<C: Cache, N: Naming, R: Wait + Abort>(
     Ok(())
 }
 
+/// Guards throughput: a user who shares a worker with nobody must not be held to one share.
 #[test]
 fn a_user_alone_is_served_whole(rt: HostRuntime) -> Result<(), Fail> {
     play(
@@ -238,6 +247,7 @@ fn a_user_alone_is_served_whole(rt: HostRuntime) -> Result<(), Fail> {
     )
 }
 
+/// Guards bob's latency: alice must not gain a larger part of a worker by opening more connections.
 #[test]
 fn many_connections_of_one_user_take_no_turn_from_another(rt: HostRuntime) -> Result<(), Fail> {
     play(

@@ -1,4 +1,4 @@
-//! Many items of one user that are due in one second. Texts are by hand from the protocol's text.
+//! Many items of one user that are due in one second. Texts are by hand from doc/protocol.txt.
 
 use super::deals::{ALICE, Asking, BOB, GETS, LOGGED_IN, Ledger, MANY, MISSED, join};
 use super::talks::worker_of;
@@ -15,31 +15,32 @@ use tc_plain::Cache;
 use tc_users::Users;
 use tc_workers::Worker;
 
-/// How many items are due: more than are taken out in two turns, and fewer than in three.
+/// How many items are due: more than two turns take out, and fewer than three do.
 const ITEMS: u64 = 5_000;
 
-/// When they are stored, and when they are due.
+/// The second at which they are stored.
 const STORED: u64 = 10;
 
+/// The second at which they are due.
 const DUE: u64 = 30;
 
-/// What is heard of a get of one byte.
+/// The bytes of the reply to a `get` that finds one byte.
 const HIT: u64 = 21;
 
 /// How many connections alice has.
 const HERS: usize = 2;
 
-/// One of 26 letters.
+/// Returns one of 26 letters.
 fn letter(n: u64) -> u8 {
     b'a' + (n % 26) as u8
 }
 
-/// The key of an item: its number in letters.
+/// Returns the key of an item: its number in letters.
 fn key_of(n: u64) -> [u8; 3] {
     [letter(n / 676), letter(n / 26), letter(n)]
 }
 
-/// Stores alice's items, and one byte under `k`.
+/// Stores alice's items, and one byte under `k`, all due at `DUE`.
 fn store_all<C: Cache, N: Naming, R: Wait + Abort>(
     rt: &R,
     alloc: Global,
@@ -56,15 +57,16 @@ fn store_all<C: Cache, N: Naming, R: Wait + Abort>(
     Ok(())
 }
 
-/// A turn at a second, after which each of alice's connections and bob's was sent so much.
+/// The second of a turn, and how many bytes each of alice's connections, and bob's, was sent after
+/// it.
 struct Step {
     second: u64,
     alice: u64,
     bob: u64,
 }
 
-/// All ask for `k` in each turn. When all of her items are due they are taken out in three turns, of which
-/// she is served in the last and bob in each.
+/// All look up `k` in each turn. Once alice's items are due, three turns take them out. She is
+/// served in the last of these, and bob in each.
 const STEPS: [Step; 6] = [
     Step {
         second: STORED,
@@ -98,7 +100,7 @@ const STEPS: [Step; 6] = [
     },
 ];
 
-/// Makes the turn of a step, and looks at what was sent.
+/// Takes the turn of a step, and expects what was sent.
 fn make<C: Cache, N: Naming, R: Wait + Abort>(
     rt: &R,
     hall: &Hall<C, N>,
@@ -131,7 +133,7 @@ fn join_both<N: Naming, R: Abort>(
     join(rt, worker, ledger, MANY, BOB, GETS)
 }
 
-/// Alice's two connections and bob's, before her items are due and after.
+/// Serves alice's two connections and bob's, before her items are due and after.
 pub fn fall_due<C: Cache, N: Naming, R: Wait + Abort>(
     rt: &R,
     alloc: Global,
@@ -150,6 +152,7 @@ pub fn fall_due<C: Cache, N: Naming, R: Wait + Abort>(
     Ok(())
 }
 
+/// Guards bob's latency: the expiry of alice's items must cost her turns, not his.
 #[test]
 fn many_items_due_at_once_hold_their_user_alone(rt: HostRuntime) -> Result<(), Fail> {
     play_fast(&rt, rt.alloc(), 2, 1_024, Scene::Within(Within::FallsDue))

@@ -1,5 +1,5 @@
-//! When a worker with no time left gets a helper, and when that goes again: by hand, for three workers
-//! of which the first serves all that is asked.
+//! When a worker that has no time left gets a helper, and when the helper goes. By hand, for three
+//! workers, the first of which serves all users.
 use std::alloc::Global;
 use std::process::Abort;
 use std::sync::Arc;
@@ -8,26 +8,28 @@ use tc_fairness::{Balance, Did, Shares, Traffic};
 use tc_links::Homes;
 use tc_users::UserNo;
 
-/// How busy the three workers are: the first has no time left, and the others have some.
+/// How busy the three workers are, in thousandths of their time: the first has no time left, and
+/// the others have some.
 const FIRST: [u64; 3] = [1_000, 200, 100];
 
 /// The first and the third have no time left.
 const BOTH: [u64; 3] = [1_000, 200, 1_000];
 
-/// None has time left.
+/// None of them has time left.
 const ALL: [u64; 3] = [1_000, 1_000, 1_000];
 
-/// Where connections 1 and 2 of the first user are served, but by the first worker.
+/// The workers that serve connections 1 and 2 of user 1, counted from 0; `None` is the first
+/// worker.
 type Places = [Option<usize>; 2];
 
-/// What looks come to.
+/// What the policy should have decided after some looks.
 #[derive(Clone, Copy)]
 enum Asked {
-    /// That is not asked.
+    /// Not compared.
     No,
-    /// The first worker serves both.
+    /// The first worker serves both connections.
     Alone,
-    /// The third worker serves the first.
+    /// The third worker serves connection 1.
     Helped,
 }
 
@@ -41,11 +43,11 @@ impl Asked {
     }
 }
 
-/// So many looks at workers so busy, at each of which the first sent so many bytes to its own users and the third
-/// so many to its own; and what the last of them comes to.
+/// The number of looks and how busy the workers are in each. The bytes that the first and the third
+/// worker sent to their own users for each look. The expected decision after the last look.
 type Looks = (u32, [u64; 3], u64, u64, Asked);
 
-/// Looks one after the other, and why they come to that.
+/// Why the policy decides so, and the looks in order.
 static TRIALS: [(&str, &[Looks]); 7] = [
     (
         "once the load was the same for five looks, who has most time takes every second connection",
@@ -115,7 +117,7 @@ static TRIALS: [(&str, &[Looks]); 7] = [
     ),
 ];
 
-/// The policy, what it looks at, and where the first worker's connections are served.
+/// The policy, the figures that it looks at, and the places of the first worker's connections.
 #[derive(Drop)]
 struct Dealt {
     balance: Balance,
@@ -123,7 +125,7 @@ struct Dealt {
     homes: Homes,
 }
 
-/// Three workers, each of which serves its users alone.
+/// Returns the policy for three workers, each of which serves its users alone.
 fn deal(alloc: Global) -> Result<Dealt, Fail> {
     let shares = Arc::new(alloc, Shares::new(alloc, 3)?)?;
     let homes = Homes::by_user(0, 3, Some(Arc::try_clone(&shares)?));
@@ -135,11 +137,12 @@ fn deal(alloc: Global) -> Result<Dealt, Fail> {
 }
 
 impl Dealt {
-    /// A worker sent so many bytes to the users of a home, in so many calls.
+    /// Sets how many calls a worker made, and how many bytes it sent, for the users of a home.
     fn send(&mut self, worker: usize, home: usize, calls: u64, bytes: u64) {
         self.did.set_traffic(worker, home, Traffic { calls, bytes });
     }
 
+    /// Makes the looks of one row.
     fn look(&mut self, looks: &Looks) {
         let (times, busy, bytes, own, _) = *looks;
         for (worker, busy) in busy.into_iter().enumerate() {
@@ -159,7 +162,7 @@ impl Dealt {
     }
 }
 
-/// Whether looks come to what they should.
+/// Makes a trial's looks, and expects the decision of each row.
 fn expect_trial(rt: &(impl AllocGlobal + Abort), why: &str, trial: &[Looks]) -> Result<(), Fail> {
     let mut dealt = deal(rt.alloc())?;
     for looks in trial {
@@ -171,6 +174,8 @@ fn expect_trial(rt: &(impl AllocGlobal + Abort), why: &str, trial: &[Looks]) -> 
     Ok(())
 }
 
+/// Guards throughput: a busy user must get a second worker if that pays, and give it back if it
+/// does not.
 #[test]
 fn a_helper_comes_and_goes_by_what_is_sent(rt: HostRuntime) -> Result<(), Fail> {
     for (why, trial) in &TRIALS {

@@ -1,13 +1,13 @@
-//! Streams and what they are answered, and wires that fail or take nothing.
+//! Streams and their replies, and wires that fail or take nothing.
 use super::wires::{Cut, Ending, Plan};
 
-/// Logs alice in, and asks what her key holds.
+/// Logs alice in, and looks up `k`.
 const ASKING: &[u8] = b"set a 0 0 9\r\nalice one\r\ngets k\r\n";
 
-/// It holds nothing.
+/// The replies if `k` holds nothing.
 const NOTHING: &[u8] = b"STORED\r\nEND\r\n";
 
-/// Asks for the key, and ends.
+/// Looks up `k`, and ends.
 pub const ASKS: Plan = Plan {
     sends: ASKING,
     cut: Cut::At(0),
@@ -15,33 +15,35 @@ pub const ASKS: Plan = Plan {
     expects: NOTHING,
 };
 
-/// Logs alice in, stores three bytes under a key, asks for their number, and stores others by it.
+/// Logs alice in, stores three bytes under `k`, gets their cas number, and stores others by it.
 const STORES_BY_NUMBER: &[u8] =
     b"set a 0 0 9\r\nalice one\r\nset k 5 0 3\r\nabc\r\ngets k\r\ncas k 5 0 3 1\r\nxyz\r\n";
 
-/// Logs her in again. It is as far as the first stream after each byte: both ask after 50, and both
-/// store by the number after 70; then it asks once more.
+/// Logs alice in on a second connection, which keeps pace with the first byte by byte. In both,
+/// `gets` ends at byte 50 and `cas` at byte 70. The second looks `k` up once more.
 const CONTENDS: &[u8] = b"set a 0 0 9\r\nalice one\r\ndelete q noreply\r\n\
     gets k\r\ncas k 5 0 3 1\r\nuvw\r\ngets k\r\n";
 
+/// The replies to the first stream's login and `set`.
 const TWICE_STORED: &[u8] = b"STORED\r\nSTORED\r\n";
 
+/// The replies to the first stream up to its `gets`.
 const SHOWN: &[u8] = b"STORED\r\nSTORED\r\nVALUE k 5 3 1\r\nabc\r\nEND\r\n";
 
-/// All that answers the first stream.
+/// All replies to the first stream.
 const ALL: &[u8] = b"STORED\r\nSTORED\r\nVALUE k 5 3 1\r\nabc\r\nEND\r\nSTORED\r\n";
 
-/// The first stream comes too late.
+/// The replies to the first stream if its `cas` is too late.
 const LATE: &[u8] = b"STORED\r\nSTORED\r\nVALUE k 5 3 1\r\nabc\r\nEND\r\nEXISTS\r\n";
 
-/// The other stream finds nothing,
+/// The replies to the second stream if it finds nothing.
 const MISSES: &[u8] = b"STORED\r\nEND\r\nNOT_FOUND\r\nEND\r\n";
 
-/// or has its bytes stored,
+/// The replies to the second stream if its `cas` comes first.
 const WINS: &[u8] = b"STORED\r\nVALUE k 5 3 1\r\nabc\r\nEND\r\n\
     STORED\r\nVALUE k 5 3 2\r\nuvw\r\nEND\r\n";
 
-/// or comes after the first.
+/// The replies to the second stream if its `cas` comes after the first stream's.
 const LOSES: &[u8] = b"STORED\r\nVALUE k 5 3 1\r\nabc\r\nEND\r\n\
     EXISTS\r\nVALUE k 5 3 2\r\nxyz\r\nEND\r\n";
 
@@ -49,23 +51,25 @@ const LOSES: &[u8] = b"STORED\r\nVALUE k 5 3 1\r\nabc\r\nEND\r\n\
 enum Deed {
     FailsToRead,
     FailsToWrite,
-    /// It takes 0 bytes, twice.
+    /// It takes 0 bytes, two times.
     TakesNothing,
 }
 
-/// The two streams in the same turns, a byte a turn, where the first one's wire has a mishap.
+/// Two streams in the same turns, a byte a turn, with a mishap on the first one's wire.
 pub struct Mishap {
     deed: Deed,
-    /// The first and the last read or write at which it comes, each on a hall of its own.
+    /// The first and the last read or write at which the mishap is tried, each in a hall of its
+    /// own.
     pub from: u64,
     pub to: u64,
-    /// What the first stream hears.
+    /// What the first stream is sent.
     expects: &'static [u8],
-    /// What the other hears.
+    /// What the second stream is sent.
     other: &'static [u8],
 }
 
-/// The login is whole with 24 bytes, the `set` with 42, the `gets` with 50, the `cas` with 70.
+/// Failed reads. The login is whole at byte 24, the `set` at 42, the `gets` at 50 and the `cas` at
+/// 70.
 pub const READS: &[Mishap] = &[
     Mishap {
         deed: Deed::FailsToRead,
@@ -104,7 +108,7 @@ pub const READS: &[Mishap] = &[
     },
 ];
 
-/// Each reply is one write.
+/// Failed writes. Each reply is one write.
 pub const WRITES: &[Mishap] = &[
     Mishap {
         deed: Deed::FailsToWrite,
@@ -136,7 +140,8 @@ pub const WRITES: &[Mishap] = &[
     },
 ];
 
-/// The reply is taken two turns later, and so all that follows it is read two turns later.
+/// Writes that take nothing. The wire takes the reply two turns later, so it reads all that follows
+/// two turns later.
 pub const EMPTY_WRITES: &[Mishap] = &[
     Mishap {
         deed: Deed::TakesNothing,
@@ -155,7 +160,7 @@ pub const EMPTY_WRITES: &[Mishap] = &[
 ];
 
 impl Mishap {
-    /// The first stream, with the mishap at the read or write of this number.
+    /// Returns the first stream's plan, with the mishap at the read or write of this number.
     pub fn storing(&self, n: u64) -> Plan {
         let ending = match self.deed {
             Deed::FailsToRead => Ending::FailsAtRead(n),
@@ -170,7 +175,7 @@ impl Mishap {
         }
     }
 
-    /// The other stream.
+    /// Returns the second stream's plan.
     pub fn contending(&self) -> Plan {
         Plan {
             sends: CONTENDS,
@@ -181,7 +186,7 @@ impl Mishap {
     }
 }
 
-/// Asks for the key, and then has nothing to say.
+/// Looks up `k`, and stays with nothing more to say.
 pub const RESTS: Plan = Plan {
     sends: ASKING,
     cut: Cut::At(0),
@@ -189,7 +194,7 @@ pub const RESTS: Plan = Plan {
     expects: NOTHING,
 };
 
-/// Stores one byte.
+/// Stores one byte under `k`.
 pub const STORES: Plan = Plan {
     sends: b"set a 0 0 9\r\nalice one\r\nset k 0 0 1\r\na\r\n",
     cut: Cut::At(0),
@@ -197,7 +202,7 @@ pub const STORES: Plan = Plan {
     expects: b"STORED\r\nSTORED\r\n",
 };
 
-/// Appends one to it, and asks for both.
+/// Appends one byte to `k`, and looks up both.
 pub const APPENDS: Plan = Plan {
     sends: b"set a 0 0 9\r\nalice one\r\nappend k 0 0 1\r\nb\r\nget k\r\n",
     cut: Cut::At(0),
@@ -205,7 +210,7 @@ pub const APPENDS: Plan = Plan {
     expects: b"STORED\r\nSTORED\r\nVALUE k 0 2\r\nab\r\nEND\r\n",
 };
 
-/// Says nothing, for ever.
+/// Stays, and never says anything.
 pub const SILENT: Plan = Plan {
     sends: b"",
     cut: Cut::At(0),
@@ -213,7 +218,7 @@ pub const SILENT: Plan = Plan {
     expects: b"",
 };
 
-/// Alice's connection, whose first command is held.
+/// Alice's connection, whose first call a gate holds.
 pub const HELD: Plan = Plan {
     sends: b"set a 0 0 9\r\nalice one\r\nset k 0 0 1\r\na\r\nget k\r\n",
     cut: Cut::At(0),
@@ -221,7 +226,7 @@ pub const HELD: Plan = Plan {
     expects: b"STORED\r\nSTORED\r\nVALUE k 0 1\r\na\r\nEND\r\n",
 };
 
-/// Bob's, which passes her.
+/// Bob's connection, which must be served meanwhile.
 pub const PASSES: Plan = Plan {
     sends: b"set a 0 0 7\r\nbob one\r\nset k 0 0 1\r\nb\r\n",
     cut: Cut::At(0),
@@ -229,7 +234,7 @@ pub const PASSES: Plan = Plan {
     expects: b"STORED\r\nSTORED\r\n",
 };
 
-/// A login and a hundred commands that say nothing.
+/// A login and a hundred quiet commands.
 pub const COUNTED: Plan = Plan {
     sends: b"set a 0 0 9\r\nalice one\r\n\
         delete k noreply\r\ndelete k noreply\r\ndelete k noreply\r\ndelete k noreply\r\n\

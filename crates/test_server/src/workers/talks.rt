@@ -17,10 +17,10 @@ use tc_plain::Cache;
 use tc_users::Users;
 use tc_workers::Worker;
 
-/// So many turns are enough for each stream of the tables, a byte at a time.
+/// Enough turns for each stream of the tables, at a byte a turn.
 const TURNS: u64 = 256;
 
-/// A worker with the last seat.
+/// Returns a worker with the last seat.
 pub fn worker_of<W: Wire + Drop, N: Naming, R: Abort>(
     rt: &R,
     alloc: Global,
@@ -35,7 +35,7 @@ pub fn worker_of<W: Wire + Drop, N: Naming, R: Abort>(
     }
 }
 
-/// All turns of a worker.
+/// Takes all turns of a worker.
 fn take_turns<C: Cache, N: Naming, R: Wait>(
     rt: &R,
     hall: &Hall<C, N>,
@@ -48,7 +48,7 @@ fn take_turns<C: Cache, N: Naming, R: Wait>(
     }
 }
 
-/// A connection over a wire, for so many turns.
+/// Adds connection 1 over a wire, and takes all turns.
 fn serve<C: Cache, N: Naming, R: Wait + Abort>(
     rt: &R,
     hall: &Hall<C, N>,
@@ -60,8 +60,8 @@ fn serve<C: Cache, N: Naming, R: Wait + Abort>(
     take_turns(rt, hall, users, worker);
 }
 
-/// Whether a wire heard all that it was to be sent, and no more, and its connection was dropped if it
-/// was to be.
+/// Expects a wire to have been sent exactly its plan's bytes. Its connection must be dropped,
+/// unless it stays; one that stays must have been read each turn.
 fn expect_heard(rt: &impl Abort, seen: &Seen, plan: &Plan, idle: bool) {
     assert!(rt; seen.has_heard(plan));
     match plan.ending {
@@ -70,7 +70,7 @@ fn expect_heard(rt: &impl Abort, seen: &Seen, plan: &Plan, idle: bool) {
     }
 }
 
-/// One connection, from its first byte on.
+/// Serves one connection from its first byte on, and expects its replies.
 fn talk_once<C: Cache, N: Naming, R: Wait + Abort>(
     rt: &R,
     alloc: Global,
@@ -86,7 +86,8 @@ fn talk_once<C: Cache, N: Naming, R: Wait + Abort>(
     Ok(())
 }
 
-/// Two connections: what each is sent, and whether it is dropped.
+/// Serves two connections, one after the other, and expects what each is sent and whether it is
+/// dropped.
 pub fn talk<C: Cache, N: Naming, R: Wait + Abort>(
     rt: &R,
     alloc: Global,
@@ -101,8 +102,8 @@ pub fn talk<C: Cache, N: Naming, R: Wait + Abort>(
     talk_once(rt, alloc, hall, users, &mut worker, other)
 }
 
-/// A connection's first two turns: it logs in, and what it sent with that waits; then it is answered, it
-/// is looked at once more, and its worker may wait.
+/// Takes a connection's first two turns. In the first it logs in, and its look-up waits. In the
+/// second the worker answers, reads once more and may wait.
 fn rest_once<C: Cache, N: Naming, R: Wait + Abort>(
     rt: &R,
     alloc: Global,
@@ -121,7 +122,7 @@ fn rest_once<C: Cache, N: Naming, R: Wait + Abort>(
     Ok(())
 }
 
-/// One connection whose wire is watched.
+/// Serves one connection whose wire an inlet watches, for two turns.
 pub fn rest<C: Cache, N: Naming, R: Wait + Abort>(
     rt: &R,
     alloc: Global,
@@ -133,7 +134,7 @@ pub fn rest<C: Cache, N: Naming, R: Wait + Abort>(
     rest_once(rt, alloc, hall, users, &mut worker)
 }
 
-/// A connection of this number, over a wire of this plan.
+/// Adds a connection of this number, over a wire that follows this plan.
 fn join<N: Naming, R: Abort>(
     rt: &R,
     worker: &mut Worker<Memory, N>,
@@ -146,8 +147,8 @@ fn join<N: Naming, R: Abort>(
     Ok(())
 }
 
-/// Two connections in the same turns, of which the second comes to the worker first: what each is
-/// sent, and that both are dropped.
+/// Serves two connections in the same turns; the worker gets the second one first. Expects what
+/// each is sent, and that both are dropped.
 pub fn talk_beside<C: Cache, N: Naming, R: Wait + Abort>(
     rt: &R,
     alloc: Global,
@@ -167,7 +168,7 @@ pub fn talk_beside<C: Cache, N: Naming, R: Wait + Abort>(
     Ok(())
 }
 
-/// Two streams in the same turns, where the first one's wire has its mishap at each call of a row.
+/// Plays a row of mishaps: two streams in the same turns, once for each read or write of the row.
 fn expect_beside<R: Threads + Wait + Abort + Time + RandomSource + Copy + Send + Sync + Drop>(
     rt: &R,
     alloc: Global,
@@ -180,7 +181,7 @@ fn expect_beside<R: Threads + Wait + Abort + Time + RandomSource + Copy + Send +
     Ok(())
 }
 
-/// All rows of a table of mishaps.
+/// Plays all rows of a table of mishaps.
 fn expect_all<R: Threads + Wait + Abort + Time + RandomSource + Copy + Send + Sync + Drop>(
     rt: &R,
     alloc: Global,
@@ -192,8 +193,8 @@ fn expect_all<R: Threads + Wait + Abort + Time + RandomSource + Copy + Send + Sy
     Ok(())
 }
 
-/// What was done before a wire failed stays done, though its reply is lost; and what a wire did not take is sent in a
-/// later turn.
+/// Guards stored data when a connection breaks: what was done before a wire failed stays done,
+/// though its reply is lost. What a wire did not take must be sent in a later turn.
 #[test]
 fn what_was_done_stays_done_whatever_comes_of_its_wire(rt: HostRuntime) -> Result<(), Fail> {
     expect_all(&rt, rt.alloc(), READS)?;
@@ -201,6 +202,7 @@ fn what_was_done_stays_done_whatever_comes_of_its_wire(rt: HostRuntime) -> Resul
     expect_all(&rt, rt.alloc(), EMPTY_WRITES)
 }
 
+/// Guards idle clients: a silent connection must be kept, and read if no inlet reports it.
 #[test]
 fn a_wire_that_has_nothing_yet_is_kept_and_asked_each_turn(rt: HostRuntime) -> Result<(), Fail> {
     play(
@@ -212,11 +214,14 @@ fn a_wire_that_has_nothing_yet_is_kept_and_asked_each_turn(rt: HostRuntime) -> R
     )
 }
 
+/// Guards the processor: a worker with idle connections must wait, not spin.
 #[test]
 fn a_watched_wire_rests_in_the_turn_that_answers_it(rt: HostRuntime) -> Result<(), Fail> {
     play(&rt, rt.alloc(), 1, 16, Scene::Within(Within::Rests))
 }
 
+/// Guards a fixed order within a turn: the worker serves connections by number, not by when it got
+/// them.
 #[test]
 fn a_turn_goes_by_the_numbers_of_connections(rt: HostRuntime) -> Result<(), Fail> {
     play(

@@ -1,5 +1,5 @@
-//! A wire over two lists of bytes, which knows what it gave and took. Texts are by hand from the
-//! protocol's text.
+//! A wire over two lists of bytes, which knows what it gave and took. Texts are by hand from
+//! doc/protocol.txt.
 ghost use Rattle.std.specs.Prelude.{◌≤◌, Some, take, vec_len};
 
 use super::talks::worker_of;
@@ -16,20 +16,23 @@ use tc_plain::Cache;
 use tc_users::{UserNo, Users};
 use tc_workers::Worker;
 
-/// So many turns are enough.
+/// Enough turns for the whole connection.
 const TURNS: u32 = 4;
 
+/// What the client sends.
 const ASKS: &[u8] = b"set a 0 0 9\r\nalice one\r\nset k 0 0 2\r\nhi\r\nget k\r\n";
 
+/// What the client must be sent.
 const HEARS: &[u8] = b"STORED\r\nSTORED\r\nVALUE k 0 2\r\nhi\r\nEND\r\n";
 
-/// The bytes that it gives, and how many it gave; the bytes that it took.
+/// The bytes that the client sends, how many of them were read, and the bytes that the client was
+/// sent.
 #[derive(Drop)]
 struct Tape {
     sends: Vec<u8>,
     at: usize,
     heard: Vec<u8>,
-    /// Whether the bytes heard are those that are to be, as seen from outside.
+    /// 1 once the client was sent exactly the expected bytes, 0 before. The scene reads it.
     whole: Arc<AtomicU64, Global>,
     ghost within: { at ≤ vec_len sends },
 }
@@ -70,7 +73,7 @@ impl Wire for Tape {
     fn note<R: Wait>(&mut self, _rt: &R, _remark: Remark) {}
 }
 
-/// One connection, from its first byte to its last.
+/// Serves one connection from its first byte to its last, and expects its replies.
 pub fn serve_tape<C: Cache, N: Naming, R: Wait + Abort>(
     rt: &R,
     alloc: Global,
@@ -95,6 +98,7 @@ pub fn serve_tape<C: Cache, N: Naming, R: Wait + Abort>(
     Ok(())
 }
 
+/// Guards the contract of wires: a wire that proves which bytes it gave and took must be usable.
 #[test]
 fn a_wire_that_knows_its_bytes_is_served(rt: HostRuntime) -> Result<(), Fail> {
     play(&rt, rt.alloc(), 1, 16, Scene::Within(Within::Tapes))

@@ -1,4 +1,4 @@
-//! A wire in memory, which knows what it is to be sent.
+//! A wire in memory, which compares what it is sent with what it expects.
 ghost use Rattle.std.specs.Prelude.{None, ◌≡◌, ◌<◌, ◌≤◌, length};
 
 use std::alloc::Global;
@@ -8,32 +8,35 @@ use std::sync::{Arc, Wait};
 use tc_links::{Got, Parts, Put, Remark, Wire};
 use tc_users::UserNo;
 
-/// How the bytes of a wire come.
+/// How the bytes of a wire arrive.
 #[derive(Clone, Copy, Debug, PartialEq, Eq)]
 pub enum Cut {
-    /// In two pieces, cut at this byte.
+    /// In two pieces, cut at this byte; all at once if it is 0.
     At(usize),
     /// A byte at a time.
     Bytes,
 }
 
-/// What a wire answers once all its bytes are read, or before.
+/// What a wire answers once all its bytes are read, or earlier.
 #[derive(Clone, Copy, Debug, PartialEq, Eq)]
 pub enum Ending {
+    /// Its reads report the end.
     Ends,
-    /// It answers that nothing is there, for ever.
+    /// Its reads report nothing yet, for ever. No inlet watches it, so its worker reads it each
+    /// turn.
     Stays,
-    /// The same, and an inlet would name it once more were there.
+    /// Its reads report nothing yet, for ever. An inlet watches it, so its worker lets it rest.
     Rests,
-    /// Its read of this number fails, from 1.
+    /// Its read of this number, counted from 1, fails.
     FailsAtRead(u64),
+    /// Its write of this number, counted from 1, fails.
     FailsAtWrite(u64),
-    /// Its writes of this number and the next take 0 bytes, and meanwhile it has nothing to read. An
-    /// inlet would name it, and it ends once all is read.
+    /// Its writes of this number and the next take 0 bytes, and meanwhile it has nothing to read.
+    /// An inlet watches it, and it ends once all is read.
     TakesNothingAt(u64),
 }
 
-/// What a wire gives, and what it is to be sent.
+/// What a wire gives, and what it expects to be sent.
 #[derive(Clone, Copy, Debug)]
 pub struct Plan {
     pub sends: &'static [u8],
@@ -42,10 +45,10 @@ pub struct Plan {
     pub expects: &'static [u8],
 }
 
-/// What is seen of a wire from outside.
+/// What a scene sees of a wire.
 #[derive(Drop)]
 pub struct Seen {
-    /// How many of the expected bytes it was sent.
+    /// How many of the expected bytes it was sent, in order.
     pub told: AtomicU64,
     /// How many writes were not the next expected bytes.
     pub odd: AtomicU64,
@@ -61,12 +64,13 @@ impl Seen {
         }
     }
 
-    /// Whether a wire was sent all that it was to be, and nothing else.
+    /// Returns whether the wire was sent all expected bytes and nothing else.
     pub fn has_heard(&self, plan: &Plan) -> bool {
         self.odd.load(SeqCst) == 0 && self.told.load(SeqCst) == plan.expects.len() as u64
     }
 }
 
+/// A wire in memory that follows a plan.
 #[derive(Drop)]
 pub struct Memory {
     plan: Plan,
@@ -74,7 +78,7 @@ pub struct Memory {
     told: usize,
     reads: u64,
     writes: u64,
-    /// Whether its last write took nothing.
+    /// Whether its last write took 0 bytes.
     waits: bool,
     seen: Arc<Seen, Global>,
 }
@@ -92,7 +96,7 @@ impl Memory {
         }
     }
 
-    /// How many bytes the next read gives at most.
+    /// Returns how many bytes the next read gives at most.
     fn next_piece(&self) -> usize {
         let left = self.plan.sends.len().saturating_sub(self.at);
         match self.plan.cut {
@@ -102,6 +106,7 @@ impl Memory {
         }
     }
 
+    /// Returns the byte that the wire gives at a place.
     fn byte(&self, at: usize) -> u8 {
         match self.plan.sends.get(at) {
             Some(byte) => *byte,
@@ -109,7 +114,7 @@ impl Memory {
         }
     }
 
-    /// Gives the next piece, as much as there is room for; 0 where all is read.
+    /// Gives the next piece, as far as there is room. Returns its length, 0 if all is read.
     fn give(&mut self, into: &mut [u8]) -> usize
         ensures { result ≤ length into.old }
     {
@@ -121,7 +126,7 @@ impl Memory {
         n
     }
 
-    /// Whether the write of this number takes nothing.
+    /// Returns whether the current write takes 0 bytes.
     fn takes_nothing(&self) -> bool {
         match self.plan.ending {
             Ending::TakesNothingAt(n) => matches!(self.writes.checked_sub(n), Some(0 | 1)),
@@ -129,7 +134,8 @@ impl Memory {
         }
     }
 
-    /// Takes bytes, and counts those that are the next expected.
+    /// Takes bytes. Counts them as heard if they are the next expected ones, otherwise as one odd
+    /// write.
     fn hear(&mut self, from: &[u8]) {
         let end = self.told.saturating_add(from.len());
         match self.plan.expects.get(self.told..end) {

@@ -1,15 +1,15 @@
-//! Words in which wires say what came of them, and which scenes read.
+//! Counters through which wires report, and which scenes read.
 use std::alloc::Global;
 use std::sync::atomic::AtomicU64;
 use std::sync::atomic::Ordering::SeqCst;
 use std::test::*;
 
-/// Words, by number.
+/// Atomic words, by number from 0.
 #[derive(Drop)]
 pub(super) struct Words(Vec<AtomicU64>);
 
 impl Words {
-    /// So many, each of them 0.
+    /// Returns this many words, each of them 0.
     pub(super) fn new(alloc: Global, count: usize) -> Result<Words, Fail> {
         let mut words = Vec::with_capacity(alloc, count)?;
         for _ in 0..count {
@@ -18,7 +18,7 @@ impl Words {
         Ok(Words(words))
     }
 
-    /// A word, 0 where there is none.
+    /// Returns a word, or 0 if there is none.
     pub(super) fn load(&self, at: usize) -> u64 {
         match self.0.get(at) {
             Some(word) => word.load(SeqCst),
@@ -26,21 +26,21 @@ impl Words {
         }
     }
 
-    /// Makes a word this value, where there is one.
+    /// Stores a value in a word, if there is one.
     pub(super) fn store(&self, at: usize, value: usize) {
         if let Some(word) = self.0.get(at) {
             word.store(value as u64, SeqCst);
         }
     }
 
-    /// Adds to a word, where there is one.
+    /// Adds to a word, if there is one.
     pub(super) fn add(&self, at: usize, more: usize) {
         if let Some(word) = self.0.get(at) {
             word.fetch_add(more as u64, SeqCst);
         }
     }
 
-    /// What the first so many come to.
+    /// Returns the sum of the first words.
     pub(super) fn sum(&self, first: usize) -> u64 {
         let mut sum = 0u64;
         for at in 0..first {
@@ -49,7 +49,7 @@ impl Words {
         sum
     }
 
-    /// How many of the first so many are this.
+    /// Returns how many of the first words have this value.
     pub(super) fn count(&self, first: usize, value: u64) -> usize {
         let mut count = 0usize;
         for at in 0..first {
